@@ -1,0 +1,16 @@
+//! Source texts and the places in them, which every later crate's spans and faults speak of.
+#![tactic(auto)]
+
+/// A stretch of a text, in bytes from 0: the offset of its first byte, and that after its last one.
+#[derive(Clone, Copy, Debug, PartialEq, Eq)]
+pub struct Span {
+    pub begin: u32,
+    pub end: u32,
+}
+
+/// A place of a text: its line, and its column in UTF-16 units, both from 0.
+#[derive(Clone, Copy, Debug, PartialEq, Eq)]
+pub struct Place {
+    pub line: u64,
+    pub column: u64,
+}
