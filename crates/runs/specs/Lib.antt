@@ -1,0 +1,4 @@
+pub mod Run
+pub mod Same
+pub mod Simulation
+pub mod Laws
