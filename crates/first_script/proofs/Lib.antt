@@ -1,0 +1,5 @@
+pub mod Names
+pub mod Lowered
+pub mod Scopes
+pub mod Related
+pub mod Started
