@@ -1,2 +1,4 @@
-//! The script of a module.
+//! The script of a module of the first forms, which does what the module means.
 #![tactic(auto)]
+
+mod print;
