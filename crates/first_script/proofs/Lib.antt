@@ -5,3 +5,5 @@ pub mod Related
 pub mod Started
 pub mod Fresh
 pub mod Spelled
+pub mod Plain
+pub mod Whole
