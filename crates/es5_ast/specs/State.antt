@@ -2,7 +2,7 @@
 -- contexts (ECMA-262, 5.1 edition, 10.2 and 10.3). The events so far and the answers left belong to the run itself.
 use Rattle.std.specs.Prelude.{ℕ, zero, suc, Bool, true, false, if◌then◌else◌, List, [], ◌∷◌, Option, Some, None}
 use Rattle.std.specs.Str.{bytes_eq}
-use Rattle.es_outside.specs.declared.prim.Prim.{Prim}
+use Rattle.es_outside.specs.declared.primitive.Primitive.{Primitive}
 use Rattle.es_outside.specs.declared.events.Seen.{Seen}
 use Rattle.es5_ast.specs.declared.Stat5.{Stat5}
 use Rattle.es5_ast.specs.declared.Expr5.{Expr5}
@@ -12,7 +12,7 @@ use Rattle.es5_ast.specs.declared.Term5.{Term5}
 
 -- The value of a binding: a primitive, or a host function, which is the one kind of object that there is today.
 pub data Value5 : Type 0 where
-  Primitive : Prim → Value5
+  PrimitiveValue : Primitive → Value5
   HostFunction : ℕ → Value5
 
 pub record Entry5 : Type 0 where
@@ -37,7 +37,7 @@ pub data Node5 : Type 0 where
 -- How a node completes (8.9): with no value, with a value, or by a throw.
 pub data Completion5 : Type 0 where
   Empty : Completion5
-  Normal : Prim → Completion5
+  Normal : Primitive → Completion5
   Throw : Seen → Completion5
 
 -- What a context does next: it begins a node, or hands a completion to its top frame.
@@ -58,8 +58,8 @@ pub data Frame5 : Type 0 where
   StatsRest : List Stat5 → Frame5
   AssignVar : List ℕ → Frame5
   OperandsRest : ℕ → List Term5 → Frame5
-  OperandRight : ℕ → Prim → List Term5 → Frame5
-  ArgumentsRest : Callee5 → ℕ → List Prim → List Sum5 → Frame5
+  OperandRight : ℕ → Primitive → List Term5 → Frame5
+  ArgumentsRest : Callee5 → ℕ → List Primitive → List Sum5 → Frame5
 
 -- an execution context (10.3): the number of its environment record, what is pending, and its control
 pub record Context5 : Type 0 where

@@ -4,8 +4,8 @@ use Rattle.std.specs.List.{list_any}
 use Rattle.runs.specs.Run.{Step, Goes, Asks, Ends, Leaves, run}
 use Rattle.shared_meaning.specs.Addition.{added}
 use Rattle.shared_meaning.specs.Ending.{Finish, Ended, Threw, Exit, ProgramBehaviour}
-use Rattle.es_outside.specs.declared.prim.Prim.{Prim}
-use Rattle.es_outside.specs.declared.prim.Prim.TheVariants as prim
+use Rattle.es_outside.specs.declared.primitive.Primitive.{Primitive}
+use Rattle.es_outside.specs.declared.primitive.Primitive.TheVariants as prim
 use Rattle.es_outside.specs.declared.events.Seen.{Seen}
 use Rattle.es_outside.specs.declared.events.Seen.TheVariants as seen
 use Rattle.es_outside.specs.declared.events.Event.{Event}
@@ -22,7 +22,7 @@ use Rattle.es5_ast.specs.declared.Sum5.{Sum5}
 use Rattle.es5_ast.specs.declared.Term5.{Term5}
 use Rattle.es5_ast.specs.declared.Term5.TheVariants as term
 use Rattle.es5_ast.specs.Names.{is_one_of, known_globals}
-use Rattle.es5_ast.specs.State.{Value5, Primitive, HostFunction, Entry5, EnvironmentRecord5, value_in, Node5, StatNode, CallNode, SumNode, TermNode, Completion5, Empty, Normal, Throw, Control5, Begin, Hand, Callee5, Host, NotCallable, Frame5, StatsRest, AssignVar, OperandsRest, OperandRight, ArgumentsRest, Context5, State5, entries_of5, with_entry5}
+use Rattle.es5_ast.specs.State.{Value5, PrimitiveValue, HostFunction, Entry5, EnvironmentRecord5, value_in, Node5, StatNode, CallNode, SumNode, TermNode, Completion5, Empty, Normal, Throw, Control5, Begin, Hand, Callee5, Host, NotCallable, Frame5, StatsRest, AssignVar, OperandsRest, OperandRight, ArgumentsRest, Context5, State5, entries_of5, with_entry5}
 
 abbrev pub Next5 : Type 0
 Next5 = Step State5 Event Reply Finish Exit
@@ -50,7 +50,7 @@ lookup5 r name = value_in (entries_of5 r.state.records r.environment) name
 
 -- GetValue of an identifier (8.7.1): an unresolvable one throws. The profile has no values for host functions.
 abbrev pub value_of5 : Option Value5 → Completion5
-value_of5 (Some (Primitive value)) = Normal value
+value_of5 (Some (PrimitiveValue value)) = Normal value
 value_of5 (Some (HostFunction host)) = Throw seen.TypeError
 value_of5 None = Throw seen.ReferenceError
 
@@ -70,20 +70,20 @@ completion_of5 (reply.Give value) = Normal value
 completion_of5 (reply.Throw value) = Throw (seen.Prim value)
 
 -- The call itself (11.2.3): the event, and what follows the answer.
-abbrev pub call5 : Running5 → List Frame5 → Callee5 → ℕ → List Prim → Next5
+abbrev pub call5 : Running5 → List Frame5 → Callee5 → ℕ → List Primitive → Next5
 call5 r frames (Host host) at values =
     Asks (record { host = host; args = values; site = site_at5 at }) (λ answer. then5 r frames (Hand (completion_of5 answer)))
 call5 r frames NotCallable at values = goes5 r frames (Hand (Throw seen.TypeError))
 
 -- The next argument, or the call where none is left (11.2.4).
-abbrev pub next_argument5 : Running5 → List Frame5 → Callee5 → ℕ → List Prim → List Sum5 → Next5
+abbrev pub next_argument5 : Running5 → List Frame5 → Callee5 → ℕ → List Primitive → List Sum5 → Next5
 next_argument5 r frames callee at values [] = call5 r frames callee at values
 next_argument5 r frames callee at values (sum ∷ sums) = goes5 r (ArgumentsRest callee at values sums ∷ frames) (Begin (SumNode sum))
 
 -- Begin a call (11.2.3): the callee's value, and then the first argument.
 abbrev pub begin_call5 : Running5 → List Frame5 → Call5 → Option Value5 → Next5
 begin_call5 r frames c (Some (HostFunction host)) = next_argument5 r frames (Host host) c.at [] c.args
-begin_call5 r frames c (Some (Primitive value)) = next_argument5 r frames NotCallable c.at [] c.args
+begin_call5 r frames c (Some (PrimitiveValue value)) = next_argument5 r frames NotCallable c.at [] c.args
 begin_call5 r frames c None = goes5 r frames (Hand (Throw seen.ReferenceError))
 
 abbrev pub node_of5 : Expr5 → Node5
@@ -107,22 +107,22 @@ next_stat5 r frames [] = goes5 r frames (Hand Empty)
 next_stat5 r frames (s ∷ stats) = goes5 r (StatsRest stats ∷ frames) (Begin (StatNode s))
 
 -- PutValue to a variable (8.7.2)
-abbrev pub assign5 : Running5 → List Frame5 → List ℕ → Prim → Next5
+abbrev pub assign5 : Running5 → List Frame5 → List ℕ → Primitive → Next5
 assign5 r frames name value =
-    let entry : Entry5 = record { name = name; value = Primitive value } in
+    let entry : Entry5 = record { name = name; value = PrimitiveValue value } in
     goes5 (record r { state = record r.state { records = with_entry5 r.state.records r.environment entry } }) frames (Hand Empty)
 
 -- The value of a sum so far, or the exit where it isn't a number of the profile.
-abbrev pub sum_so_far5 : Running5 → List Frame5 → ℕ → List Term5 → Option Prim → Next5
+abbrev pub sum_so_far5 : Running5 → List Frame5 → ℕ → List Term5 → Option Primitive → Next5
 sum_so_far5 r frames at terms None = Leaves (record { number = 1; site = site_at5 at })
 sum_so_far5 r frames at terms (Some value) = goes5 r (OperandsRest at terms ∷ frames) (Hand (Normal value))
 
-abbrev pub next_operand5 : Running5 → List Frame5 → ℕ → Prim → List Term5 → Next5
+abbrev pub next_operand5 : Running5 → List Frame5 → ℕ → Primitive → List Term5 → Next5
 next_operand5 r frames at value [] = goes5 r frames (Hand (Normal value))
 next_operand5 r frames at value (t ∷ terms) = goes5 r (OperandRight at value terms ∷ frames) (Begin (TermNode t))
 
 -- A value handed to a frame.
-abbrev pub hand_value5 : Running5 → List Frame5 → Prim → Frame5 → Next5
+abbrev pub hand_value5 : Running5 → List Frame5 → Primitive → Frame5 → Next5
 hand_value5 r frames value (StatsRest stats) = next_stat5 r frames stats
 hand_value5 r frames value (AssignVar name) = assign5 r frames name value
 hand_value5 r frames value (OperandsRest at terms) = next_operand5 r frames at value terms
@@ -155,7 +155,7 @@ var_names (stat.Expression e ∷ stats) = var_names stats
 -- Declaration binding instantiation (10.5): a declared name begins with undefined.
 abbrev pub var_entries : List (List ℕ) → List Entry5
 var_entries [] = []
-var_entries (name ∷ names) = record { name = name; value = Primitive prim.Undefined } ∷ var_entries names
+var_entries (name ∷ names) = record { name = name; value = PrimitiveValue prim.Undefined } ∷ var_entries names
 
 abbrev pub declare : List EnvironmentRecord5 → List (List ℕ) → List EnvironmentRecord5
 declare [] names = []

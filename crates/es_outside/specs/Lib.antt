@@ -1,0 +1,12 @@
+pub mod Calls
+pub mod Counts
+pub mod Files
+pub mod HostList
+pub mod HostNames
+pub mod ListHosts
+pub mod NamedList
+pub mod Refusals
+pub mod Rooms
+pub mod Sinks
+pub mod Stores
+pub mod Talk

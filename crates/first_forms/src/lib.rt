@@ -1,6 +1,13 @@
 //! The reader of the module forms that the program reads today: bytes to tokens, and tokens to a tree.
 #![tactic(auto)]
 
+mod lexer;
+mod names;
+mod reader;
+#[cfg(test)]
+mod tests;
 mod token;
 
+pub use lexer::tokens;
+pub use reader::{ReadFault, one_module, read_module};
 pub use token::{Token, TokenKind};

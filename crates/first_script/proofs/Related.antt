@@ -4,8 +4,8 @@ use Rattle.runs.specs.Run.{Step, Goes, Asks, Ends, Leaves}
 use Rattle.runs.specs.Simulation.{Reaches, IsMatched, Simulates}
 use Rattle.shared_meaning.specs.Addition.{added}
 use Rattle.shared_meaning.specs.Ending.{Finish, Ended, Threw, Exit, SameCall}
-use Rattle.es_outside.specs.declared.prim.Prim.{Prim}
-use Rattle.es_outside.specs.declared.prim.Prim.TheVariants as prim
+use Rattle.es_outside.specs.declared.primitive.Primitive.{Primitive}
+use Rattle.es_outside.specs.declared.primitive.Primitive.TheVariants as prim
 use Rattle.std.specs.Prelude.{codes}
 use Rattle.std.specs.List.{list_any}
 use Rattle.es_outside.specs.declared.events.Seen.{Seen}
@@ -68,8 +68,8 @@ pub data FramesMatch (suffix : List ℕ) (s : Scope) : List six.Frame → List f
   at_items : {items : List Item} {stats : List Stat5} → AreItems s items → LowersItems suffix items stats → FramesMatch suffix s (six.ItemsRest items ∷ []) (five.StatsRest stats ∷ [])
   at_name : {kind : DeclarationKind} {x : List ℕ} {items : List Item} {stats : List Stat5} → CanDeclare s x → AreItems (with_declared s x) items → LowersItems suffix items stats → FramesMatch suffix s (six.Initialize kind x ∷ six.ItemsRest items ∷ []) (five.AssignVar (x ++ suffix) ∷ five.StatsRest stats ∷ [])
   at_operands : {at at5 : ℕ} {xs : List Term} {ys : List Term5} {fs : List six.Frame} {gs : List five.Frame5} → AreTerms s xs → LowersTerms suffix xs ys → FramesMatch suffix s fs gs → FramesMatch suffix s (six.OperandsRest at xs ∷ fs) (five.OperandsRest at5 ys ∷ gs)
-  at_right : {at at5 : ℕ} {left : Prim} {xs : List Term} {ys : List Term5} {fs : List six.Frame} {gs : List five.Frame5} → AreTerms s xs → LowersTerms suffix xs ys → FramesMatch suffix s fs gs → FramesMatch suffix s (six.OperandRight at left xs ∷ fs) (five.OperandRight at5 left ys ∷ gs)
-  at_arguments : {host at at5 : ℕ} {values : List Prim} {xs : List Sum} {ys : List Sum5} {fs : List six.Frame} {gs : List five.Frame5} → AreSums s xs → LowersSums suffix xs ys → FramesMatch suffix s fs gs → FramesMatch suffix s (six.ArgumentsRest (six.Host host) at values xs ∷ fs) (five.ArgumentsRest (five.Host host) at5 values ys ∷ gs)
+  at_right : {at at5 : ℕ} {left : Primitive} {xs : List Term} {ys : List Term5} {fs : List six.Frame} {gs : List five.Frame5} → AreTerms s xs → LowersTerms suffix xs ys → FramesMatch suffix s fs gs → FramesMatch suffix s (six.OperandRight at left xs ∷ fs) (five.OperandRight at5 left ys ∷ gs)
+  at_arguments : {host at at5 : ℕ} {values : List Primitive} {xs : List Sum} {ys : List Sum5} {fs : List six.Frame} {gs : List five.Frame5} → AreSums s xs → LowersSums suffix xs ys → FramesMatch suffix s fs gs → FramesMatch suffix s (six.ArgumentsRest (six.Host host) at values xs ∷ fs) (five.ArgumentsRest (five.Host host) at5 values ys ∷ gs)
 
 -- as many frames on both sides, which is all that a throw needs
 pub data Alongside : List six.Frame → List five.Frame5 → Type 0 where
@@ -95,14 +95,14 @@ pub data Related (suffix : List ℕ) : six.State → five.State5 → Type 0 wher
   call_begins : {s : Scope} {es : List six.Entry} {es5 : List five.Entry5} {c : Call} {c5 : Call5} {fs : List six.Frame} {gs : List five.Frame5} → Agrees suffix s es es5 → IsCall s c → LowersCall suffix c c5 → FramesMatch suffix s fs gs → Related suffix (source_state es fs (six.Begin (six.CallNode c))) (target_state es5 gs (five.Begin (five.CallNode c5)))
   sum_begins : {s : Scope} {es : List six.Entry} {es5 : List five.Entry5} {x : Sum} {y : Sum5} {fs : List six.Frame} {gs : List five.Frame5} → Agrees suffix s es es5 → IsSum s x → LowersSum suffix x y → FramesMatch suffix s fs gs → Related suffix (source_state es fs (six.Begin (six.SumNode x))) (target_state es5 gs (five.Begin (five.SumNode y)))
   term_begins : {s : Scope} {es : List six.Entry} {es5 : List five.Entry5} {x : Term} {y : Term5} {fs : List six.Frame} {gs : List five.Frame5} → Agrees suffix s es es5 → IsTerm s x → LowersTerm suffix x y → FramesMatch suffix s fs gs → Related suffix (source_state es fs (six.Begin (six.TermNode x))) (target_state es5 gs (five.Begin (five.TermNode y)))
-  value_handed : {s : Scope} {es : List six.Entry} {es5 : List five.Entry5} {v : Prim} {fs : List six.Frame} {gs : List five.Frame5} → Agrees suffix s es es5 → FramesMatch suffix s fs gs → Related suffix (source_state es fs (six.Hand (six.Value v))) (target_state es5 gs (five.Hand (five.Normal v)))
+  value_handed : {s : Scope} {es : List six.Entry} {es5 : List five.Entry5} {v : Primitive} {fs : List six.Frame} {gs : List five.Frame5} → Agrees suffix s es es5 → FramesMatch suffix s fs gs → Related suffix (source_state es fs (six.Hand (six.Value v))) (target_state es5 gs (five.Hand (five.Normal v)))
   nothing_handed : {s : Scope} {es : List six.Entry} {es5 : List five.Entry5} {items : List Item} {stats : List Stat5} → Agrees suffix s es es5 → AreItems s items → LowersItems suffix items stats → Related suffix (source_state es (six.ItemsRest items ∷ []) (six.Hand six.Empty)) (target_state es5 (five.StatsRest stats ∷ []) (five.Hand five.Empty))
   module_ends : {es : List six.Entry} {es5 : List five.Entry5} → Related suffix (source_state es [] (six.Hand six.Empty)) (target_state es5 [] (five.Hand five.Empty))
   throw_handed : {es : List six.Entry} {es5 : List five.Entry5} {error : Seen} {fs : List six.Frame} {gs : List five.Frame5} → Alongside fs gs → Related suffix (source_state es fs (six.Hand (six.Throw error))) (target_state es5 gs (five.Hand (five.Throw error)))
   all_done : {es : List six.Entry} {es5 : List five.Entry5} → Related suffix (source_done es) (target_done es5)
-  directive_done : {s : Scope} {es : List six.Entry} {es5 : List five.Entry5} {v : Prim} {items : List Item} {stats : List Stat5} → Agrees suffix s es es5 → AreItems s items → LowersItems suffix items stats → Related suffix (source_state es (six.ItemsRest items ∷ []) (six.Hand six.Empty)) (target_state es5 (five.StatsRest stats ∷ []) (five.Hand (five.Normal v)))
-  import_next : {s : Scope} {es : List six.Entry} {es5 : List five.Entry5} {v : Prim} {names : List (List ℕ)} {items : List Item} {stats : List Stat5} → Agrees suffix s es es5 → AreItems s items → LowersItems suffix items stats → Related suffix (source_state es (six.ItemsRest (item.Import names ∷ items) ∷ []) (six.Hand six.Empty)) (target_state es5 (five.StatsRest stats ∷ []) (five.Hand (five.Normal v)))
-  import_begins : {s : Scope} {es : List six.Entry} {es5 : List five.Entry5} {v : Prim} {names : List (List ℕ)} {items : List Item} {stats : List Stat5} → Agrees suffix s es es5 → AreItems s items → LowersItems suffix items stats → Related suffix (source_state es (six.ItemsRest items ∷ []) (six.Begin (six.ItemNode (item.Import names)))) (target_state es5 (five.StatsRest stats ∷ []) (five.Hand (five.Normal v)))
+  directive_done : {s : Scope} {es : List six.Entry} {es5 : List five.Entry5} {v : Primitive} {items : List Item} {stats : List Stat5} → Agrees suffix s es es5 → AreItems s items → LowersItems suffix items stats → Related suffix (source_state es (six.ItemsRest items ∷ []) (six.Hand six.Empty)) (target_state es5 (five.StatsRest stats ∷ []) (five.Hand (five.Normal v)))
+  import_next : {s : Scope} {es : List six.Entry} {es5 : List five.Entry5} {v : Primitive} {names : List (List ℕ)} {items : List Item} {stats : List Stat5} → Agrees suffix s es es5 → AreItems s items → LowersItems suffix items stats → Related suffix (source_state es (six.ItemsRest (item.Import names ∷ items) ∷ []) (six.Hand six.Empty)) (target_state es5 (five.StatsRest stats ∷ []) (five.Hand (five.Normal v)))
+  import_begins : {s : Scope} {es : List six.Entry} {es5 : List five.Entry5} {v : Primitive} {names : List (List ℕ)} {items : List Item} {stats : List Stat5} → Agrees suffix s es es5 → AreItems s items → LowersItems suffix items stats → Related suffix (source_state es (six.ItemsRest items ∷ []) (six.Begin (six.ItemNode (item.Import names)))) (target_state es5 (five.StatsRest stats ∷ []) (five.Hand (five.Normal v)))
   starts : (hosts : List (List ℕ)) (items : List Item) (stats : List Stat5) (at : ℕ) → list_any (step5.clashes (record { entries = step5.host_entries 0 hosts } ∷ [])) (step5.var_names stats) ≡ false → Related suffix (source_state (step6.module_entries hosts items) (six.ItemsRest items ∷ []) (six.Hand six.Empty)) (target_state (step5.var_entries (step5.var_names stats) ++ step5.host_entries 0 hosts) (five.StatsRest stats ∷ []) (five.Hand (five.Normal (prim.Text (codes "use strict"))))) → Related suffix (step6.start6 hosts (record { items = items })) (step5.start5 hosts (record { statements = directive at ∷ stats }))
 
 -- how many steps the source takes alone
@@ -146,19 +146,19 @@ module _ (suffix : List ℕ) where
   answered s es es5 fs gs a m (reply.Throw v) = throw_handed (alongside m)
 
   -- the next argument, or the call
-  argument_next : (s : Scope) (es : List six.Entry) (es5 : List five.Entry5) (r host at at5 : ℕ) (values : List Prim) (xs : List Sum) (ys : List Sum5) (fs : List six.Frame) (gs : List five.Frame5) (t : five.State5) → Agrees suffix s es es5 → AreSums s xs → LowersSums suffix xs ys → FramesMatch suffix s fs gs → step5.step5 t ≡ step5.next_argument5 (record { state = target_state es5 gs (five.Hand five.Empty); environment = 0; below = [] }) gs (five.Host host) at5 values ys → Matched r (step6.next_argument (record { state = source_state es fs (six.Hand six.Empty); environment = 0; below = [] }) fs (six.Host host) at values xs) t
+  argument_next : (s : Scope) (es : List six.Entry) (es5 : List five.Entry5) (r host at at5 : ℕ) (values : List Primitive) (xs : List Sum) (ys : List Sum5) (fs : List six.Frame) (gs : List five.Frame5) (t : five.State5) → Agrees suffix s es es5 → AreSums s xs → LowersSums suffix xs ys → FramesMatch suffix s fs gs → step5.step5 t ≡ step5.next_argument5 (record { state = target_state es5 gs (five.Hand five.Empty); environment = 0; below = [] }) gs (five.Host host) at5 values ys → Matched r (step6.next_argument (record { state = source_state es fs (six.Hand six.Empty); environment = 0; below = [] }) fs (six.Host host) at values xs) t
   argument_next s es es5 r host at at5 values xs ys fs gs t a i no_sums m e =
       (0, t, _, _, refl, e, (refl, refl), answered s es es5 fs gs a m)
   argument_next s es es5 r host at at5 values xs ys fs gs t a i (more_sums lx lxs) m e =
       one_each r _ t _ e (sum_begins a i.0 lx (at_arguments i.1 lxs m))
 
   -- the sum so far, or the exit on both sides
-  sum_next : (s : Scope) (es : List six.Entry) (es5 : List five.Entry5) (r at at5 : ℕ) (xs : List Term) (ys : List Term5) (fs : List six.Frame) (gs : List five.Frame5) (o : Option Prim) (t : five.State5) → Agrees suffix s es es5 → AreTerms s xs → LowersTerms suffix xs ys → FramesMatch suffix s fs gs → step5.step5 t ≡ step5.sum_so_far5 (record { state = target_state es5 gs (five.Hand five.Empty); environment = 0; below = [] }) gs at5 ys o → Matched r (step6.sum_so_far (record { state = source_state es fs (six.Hand six.Empty); environment = 0; below = [] }) fs at xs o) t
+  sum_next : (s : Scope) (es : List six.Entry) (es5 : List five.Entry5) (r at at5 : ℕ) (xs : List Term) (ys : List Term5) (fs : List six.Frame) (gs : List five.Frame5) (o : Option Primitive) (t : five.State5) → Agrees suffix s es es5 → AreTerms s xs → LowersTerms suffix xs ys → FramesMatch suffix s fs gs → step5.step5 t ≡ step5.sum_so_far5 (record { state = target_state es5 gs (five.Hand five.Empty); environment = 0; below = [] }) gs at5 ys o → Matched r (step6.sum_so_far (record { state = source_state es fs (six.Hand six.Empty); environment = 0; below = [] }) fs at xs o) t
   sum_next s es es5 r at at5 xs ys fs gs None t a i l m e = tt
   sum_next s es es5 r at at5 xs ys fs gs (Some v) t a i l m e = one_each r _ t _ e (value_handed a (at_operands i l m))
 
   -- a value handed to the top frame
-  value_next : (s : Scope) (es : List six.Entry) (es5 : List five.Entry5) (r : ℕ) (v : Prim) (fs : List six.Frame) (gs : List five.Frame5) → Agrees suffix s es es5 → FramesMatch suffix s fs gs → Matched r (step6.step6 (source_state es fs (six.Hand (six.Value v)))) (target_state es5 gs (five.Hand (five.Normal v)))
+  value_next : (s : Scope) (es : List six.Entry) (es5 : List five.Entry5) (r : ℕ) (v : Primitive) (fs : List six.Frame) (gs : List five.Frame5) → Agrees suffix s es es5 → FramesMatch suffix s fs gs → Matched r (step6.step6 (source_state es fs (six.Hand (six.Value v)))) (target_state es5 gs (five.Hand (five.Normal v)))
   value_next s es es5 r v [] [] a no_frames = one_each r _ _ _ refl all_done
   value_next s es es5 r v fs gs a (at_items {items = items} {stats = stats} i l) = items_next s es es5 r items stats _ a i l refl
   value_next s es es5 r v fs gs a (at_name {kind = kind} {x = x} c i l) =

@@ -1,20 +1,20 @@
 -- What both environment records hold for the names in scope.
 use Rattle.std.proofs.Common.{◌≡◌, ℕ, Bool, true, false, List, [], ◌∷◌, ◌++◌, Option, Some, None, cond, refl, sym, ◌∙◌, ap, subst, ◌⊎◌, inl, inr}
 use Rattle.std.specs.Str.{bytes_eq}
-use Rattle.es_outside.specs.declared.prim.Prim.{Prim}
+use Rattle.es_outside.specs.declared.primitive.Primitive.{Primitive}
 use Rattle.first_forms.specs.Names.{is_one_of}
 use Rattle.first_forms.specs.WellFormed.{Scope, with_declared}
 use Rattle.meaning6.specs.State.{Binding, Initialized, HostFunction, Entry, binding_in}
-use Rattle.es5_ast.specs.State.{Value5, Primitive, HostFunction as HostFunction5, Entry5, value_in}
+use Rattle.es5_ast.specs.State.{Value5, PrimitiveValue, HostFunction as HostFunction5, Entry5, value_in}
 use Rattle.first_script.proofs.Names.{same_names, bytes_eq-refl, bytes_eq-false, name_cases, is_one_of-more, true_not_false}
 use Rattle.std.proofs.lemmas.List.{append_cancel_right}
 
 -- a declared name's value, on both sides
 pub record HasValue (suffix : List ℕ) (entries : List Entry) (entries5 : List Entry5) (name : List ℕ) : Type 0 where
-  pub value : Prim
+  pub value : Primitive
   pub mutable : Bool
   pub source : binding_in entries name ≡ Some (Initialized value mutable)
-  pub target : value_in entries5 (name ++ suffix) ≡ Some (Primitive value)
+  pub target : value_in entries5 (name ++ suffix) ≡ Some (PrimitiveValue value)
 
 -- an imported name's host, on both sides
 pub record HasHost (entries : List Entry) (entries5 : List Entry5) (name : List ℕ) : Type 0 where
@@ -45,8 +45,8 @@ target_here : (e : Entry5) (entries : List Entry5) (name : List ℕ) → bytes_e
 target_here e entries name h = ap (λ b. cond b (Some e.value) (value_in entries name)) h
 
 -- A declared name gets its value: both records hold it, and what they held of other names.
-module _ (suffix : List ℕ) (s : Scope) (entries : List Entry) (entries5 : List Entry5) (x : List ℕ) (v : Prim) (m : Bool) where
-  value_after : (name : List ℕ) → (x ≡ name) ⊎ (bytes_eq x name ≡ false) → (bytes_eq x name ≡ false → HasValue suffix entries entries5 name) → HasValue suffix (record { name = x; binding = Initialized v m } ∷ entries) (record { name = x ++ suffix; value = Primitive v } ∷ entries5) name
+module _ (suffix : List ℕ) (s : Scope) (entries : List Entry) (entries5 : List Entry5) (x : List ℕ) (v : Primitive) (m : Bool) where
+  value_after : (name : List ℕ) → (x ≡ name) ⊎ (bytes_eq x name ≡ false) → (bytes_eq x name ≡ false → HasValue suffix entries entries5 name) → HasValue suffix (record { name = x; binding = Initialized v m } ∷ entries) (record { name = x ++ suffix; value = PrimitiveValue v } ∷ entries5) name
   value_after name (inl e) old = record {
     value = v;
     mutable = m;
@@ -63,7 +63,7 @@ module _ (suffix : List ℕ) (s : Scope) (entries : List Entry) (entries5 : List
         target = target_past _ entries5 (name ++ suffix) differs ∙ o.target
       }
 
-  pub agrees_after : is_one_of x s.imported ≡ false → Agrees suffix s entries entries5 → Agrees suffix (with_declared s x) (record { name = x; binding = Initialized v m } ∷ entries) (record { name = x ++ suffix; value = Primitive v } ∷ entries5)
+  pub agrees_after : is_one_of x s.imported ≡ false → Agrees suffix s entries entries5 → Agrees suffix (with_declared s x) (record { name = x; binding = Initialized v m } ∷ entries) (record { name = x ++ suffix; value = PrimitiveValue v } ∷ entries5)
   agrees_after fresh a = record {
     values = λ name h. value_after name (name_cases x name) (λ differs. a.values name (among name h differs));
     hosts = λ name h. host_after name h (a.hosts name h);
@@ -76,7 +76,7 @@ module _ (suffix : List ℕ) (s : Scope) (entries : List Entry) (entries5 : List
           by_case : (x ≡ name) ⊎ (is_one_of name s.declared ≡ true) → is_one_of name s.declared ≡ true
           by_case (inl e) = absurd (true_not_false (bytes_eq x name) (ap (λ n. bytes_eq x n) (sym e) ∙ bytes_eq-refl x) differs)
           by_case (inr k) = k
-      host_after : (name : List ℕ) → is_one_of name s.imported ≡ true → HasHost entries entries5 name → HasHost (record { name = x; binding = Initialized v m } ∷ entries) (record { name = x ++ suffix; value = Primitive v } ∷ entries5) name
+      host_after : (name : List ℕ) → is_one_of name s.imported ≡ true → HasHost entries entries5 name → HasHost (record { name = x; binding = Initialized v m } ∷ entries) (record { name = x ++ suffix; value = PrimitiveValue v } ∷ entries5) name
       host_after name h o = record {
         host = o.host;
         source = source_past _ entries name (bytes_eq-false x name (λ e. true_not_false (is_one_of name s.imported) h (ap (λ n. is_one_of n s.imported) (sym e) ∙ fresh))) ∙ o.source;

@@ -3,7 +3,7 @@ use Rattle.std.proofs.Common.{◌≡◌, ℕ, zero, suc, ◌+◌, Bool, true, fa
 use Rattle.std.specs.Str.{bytes_eq}
 use Rattle.std.specs.List.{list_any, position_from}
 use Rattle.shared_meaning.specs.Ending.{DoesTheSame, SameCall}
-use Rattle.es_outside.specs.declared.prim.Prim.TheVariants as prim
+use Rattle.es_outside.specs.declared.primitive.Primitive.TheVariants as prim
 use Rattle.es6_ast.specs.declared.Module.{Module}
 use Rattle.es6_ast.specs.declared.Item.{Item}
 use Rattle.es6_ast.specs.declared.Item.TheVariants as item
@@ -117,7 +117,7 @@ module _ (suffix : List ℕ) (hosts : List (List ℕ)) (fresh : IsFresh suffix h
   past_vars : (items : List Item) (stats : List Stat5) → LowersItems suffix items stats → (entries : List five.Entry5) (f : List ℕ) → is_one_of f hosts ≡ true → five.value_in (step5.var_entries (step5.var_names stats) ++ entries) f ≡ five.value_in entries f
   past_vars items stats no_items entries f m = refl
   past_vars items stats (low_declaration {name = x} {items = rest} {stats = stats'} l li) entries f m =
-      ap (λ b. cond b (Some (five.Primitive prim.Undefined)) (five.value_in (step5.var_entries (step5.var_names stats') ++ entries) f)) (bytes_eq-false (x ++ suffix) f (fresh.no_host x f m))
+      ap (λ b. cond b (Some (five.PrimitiveValue prim.Undefined)) (five.value_in (step5.var_entries (step5.var_names stats') ++ entries) f)) (bytes_eq-false (x ++ suffix) f (fresh.no_host x f m))
       ∙ past_vars rest stats' li entries f m
   past_vars items stats (low_statement {items = rest} {stats = stats'} l li) entries f m = past_vars rest stats' li entries f m
 

@@ -2,7 +2,7 @@
 -- evaluated (ECMA-262, 6th edition, 8.1 and 8.3). The events so far and the answers left belong to the run itself.
 use Rattle.std.specs.Prelude.{ℕ, zero, suc, Bool, true, false, if◌then◌else◌, List, [], ◌∷◌, ◌++◌, Option, Some, None, map}
 use Rattle.std.specs.Str.{bytes_eq}
-use Rattle.es_outside.specs.declared.prim.Prim.{Prim}
+use Rattle.es_outside.specs.declared.primitive.Primitive.{Primitive}
 use Rattle.es_outside.specs.declared.events.Seen.{Seen}
 use Rattle.es6_ast.specs.declared.Module.{Module}
 use Rattle.es6_ast.specs.declared.Item.{Item}
@@ -15,7 +15,7 @@ use Rattle.es6_ast.specs.declared.Term.{Term}
 -- A binding is uninitialized, or a value with a mark whether it can be assigned, or an imported host function.
 pub data Binding : Type 0 where
   Uninitialized : Binding
-  Initialized : Prim → Bool → Binding
+  Initialized : Primitive → Bool → Binding
   HostFunction : ℕ → Binding
 
 pub record Entry : Type 0 where
@@ -40,7 +40,7 @@ pub data Node : Type 0 where
 -- How a node completes (6.2.2): with no value, with a value, or by a throw.
 pub data Completion : Type 0 where
   Empty : Completion
-  Value : Prim → Completion
+  Value : Primitive → Completion
   Throw : Seen → Completion
 
 -- What a context does next: it begins a node, or hands a completion to its top frame.
@@ -61,8 +61,8 @@ pub data Frame : Type 0 where
   ItemsRest : List Item → Frame
   Initialize : DeclarationKind → List ℕ → Frame
   OperandsRest : ℕ → List Term → Frame
-  OperandRight : ℕ → Prim → List Term → Frame
-  ArgumentsRest : Callee → ℕ → List Prim → List Sum → Frame
+  OperandRight : ℕ → Primitive → List Term → Frame
+  ArgumentsRest : Callee → ℕ → List Primitive → List Sum → Frame
 
 -- an execution context (8.3): the number of its environment record, what is pending, and its control
 pub record Context : Type 0 where

@@ -5,8 +5,8 @@ use Rattle.std.specs.List.{position_from}
 use Rattle.runs.specs.Run.{Step, Goes, Asks, Ends, Leaves, run}
 use Rattle.shared_meaning.specs.Addition.{added}
 use Rattle.shared_meaning.specs.Ending.{Finish, Ended, Threw, Exit, ProgramBehaviour}
-use Rattle.es_outside.specs.declared.prim.Prim.{Prim}
-use Rattle.es_outside.specs.declared.prim.Prim.TheVariants as prim
+use Rattle.es_outside.specs.declared.primitive.Primitive.{Primitive}
+use Rattle.es_outside.specs.declared.primitive.Primitive.TheVariants as prim
 use Rattle.es_outside.specs.declared.events.Seen.{Seen}
 use Rattle.es_outside.specs.declared.events.Seen.TheVariants as seen
 use Rattle.es_outside.specs.declared.events.Event.{Event}
@@ -74,13 +74,13 @@ completion_of (reply.Give value) = Value value
 completion_of (reply.Throw value) = Throw (seen.Prim value)
 
 -- The call itself (12.3.4.2, 7.3.12): the event, and what follows the answer.
-abbrev pub call : Running → List Frame → Callee → ℕ → List Prim → Next
+abbrev pub call : Running → List Frame → Callee → ℕ → List Primitive → Next
 call r frames (Host host) at values =
     Asks (record { host = host; args = values; site = site_at at }) (λ answer. then r frames (Hand (completion_of answer)))
 call r frames NotCallable at values = goes r frames (Hand (Throw seen.TypeError))
 
 -- The next argument, or the call where none is left (12.3.6.1).
-abbrev pub next_argument : Running → List Frame → Callee → ℕ → List Prim → List Sum → Next
+abbrev pub next_argument : Running → List Frame → Callee → ℕ → List Primitive → List Sum → Next
 next_argument r frames callee at values [] = call r frames callee at values
 next_argument r frames callee at values (sum ∷ sums) = goes r (ArgumentsRest callee at values sums ∷ frames) (Begin (SumNode sum))
 
@@ -119,22 +119,22 @@ is_mutable kind.Let = true
 is_mutable kind.Const = false
 
 -- InitializeReferencedBinding (6.2.3.4)
-abbrev pub initialize : Running → List Frame → DeclarationKind → List ℕ → Prim → Next
+abbrev pub initialize : Running → List Frame → DeclarationKind → List ℕ → Primitive → Next
 initialize r frames kind name value =
     let entry : Entry = record { name = name; binding = Initialized value (is_mutable kind) } in
     goes (record r { state = record r.state { records = with_entry r.state.records r.environment entry } }) frames (Hand Empty)
 
 -- The value of a sum so far, or the exit where it isn't a number of the profile.
-abbrev pub sum_so_far : Running → List Frame → ℕ → List Term → Option Prim → Next
+abbrev pub sum_so_far : Running → List Frame → ℕ → List Term → Option Primitive → Next
 sum_so_far r frames at terms None = Leaves (record { number = 1; site = site_at at })
 sum_so_far r frames at terms (Some value) = goes r (OperandsRest at terms ∷ frames) (Hand (Value value))
 
-abbrev pub next_operand : Running → List Frame → ℕ → Prim → List Term → Next
+abbrev pub next_operand : Running → List Frame → ℕ → Primitive → List Term → Next
 next_operand r frames at value [] = goes r frames (Hand (Value value))
 next_operand r frames at value (t ∷ terms) = goes r (OperandRight at value terms ∷ frames) (Begin (TermNode t))
 
 -- A value handed to a frame.
-abbrev pub hand_value : Running → List Frame → Prim → Frame → Next
+abbrev pub hand_value : Running → List Frame → Primitive → Frame → Next
 hand_value r frames value (ItemsRest items) = next_item r frames items
 hand_value r frames value (Initialize kind name) = initialize r frames kind name value
 hand_value r frames value (OperandsRest at terms) = next_operand r frames at value terms

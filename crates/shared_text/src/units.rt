@@ -1,4 +1,7 @@
 ghost use Rattle.std.specs.Prelude.{◌≡◌, IfOk};
+ghost use Rattle.std.specs.Char.Escape.{encode_utf16};
+ghost use Rattle.std.specs.List.{flat_map};
+ghost use Rattle.std.specs.Str.{chars};
 
 use sqlite_items::Items;
 use std::alloc::{AllocError, Global};
@@ -29,6 +32,18 @@ impl Units {
         Units {
             list: Items::from_vec(list),
         }
+    }
+
+    /// The text of these characters.
+    pub fn of(alloc: Global, text: &str) -> Result<Units, AllocError>
+        ensures { IfOk result (λ units. units ≡ flat_map encode_utf16 (chars text.now)) }
+    {
+        let mut list = Vec::new(alloc);
+        for character in text.chars() {
+            let mut room = [0; 2];
+            list.extend_from_slice(character.encode_utf16(&mut room))?;
+        }
+        Ok(Units::of_units(list))
     }
 
     /// The units of the text.

@@ -8,7 +8,7 @@ use std::marker::Model;
 /// A primitive value, which is all that passes between a program and its hosts
 /// (ECMA-262, 6th edition, 6.1.1 to 6.1.4 and 6.1.6).
 #[derive(Debug, Drop)]
-pub enum Prim {
+pub enum Primitive {
     Undefined,
     Null,
     Bool(bool),
@@ -17,7 +17,10 @@ pub enum Prim {
     Text(Units),
 }
 
-impl Prim {
+/// The name by which code calls it. Contracts call it `Primitive`, since a module of the prover has this one.
+pub type Prim = Primitive;
+
+impl Primitive {
     /// An equal value.
     pub fn copy(&self, alloc: Global) -> Result<Prim, AllocError>
         ensures { IfOk result (λ prim. prim ≡ self.now) }
@@ -40,9 +43,9 @@ pub struct Prims {
 
 impl Model for Prims {
     ghost use Rattle.std.specs.Prelude.{List};
-    ghost use Rattle.es_outside.specs.declared.prim.Prim.{Prim};
+    ghost use Rattle.es_outside.specs.declared.primitive.Primitive.{Primitive};
 
-    ghost Value = { List Prim };
+    ghost Value = { List Primitive };
 
     ghost view = { λ prims. prims.list };
 }
@@ -55,6 +58,17 @@ impl Prims {
         Prims {
             list: Items::from_vec(list),
         }
+    }
+
+    /// The list of values equal to these.
+    pub fn copy_of(alloc: Global, prims: &[Prim]) -> Result<Prims, AllocError>
+        ensures { IfOk result (λ copy. copy ≡ prims.now) }
+    {
+        let mut list = Items::new(alloc);
+        for prim in prims {
+            list.push(prim.copy(alloc)?)?;
+        }
+        Ok(Prims { list })
     }
 
     /// The values.

@@ -1,0 +1,57 @@
+-- The lines of refusals, and the numbers of statuses.
+use Rattle.std.specs.Prelude.{ℕ, ◌+◌, ◌<◌, ◌^◌, ◌==◌, if◌then◌else◌, List, [], ◌∷◌, ◌++◌, take, codes}
+use Rattle.std.specs.Fmt.{decimal}
+use Rattle.es_text.specs.declared.Place.{Place}
+use Rattle.es5c.specs.declared.status.Status.{Status}
+use Rattle.es5c.specs.declared.status.Status.TheVariants as status
+use Rattle.es5c.specs.declared.fault.Fault.{Fault}
+use Rattle.es5c.specs.declared.fault.Fault.TheVariants.{Missing, ReadFailed, FileTooLong, NotBuilt}
+
+abbrev pub code_of : Status → ℕ
+code_of status.Done = 0
+code_of status.Refused = 1
+code_of status.Usage = 2
+code_of status.ReadFault = 3
+code_of status.WriteFault = 4
+code_of status.OutOfMemory = 5
+code_of status.Limit = 6
+code_of status.Threw = 7
+code_of status.Left = 8
+code_of status.StepsSpent = 9
+code_of status.HostFault = 10
+
+-- the place after these bytes, from a place on: a line feed ends a line
+abbrev pub place_after : Place → List ℕ → Place
+place_after place [] = place
+place_after place (b ∷ bs) =
+    place_after (if b == 10 then record { line = place.line + 1; column = 0 } else record { line = place.line; column = place.column + 1 }) bs
+
+-- the place at an offset, line and column from 0
+abbrev pub place_of : List ℕ → ℕ → Place
+place_of bytes at = place_after (record { line = 0; column = 0 }) (take at bytes)
+
+-- a place as it is printed, from 1
+abbrev pub place_text : Place → List ℕ
+place_text place = codes ":" ++ decimal (place.line + 1) ++ codes ":" ++ decimal (place.column + 1)
+
+-- what each fault's line says
+abbrev pub line_of : List ℕ → Fault → List ℕ
+line_of path Missing = path ++ (codes ": missing" ++ 10 ∷ [])
+line_of path ReadFailed = path ++ (codes ": read fault" ++ 10 ∷ [])
+line_of path FileTooLong = path ++ (codes ": file too long" ++ 10 ∷ [])
+line_of path (NotBuilt place) = path ++ place_text place ++ (codes ": not built" ++ 10 ∷ [])
+
+abbrev pub usage_line : List ℕ
+usage_line = codes "usage: es5c build ENTRY" ++ 10 ∷ []
+
+-- the status of each fault
+abbrev pub status_of : Fault → Status
+status_of Missing = status.Refused
+status_of ReadFailed = status.ReadFault
+status_of FileTooLong = status.Limit
+status_of (NotBuilt place) = status.Refused
+
+-- a place whose numbers can be counted from 1
+abbrev pub IsPrintable : Fault → Type 0
+IsPrintable (NotBuilt place) = (place.line < 2 ^ 63) × (place.column < 2 ^ 63)
+IsPrintable _ = Unit {0}

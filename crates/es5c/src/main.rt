@@ -1,0 +1,59 @@
+//! The program `es5c`: `es5c build ENTRY` writes the ES5 script of a module to the standard output.
+#![tactic(auto)]
+
+mod build;
+mod fault;
+mod hosts;
+mod real;
+mod status;
+#[cfg(test)]
+mod tests;
+mod top;
+mod words;
+
+use es_outside::{Host, Hosts};
+use hosts::{CountHost, PrintHost, ReadHost};
+use real::{RealFiles, StreamSink};
+use status::Status;
+use std::alloc::{AllocError, Global};
+use std::env;
+use std::io;
+use std::process::ExitCode;
+use top::es5c;
+
+fn main(rt: HostRuntime) -> ExitCode {
+    let status = run(&rt).unwrap_or(Status::OutOfMemory);
+    ExitCode::from(status.code())
+}
+
+/// Does the command of the process's words over the real files, streams and hosts.
+fn run(rt: &HostRuntime) -> Result<Status, AllocError> {
+    let alloc = rt.alloc();
+    let words = words_of(rt)?;
+    let mut list: Vec<(String, Box<dyn Host>)> = Vec::new(alloc);
+    list.push((String::from_str(alloc, "print")?, Box::new(alloc, PrintHost)?))?;
+    list.push((String::from_str(alloc, "read")?, Box::new(alloc, ReadHost::new(*rt))?))?;
+    list.push((String::from_str(alloc, "count")?, Box::new(alloc, CountHost::new())?))?;
+    // These three names may name hosts, so the list isn't handed back.
+    let Ok(mut hosts) = Hosts::new(alloc, list) else {
+        return Ok(Status::HostFault);
+    };
+    let mut files = RealFiles::new(rt);
+    let mut out = StreamSink::new(rt.stdout());
+    let mut err = StreamSink::new(rt.stderr());
+    Ok(es5c(alloc, words.as_slice(), &mut files, &mut hosts, &mut out, &mut err))
+}
+
+/// The words after the program's own. Where they can't be read as text, they are no command.
+fn words_of(rt: &HostRuntime) -> Result<Vec<String>, AllocError> {
+    let mut words = Vec::new(rt.alloc());
+    let args = match env::args(rt) {
+        Ok(args) => args,
+        Err(error) if error.kind() == io::ErrorKind::OutOfMemory => return Err(AllocError),
+        Err(_) => return Ok(words),
+    };
+    for word in args.skip(1) {
+        words.push(word)?;
+    }
+    Ok(words)
+}

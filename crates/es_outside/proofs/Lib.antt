@@ -1,0 +1,4 @@
+pub mod FileLemmas
+pub mod HostNameLemmas
+pub mod NameLemmas
+pub mod SinkLemmas

@@ -1,0 +1,9 @@
+pub mod Texts
+pub mod NameSets
+pub mod Scopes
+pub mod Runs
+pub mod Accepted
+pub mod Completeness
+pub mod Front
+pub mod Soundness
+pub mod Faults
