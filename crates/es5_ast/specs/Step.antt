@@ -196,7 +196,7 @@ abbrev pub start5 : List (List ℕ) → Script → State5
 start5 hosts script = record {
   records = record { entries = host_entries 0 hosts } ∷ [];
   stack = [];
-  pending = script.statements ∷ []
+  pending = script.statements ∷ [];
 }
 
 -- what a script means where the realm has these hosts

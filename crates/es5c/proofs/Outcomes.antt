@@ -73,7 +73,7 @@ pub found_file : (hosts : List (List ℕ)) (files : Option (List ℕ → Option 
 found_file hosts files path old new read (Ok s) told b = record {
   m = b.m;
   accepted = if_some_map files (λ file e. accepted_file hosts (file path) read b.m e b.within b.spells) told;
-  script_of = b.script_of
+  script_of = b.script_of;
 }
 found_file hosts files path old new read (Err OutOfMemory) told b = tt
 found_file hosts files path old new read (Err (Refused Missing)) told b = elim b [ ]
@@ -161,21 +161,21 @@ module _ (c : Call) (file : List ℕ → Option (List ℕ)) (told : c.files ≡ 
       record {
         no_command = λ none. let e = b.command in absurd (cc);
         accepted = λ entry m command a. refl;
-        refused = λ entry fault command r. absurd (one_finding c.hosts (file entry) b.m fault (subst (λ (p : List ℕ). IsAccepted c.hosts (file p) b.m) (same_entry b.entry entry b.command command) accepted) r)
+        refused = λ entry fault command r. absurd (one_finding c.hosts (file entry) b.m fault (subst (λ (p : List ℕ). IsAccepted c.hosts (file p) b.m) (same_entry b.entry entry b.command command) accepted) r);
       }
 
   refusal_is_due : (fault : Fault) (entry : List ℕ) → command_of c.words ≡ Some entry → Refuses c.hosts (file entry) fault → IsDue c file (status_of fault)
   refusal_is_due fault entry command r = record {
     no_command = λ none. absurd (cc);
     accepted = λ entry2 m command2 a. absurd (one_finding c.hosts (file entry) m fault (subst (λ (p : List ℕ). IsAccepted c.hosts (file p) m) (same_entry entry2 entry command2 command) a) r);
-    refused = λ entry2 fault2 command2 r2. one_status c.hosts (file entry) fault fault2 r (subst (λ (p : List ℕ). Refuses c.hosts (file p) fault2) (same_entry entry2 entry command2 command) r2)
+    refused = λ entry2 fault2 command2 r2. one_status c.hosts (file entry) fault fault2 r (subst (λ (p : List ℕ). Refuses c.hosts (file p) fault2) (same_entry entry2 entry command2 command) r2);
   }
 
   line_is_due : IsCalm c → (s : Status) (bytes : List ℕ) → IsLine c s bytes → IsDue c file s
   line_is_due calm s bytes (usage none) = record {
     no_command = λ n. refl;
     accepted = λ entry m command a. absurd (cc);
-    refused = λ entry fault command r. absurd (cc)
+    refused = λ entry fault command r. absurd (cc);
   }
   line_is_due calm s bytes (refusal {fault = Missing} r) = refusal_is_due Missing r.entry r.command (on_file (λ f. Refuses c.hosts f Missing) r.entry r.cause)
   line_is_due calm s bytes (refusal {fault = ReadFailed} r) = absurd (calm.files r.cause)

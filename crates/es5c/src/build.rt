@@ -32,7 +32,12 @@ impl From<AllocError> for BuildFault {
 }
 
 /// The script of the module with this path. A file is read up to one byte past the limit.
-pub fn build<F: Files>(alloc: Global, path: &str, files: &mut F, hosts: &Hosts) -> Result<Vec<u8>, BuildFault>
+pub fn build<F: Files>(
+    alloc: Global,
+    path: &str,
+    files: &mut F,
+    hosts: &Hosts,
+) -> Result<Vec<u8>, BuildFault>
     ensures built { MatchResult result
         (λ script. IsFileScript (names hosts.now) (F.files files.old) path.now script.items)
         (FitsFile (names hosts.now) (F.files files.old) path.now (F.faults files.old) (F.faults files.new)) }
@@ -82,7 +87,10 @@ fn build_fault(bytes: &[u8], fault: ReadFault) -> BuildFault
     ensures printable { IsPrintableFault result }
 {
     match fault {
-        ReadFault::NotBuilt { at } => BuildFault::Refused(Fault::NotBuilt(place_of(bytes, at as usize))),
+        ReadFault::NotBuilt { at } => BuildFault::Refused(Fault::NotBuilt(place_of(
+            bytes,
+            at as usize,
+        ))),
         ReadFault::OutOfMemory => BuildFault::OutOfMemory,
     }
 }

@@ -53,7 +53,12 @@ fn line_about_file(alloc: Global, path: &str, text: &str) -> Result<String, Allo
     Ok(line)
 }
 
-fn line_about_place(alloc: Global, path: &str, place: &Place, text: &str) -> Result<String, AllocError>
+fn line_about_place(
+    alloc: Global,
+    path: &str,
+    place: &Place,
+    text: &str,
+) -> Result<String, AllocError>
     requires { (place.now.line < 2 ^ 63) × (place.now.column < 2 ^ 63) }
     ensures { IfOk result (λ line. string_bytes line ≡ path.now ++ place_text place.now ++ text.now) }
 {
@@ -75,9 +80,15 @@ pub fn place_of(bytes: &[u8], at: usize) -> Place
     let end = at.min(bytes.len());
     for byte in &bytes[..end] {
         place = if *byte == b'\n' {
-            Place { line: place.line + 1, column: 0 }
+            Place {
+                line: place.line + 1,
+                column: 0,
+            }
         } else {
-            Place { line: place.line, column: place.column + 1 }
+            Place {
+                line: place.line,
+                column: place.column + 1,
+            }
         };
     }
     place

@@ -74,7 +74,10 @@ pub struct ReadHost<I: io::Input + Drop> {
 
 impl<I: io::Input + Drop> ReadHost<I> {
     pub fn new(input: I) -> ReadHost<I> {
-        ReadHost { input, faults: FaultCount::new() }
+        ReadHost {
+            input,
+            faults: FaultCount::new(),
+        }
     }
 }
 

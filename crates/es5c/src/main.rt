@@ -16,9 +16,8 @@ use hosts::{CountHost, PrintHost, ReadHost};
 use real::{RealFiles, StreamSink};
 use status::Status;
 use std::alloc::{AllocError, Global};
-use std::env;
-use std::io;
 use std::process::ExitCode;
+use std::{env, io};
 use top::es5c;
 
 fn main(rt: HostRuntime) -> ExitCode {
@@ -31,9 +30,18 @@ fn run(rt: &HostRuntime) -> Result<Status, AllocError> {
     let alloc = rt.alloc();
     let words = words_of(rt)?;
     let mut list: Vec<(String, Box<dyn Host>)> = Vec::new(alloc);
-    list.push((String::from_str(alloc, "print")?, Box::new(alloc, PrintHost)?))?;
-    list.push((String::from_str(alloc, "read")?, Box::new(alloc, ReadHost::new(*rt))?))?;
-    list.push((String::from_str(alloc, "count")?, Box::new(alloc, CountHost::new())?))?;
+    list.push((
+        String::from_str(alloc, "print")?,
+        Box::new(alloc, PrintHost)?,
+    ))?;
+    list.push((
+        String::from_str(alloc, "read")?,
+        Box::new(alloc, ReadHost::new(*rt))?,
+    ))?;
+    list.push((
+        String::from_str(alloc, "count")?,
+        Box::new(alloc, CountHost::new())?,
+    ))?;
     // These three names may name hosts, so the list isn't handed back.
     let Ok(mut hosts) = Hosts::new(alloc, list) else {
         return Ok(Status::HostFault);
@@ -41,7 +49,14 @@ fn run(rt: &HostRuntime) -> Result<Status, AllocError> {
     let mut files = RealFiles::new(rt);
     let mut out = StreamSink::new(rt.stdout());
     let mut err = StreamSink::new(rt.stderr());
-    Ok(es5c(alloc, words.as_slice(), &mut files, &mut hosts, &mut out, &mut err))
+    Ok(es5c(
+        alloc,
+        words.as_slice(),
+        &mut files,
+        &mut hosts,
+        &mut out,
+        &mut err,
+    ))
 }
 
 /// The words after the program's own. Where they can't be read as text, they are no command.

@@ -3,9 +3,9 @@
 
 use es_outside::{FaultCount, FileAnswer, Sink, SinkFailed};
 use std::alloc::{AllocError, Global};
+use std::fs;
 use std::io::{self, Read};
 use std::rt::Files;
-use std::fs;
 
 /// How many bytes a single read asks for at the most.
 const READ_SIZE: usize = 8192;
@@ -43,7 +43,10 @@ impl From<io::Error> for ReadError {
 
 impl<'a, R: Files> RealFiles<'a, R> {
     pub fn new(rt: &'a R) -> RealFiles<'a, R> {
-        RealFiles { rt, faults: FaultCount::new() }
+        RealFiles {
+            rt,
+            faults: FaultCount::new(),
+        }
     }
 }
 
@@ -68,7 +71,12 @@ impl<'a, R: Files> es_outside::Files for RealFiles<'a, R> {
 }
 
 /// The first bytes of a file, at most so many.
-fn read_front<R: Files>(rt: &R, alloc: Global, path: &str, most: usize) -> Result<Vec<u8>, ReadError> {
+fn read_front<R: Files>(
+    rt: &R,
+    alloc: Global,
+    path: &str,
+    most: usize,
+) -> Result<Vec<u8>, ReadError> {
     let mut file = fs::open(rt, path)?;
     let mut bytes = Vec::new(alloc);
     let mut buffer = [0u8; READ_SIZE];
@@ -96,7 +104,10 @@ pub struct StreamSink<P: io::Print + Drop> {
 
 impl<P: io::Print + Drop> StreamSink<P> {
     pub fn new(stream: P) -> StreamSink<P> {
-        StreamSink { stream, faults: FaultCount::new() }
+        StreamSink {
+            stream,
+            faults: FaultCount::new(),
+        }
     }
 }
 

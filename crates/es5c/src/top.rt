@@ -27,13 +27,11 @@ pub fn es5c<F: Files, S: Sink, E: Sink>(
     err: &mut E,
 ) -> Status
     // What the call leaves at each status.
-    ensures outcome {
-        let o : Written = record { old = S.bytes out.old; new = S.bytes out.new; faults_old = S.faults out.old; faults_new = S.faults out.new } in
+    ensures outcome { let o : Written = record { old = S.bytes out.old; new = S.bytes out.new; faults_old = S.faults out.old; faults_new = S.faults out.new } in
         let e : Written = record { old = E.bytes err.old; new = E.bytes err.new; faults_old = E.faults err.old; faults_new = E.faults err.new } in
         IsOutcome (record { words = map string_bytes words.now; hosts = names hosts.old; files = F.files files.old; faults_old = F.faults files.old; faults_new = F.faults files.new; out = o; err = e }) result }
     // Where no count of faults rose and memory is there, the status is the one that is due.
-    ensures due {
-        let o : Written = record { old = S.bytes out.old; new = S.bytes out.new; faults_old = S.faults out.old; faults_new = S.faults out.new } in
+    ensures due { let o : Written = record { old = S.bytes out.old; new = S.bytes out.new; faults_old = S.faults out.old; faults_new = S.faults out.new } in
         let e : Written = record { old = E.bytes err.old; new = E.bytes err.new; faults_old = E.faults err.old; faults_new = E.faults err.new } in
         ComesWhenDue (record { words = map string_bytes words.now; hosts = names hosts.old; files = F.files files.old; faults_old = F.faults files.old; faults_new = F.faults files.new; out = o; err = e }) result }
     // No host is asked.
@@ -47,8 +45,7 @@ pub fn es5c<F: Files, S: Sink, E: Sink>(
 
 /// Writes the usage line where the words are no command.
 fn misuse<E: Sink>(fault: WordsFault, err: &mut E) -> Status
-    ensures {
-        let e : Written = record { old = E.bytes err.old; new = E.bytes err.new; faults_old = E.faults err.old; faults_new = E.faults err.new } in
+    ensures { let e : Written = record { old = E.bytes err.old; new = E.bytes err.new; faults_old = E.faults err.old; faults_new = E.faults err.new } in
         IsMisuseOutcome fault e result }
 {
     match fault {
@@ -57,9 +54,15 @@ fn misuse<E: Sink>(fault: WordsFault, err: &mut E) -> Status
     }
 }
 
-fn do_command<F: Files, S: Sink, E: Sink>(alloc: Global, command: &Command, files: &mut F, hosts: &Hosts, out: &mut S, err: &mut E) -> Status
-    ensures {
-        let o : Written = record { old = S.bytes out.old; new = S.bytes out.new; faults_old = S.faults out.old; faults_new = S.faults out.new } in
+fn do_command<F: Files, S: Sink, E: Sink>(
+    alloc: Global,
+    command: &Command,
+    files: &mut F,
+    hosts: &Hosts,
+    out: &mut S,
+    err: &mut E,
+) -> Status
+    ensures { let o : Written = record { old = S.bytes out.old; new = S.bytes out.new; faults_old = S.faults out.old; faults_new = S.faults out.new } in
         let e : Written = record { old = E.bytes err.old; new = E.bytes err.new; faults_old = E.faults err.old; faults_new = E.faults err.new } in
         IsBuildOutcome (names hosts.now) (F.files files.old) (entry_of command.now) (F.faults files.old) (F.faults files.new) o e result }
 {
@@ -69,9 +72,15 @@ fn do_command<F: Files, S: Sink, E: Sink>(alloc: Global, command: &Command, file
 }
 
 /// Builds the module with this path, and writes its script or the line of its fault.
-fn write_built<F: Files, S: Sink, E: Sink>(alloc: Global, path: &str, files: &mut F, hosts: &Hosts, out: &mut S, err: &mut E) -> Status
-    ensures {
-        let o : Written = record { old = S.bytes out.old; new = S.bytes out.new; faults_old = S.faults out.old; faults_new = S.faults out.new } in
+fn write_built<F: Files, S: Sink, E: Sink>(
+    alloc: Global,
+    path: &str,
+    files: &mut F,
+    hosts: &Hosts,
+    out: &mut S,
+    err: &mut E,
+) -> Status
+    ensures { let o : Written = record { old = S.bytes out.old; new = S.bytes out.new; faults_old = S.faults out.old; faults_new = S.faults out.new } in
         let e : Written = record { old = E.bytes err.old; new = E.bytes err.new; faults_old = E.faults err.old; faults_new = E.faults err.new } in
         IsBuildOutcome (names hosts.now) (F.files files.old) path.now (F.faults files.old) (F.faults files.new) o e result }
 {
@@ -84,8 +93,7 @@ fn write_built<F: Files, S: Sink, E: Sink>(alloc: Global, path: &str, files: &mu
 /// Writes the line of a build's fault, if it has one.
 fn fail<E: Sink>(alloc: Global, path: &str, fault: BuildFault, err: &mut E) -> Status
     requires { IsPrintableFault fault }
-    ensures {
-        let e : Written = record { old = E.bytes err.old; new = E.bytes err.new; faults_old = E.faults err.old; faults_new = E.faults err.new } in
+    ensures { let e : Written = record { old = E.bytes err.old; new = E.bytes err.new; faults_old = E.faults err.old; faults_new = E.faults err.new } in
         IsFailOutcome path.now fault e result }
 {
     match fault {
@@ -96,8 +104,7 @@ fn fail<E: Sink>(alloc: Global, path: &str, fault: BuildFault, err: &mut E) -> S
 
 /// Writes a whole script to the output.
 fn write_script<S: Sink>(out: &mut S, script: &[u8]) -> Status
-    ensures {
-        let o : Written = record { old = S.bytes out.old; new = S.bytes out.new; faults_old = S.faults out.old; faults_new = S.faults out.new } in
+    ensures { let o : Written = record { old = S.bytes out.old; new = S.bytes out.new; faults_old = S.faults out.old; faults_new = S.faults out.new } in
         IsSaid o script.now Status.Done result }
 {
     match write_all(out, script) {
@@ -109,8 +116,7 @@ fn write_script<S: Sink>(out: &mut S, script: &[u8]) -> Status
 /// Writes the line of a fault to the error stream, and answers the fault's status.
 fn refuse<E: Sink>(alloc: Global, path: &str, fault: Fault, err: &mut E) -> Status
     requires { IsPrintable fault }
-    ensures {
-        let e : Written = record { old = E.bytes err.old; new = E.bytes err.new; faults_old = E.faults err.old; faults_new = E.faults err.new } in
+    ensures { let e : Written = record { old = E.bytes err.old; new = E.bytes err.new; faults_old = E.faults err.old; faults_new = E.faults err.new } in
         IsSaid e (line_of path.now fault) (status_of fault) result }
 {
     match fault.line(alloc, path) {
@@ -121,8 +127,7 @@ fn refuse<E: Sink>(alloc: Global, path: &str, fault: Fault, err: &mut E) -> Stat
 
 /// Writes a line to the error stream, and answers its status.
 fn report<E: Sink>(err: &mut E, line: &[u8], status: Status) -> Status
-    ensures {
-        let e : Written = record { old = E.bytes err.old; new = E.bytes err.new; faults_old = E.faults err.old; faults_new = E.faults err.new } in
+    ensures { let e : Written = record { old = E.bytes err.old; new = E.bytes err.new; faults_old = E.faults err.old; faults_new = E.faults err.new } in
         IsSaid e line.now status result }
 {
     match write_all(err, line) {

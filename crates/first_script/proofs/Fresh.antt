@@ -47,6 +47,7 @@ not_among y (n ∷ names) all d = by_case (bool_cases (bytes_eq y n)) (λ rest. 
     both : (a b : Bool) → (a && b) ≡ true → (a ≡ true) × (b ≡ true)
     both true b e = (refl, e)
     both false b e = absurd (true_not_false false e refl)
+
     by_case : (bytes_eq y n ≡ true) ⊎ (bytes_eq y n ≡ false) → (list_all (λ m. not (has_dollar m)) names ≡ true → is_one_of y names ≡ false) → is_one_of y (n ∷ names) ≡ false
     by_case (inl e) later =
         let dollar : has_dollar n ≡ true = ap has_dollar (sym (same_names y n e)) ∙ d in
@@ -67,7 +68,7 @@ suffix_is_fresh hosts = record {
       let below : trailing_dollars 0 f ≤ most_dollars hosts = most_of f hosts m in
       let above : most_dollars hosts + 1 ≤ trailing_dollars 0 f = subst (λ y. most_dollars hosts + 1 ≤ trailing_dollars 0 y) e (trailing_after (most_dollars hosts + 1) 0 x) in
       omega arith;
-  no_global = λ x. not_among (x ++ suffix_for hosts) known_globals globals_without (has_dollar-suffix hosts x)
+  no_global = λ x. not_among (x ++ suffix_for hosts) known_globals globals_without (has_dollar-suffix hosts x);
 }
 
 parts_after : (bs : List ℕ) (k : ℕ) → list_all is_identifier_part bs ≡ true → list_all is_identifier_part (bs ++ replicate k 36) ≡ true
@@ -91,7 +92,7 @@ identifier_after hosts (b ∷ bs) h = by_head (is_identifier_start b) (list_all 
 pub usable_with_suffix : (hosts : List (List ℕ)) (x : List ℕ) → IsBindable x → IsUsable (x ++ suffix_for hosts)
 usable_with_suffix hosts x b = record {
   identifier = identifier_after hosts x b.identifier;
-  free = not_among (x ++ suffix_for hosts) unusable_names unusable_without (has_dollar-suffix hosts x)
+  free = not_among (x ++ suffix_for hosts) unusable_names unusable_without (has_dollar-suffix hosts x);
 }
 
 -- every unusable name is unbindable in a module
@@ -106,6 +107,7 @@ among_all y (n ∷ names) others all f = by_case (bool_cases (bytes_eq y n)) (λ
     both : (a b : Bool) → (a && b) ≡ true → (a ≡ true) × (b ≡ true)
     both true b e = (refl, e)
     both false b e = absurd (true_not_false false e refl)
+
     by_case : (bytes_eq y n ≡ true) ⊎ (bytes_eq y n ≡ false) → (list_all (λ m. is_one_of m others) names ≡ true → is_one_of y names ≡ false) → is_one_of y (n ∷ names) ≡ false
     by_case (inl e) later = absurd (true_not_false (is_one_of y others) (ap (λ m. is_one_of m others) (same_names y n e) ∙ (both (is_one_of n others) _ all).0) f)
     by_case (inr e) later = ap (λ b. b || is_one_of y names) e ∙ later (both (is_one_of n others) _ all).1

@@ -45,14 +45,14 @@ abbrev pub source_state : List six.Entry → List six.Frame → six.Control → 
 source_state entries frames control = record {
   records = record { entries = entries } ∷ [];
   stack = record { environment = 0; frames = frames; control = control } ∷ [];
-  pending = []
+  pending = [];
 }
 
 abbrev pub target_state : List five.Entry5 → List five.Frame5 → five.Control5 → five.State5
 target_state entries frames control = record {
   records = record { entries = entries } ∷ [];
   stack = record { environment = 0; frames = frames; control = control } ∷ [];
-  pending = []
+  pending = [];
 }
 
 -- the module is evaluated, the script has run
@@ -138,7 +138,7 @@ module _ (suffix : List ℕ) where
       let source = sym (ap (λ o. step6.goes (record { state = source_state es fs (six.Begin (six.TermNode (term.Name at name))); environment = 0; below = [] }) fs (six.Hand (step6.value_of o))) h.source) in
       let target = ap (λ o. step5.goes5 (record { state = target_state es5 gs (five.Begin (five.TermNode (term5.Name (name ++ suffix)))); environment = 0; below = [] }) gs (five.Hand (step5.value_of5 o))) h.target in
       subst (λ n. Matched r n (target_state es5 gs (five.Begin (five.TermNode (term5.Name (name ++ suffix)))))) source
-        (one_each r _ _ _ target (value_handed {v = h.value} a m))
+      (one_each r _ _ _ target (value_handed {v = h.value} a m))
 
   -- the host's answer is handed to the frames on both sides
   answered : (s : Scope) (es : List six.Entry) (es5 : List five.Entry5) (fs : List six.Frame) (gs : List five.Frame5) → Agrees suffix s es es5 → FramesMatch suffix s fs gs → (answer : Reply) → Related suffix (source_state es fs (six.Hand (step6.completion_of answer))) (target_state es5 gs (five.Hand (step5.completion_of5 answer)))
@@ -178,7 +178,7 @@ module _ (suffix : List ℕ) where
       let source = sym (ap (λ o. step6.begin_call (record { state = source_state es fs (six.Begin (six.CallNode c)); environment = 0; below = [] }) fs c o) h.source) in
       let target = ap (λ o. step5.begin_call5 (record { state = target_state es5 gs (five.Begin (five.CallNode c5)); environment = 0; below = [] }) gs c5 o) h.target in
       subst (λ n. Matched r n (target_state es5 gs (five.Begin (five.CallNode c5)))) source
-        (argument_next s es es5 r h.host at at5 [] xs ys fs gs _ a i l m target)
+      (argument_next s es es5 r h.host at at5 [] xs ys fs gs _ a i l m target)
 
   -- the source goes on alone to items of which none is an import
   items_alone : (s : Scope) (items : List Item) → AreItems s items → alone_at (six.Hand six.Empty) (six.ItemsRest items ∷ []) < 1
@@ -208,7 +208,6 @@ module _ (suffix : List ℕ) where
   all_matched x t (directive_done {s = s} {es = es} {es5 = es5} {items = items} {stats = stats} a i l) = items_next s es es5 _ items stats _ a i l refl
   all_matched x t (import_next {v = v} {names = names} a i l) = (0, t, refl, import_begins {v = v} {names = names} a i l, λ z. omega arith)
   all_matched x t (import_begins {s = s} {v = v} {items = items} a i l) = (0, t, refl, directive_done {v = v} a i l, λ z. items_alone s items i)
-
   all_matched x t (starts hosts items stats at free rel) =
       let entered = ap (λ b. step5.enter_script (step5.start5 hosts (record { statements = directive at ∷ stats })) [] (directive at ∷ stats) b) free in
       (6, _, (_, entered, (_, refl, (_, refl, (_, refl, (_, refl, (_, refl, refl)))))), rel, λ z. absurd (omega arith))

@@ -51,7 +51,7 @@ module _ (suffix : List ℕ) (s : Scope) (entries : List Entry) (entries5 : List
     value = v;
     mutable = m;
     source = source_here _ entries name (ap (λ n. bytes_eq x n) (sym e) ∙ bytes_eq-refl x);
-    target = target_here _ entries5 (name ++ suffix) (ap (λ n. bytes_eq (x ++ suffix) (n ++ suffix)) (sym e) ∙ bytes_eq-refl (x ++ suffix))
+    target = target_here _ entries5 (name ++ suffix) (ap (λ n. bytes_eq (x ++ suffix) (n ++ suffix)) (sym e) ∙ bytes_eq-refl (x ++ suffix));
   }
   value_after name (inr h) old =
       let o = old h in
@@ -60,14 +60,14 @@ module _ (suffix : List ℕ) (s : Scope) (entries : List Entry) (entries5 : List
         value = o.value;
         mutable = o.mutable;
         source = source_past _ entries name h ∙ o.source;
-        target = target_past _ entries5 (name ++ suffix) differs ∙ o.target
+        target = target_past _ entries5 (name ++ suffix) differs ∙ o.target;
       }
 
   pub agrees_after : is_one_of x s.imported ≡ false → Agrees suffix s entries entries5 → Agrees suffix (with_declared s x) (record { name = x; binding = Initialized v m } ∷ entries) (record { name = x ++ suffix; value = PrimitiveValue v } ∷ entries5)
   agrees_after fresh a = record {
     values = λ name h. value_after name (name_cases x name) (λ differs. a.values name (among name h differs));
     hosts = λ name h. host_after name h (a.hosts name h);
-    apart = a.apart
+    apart = a.apart;
   }
     where
       among : (name : List ℕ) → is_one_of name (s.declared ++ x ∷ []) ≡ true → bytes_eq x name ≡ false → is_one_of name s.declared ≡ true
@@ -76,9 +76,10 @@ module _ (suffix : List ℕ) (s : Scope) (entries : List Entry) (entries5 : List
           by_case : (x ≡ name) ⊎ (is_one_of name s.declared ≡ true) → is_one_of name s.declared ≡ true
           by_case (inl e) = absurd (true_not_false (bytes_eq x name) (ap (λ n. bytes_eq x n) (sym e) ∙ bytes_eq-refl x) differs)
           by_case (inr k) = k
+
       host_after : (name : List ℕ) → is_one_of name s.imported ≡ true → HasHost entries entries5 name → HasHost (record { name = x; binding = Initialized v m } ∷ entries) (record { name = x ++ suffix; value = PrimitiveValue v } ∷ entries5) name
       host_after name h o = record {
         host = o.host;
         source = source_past _ entries name (bytes_eq-false x name (λ e. true_not_false (is_one_of name s.imported) h (ap (λ n. is_one_of n s.imported) (sym e) ∙ fresh))) ∙ o.source;
-        target = target_past _ entries5 name (bytes_eq-false (x ++ suffix) name (λ e. a.apart x name h e)) ∙ o.target
+        target = target_past _ entries5 name (bytes_eq-false (x ++ suffix) name (λ e. a.apart x name h e)) ∙ o.target;
       }

@@ -62,7 +62,7 @@ record IsGood (s : Scope) : Type 0 where
 good_after : (s : Scope) (x : List ℕ) → IsBindable x → IsGood s → IsGood (with_declared s x)
 good_after s x b good = record {
   declared = λ name m. by_case name (is_one_of-more x s.declared name m);
-  imported = good.imported
+  imported = good.imported;
 }
   where
     by_case : (name : List ℕ) → (x ≡ name) ⊎ (is_one_of name s.declared ≡ true) → IsBindable name
@@ -223,7 +223,7 @@ module _ (hosts : List (List ℕ)) where
   good_at_start : (names : List (List ℕ)) → AreImports hosts [] names → IsGood (record { imported = names; declared = [] })
   good_at_start names i = record {
     declared = λ name h. absurd (true_not_false false h refl);
-    imported = imports_good [] names i
+    imported = imports_good [] names i;
   }
 
   abbrev SpelledModule : List Item → ℕ → Type 0
@@ -265,6 +265,6 @@ module _ (hosts : List (List ℕ)) where
           at2 = 12;
           rest = tokens_at 14 (items_pieces suffix m.items []);
           strict = refl;
-          parsed = g.one_more (g.expression (g.sum_expression (g.sum g.text g.none_added))) are
-        }
+          parsed = g.one_more (g.expression (g.sum_expression (g.sum g.text g.none_added))) are;
+        };
       }

@@ -52,14 +52,14 @@ numbered n (h ∷ hs) f m = by_name (name_cases h f) (λ differs. numbered (n + 
         record {
           host = n;
           source = ap (λ b. cond b (Some n) (position_from (λ (x : List ℕ). bytes_eq x f) (n + 1) hs)) same;
-          target = ap (λ b. cond b (Some (five.HostFunction n)) (five.value_in (step5.host_entries (n + 1) hs) f)) same
+          target = ap (λ b. cond b (Some (five.HostFunction n)) (five.value_in (step5.host_entries (n + 1) hs) f)) same;
         }
     by_name (inr differs) later =
         let rest = later differs in
         record {
           host = rest.host;
           source = ap (λ b. cond b (Some n) (position_from (λ (x : List ℕ). bytes_eq x f) (n + 1) hs)) differs ∙ rest.source;
-          target = ap (λ b. cond b (Some (five.HostFunction n)) (five.value_in (step5.host_entries (n + 1) hs) f)) differs ∙ rest.target
+          target = ap (λ b. cond b (Some (five.HostFunction n)) (five.value_in (step5.host_entries (n + 1) hs) f)) differs ∙ rest.target;
         }
 
 -- a name that no host has names no global function
@@ -80,6 +80,7 @@ imported_entry hosts (n ∷ names) rest f m = by_name (name_cases n f) (λ diffe
   where
     binding_of : List ℕ → six.Binding
     binding_of x = step6.import_binding (position_from (λ (h : List ℕ). bytes_eq h x) 0 hosts)
+
     by_name : (n ≡ f) ⊎ (bytes_eq n f ≡ false) → (bytes_eq n f ≡ false → six.binding_in (map (step6.import_entry hosts) names ++ rest) f ≡ Some (step6.import_binding (position_from (λ (h : List ℕ). bytes_eq h f) 0 hosts))) → six.binding_in (map (step6.import_entry hosts) (n ∷ names) ++ rest) f ≡ Some (step6.import_binding (position_from (λ (h : List ℕ). bytes_eq h f) 0 hosts))
     by_name (inl e) later =
         let same : bytes_eq n f ≡ true = ap (λ x. bytes_eq n x) (sym e) ∙ bytes_eq-refl n in
@@ -126,21 +127,21 @@ module _ (suffix : List ℕ) (hosts : List (List ℕ)) (fresh : IsFresh suffix h
   agrees_at_start names items stats i li = record {
     values = λ name h. absurd (true_not_false false h refl);
     hosts = λ f h. has_host f h (numbered 0 hosts f (imported_hosts hosts [] names i f h));
-    apart = λ x f h. fresh.no_host x f (imported_hosts hosts [] names i f h)
+    apart = λ x f h. fresh.no_host x f (imported_hosts hosts [] names i f h);
   }
     where
       has_host : (f : List ℕ) → is_one_of f names ≡ true → IsNumbered 0 hosts f → HasHost (step6.module_entries hosts (item.Import names ∷ items)) (step5.var_entries (step5.var_names stats) ++ step5.host_entries 0 hosts) f
       has_host f h n = record {
         host = n.host;
         source = imported_entry hosts names (step6.module_entries hosts items) f h ∙ ap (λ o. Some (step6.import_binding o)) n.source;
-        target = past_vars items stats li (step5.host_entries 0 hosts) f (imported_hosts hosts [] names i f h) ∙ n.target
+        target = past_vars items stats li (step5.host_entries 0 hosts) f (imported_hosts hosts [] names i f h) ∙ n.target;
       }
 
   agrees_without_import : (entries : List six.Entry) (entries5 : List five.Entry5) → Agrees suffix (record { imported = []; declared = [] }) entries entries5
   agrees_without_import entries entries5 = record {
     values = λ name h. absurd (true_not_false false h refl);
     hosts = λ f h. absurd (true_not_false false h refl);
-    apart = λ x f h. absurd (true_not_false false h refl)
+    apart = λ x f h. absurd (true_not_false false h refl);
   }
 
   plain_items : (items : List Item) (stats : List Stat5) → LowersItems suffix items stats → AreModuleItems hosts items → AreItems (record { imported = []; declared = [] }) items
@@ -152,7 +153,7 @@ module _ (suffix : List ℕ) (hosts : List (List ℕ)) (fresh : IsFresh suffix h
   started items stats at i (low_import {names = []} l) = absurd i
   started items stats at i (low_import {names = n ∷ names} {items = rest} l) =
       starts hosts (item.Import (n ∷ names) ∷ rest) stats at (no_clash rest stats l)
-        (import_next {names = n ∷ names} (agrees_at_start (n ∷ names) rest stats i.0 l) i.1 l)
+      (import_next {names = n ∷ names} (agrees_at_start (n ∷ names) rest stats i.0 l) i.1 l)
   started items stats at i (low_plain l) =
       starts hosts items stats at (no_clash items stats l) (directive_done (agrees_without_import _ _) (plain_items items stats l i) l)
 

@@ -15,5 +15,5 @@ written_script hosts m i =
     record {
       script = _;
       spelled = s.spells;
-      same = does_the_same (suffix_for hosts) hosts (suffix_is_fresh hosts) m s.stats 0 i s.low
+      same = does_the_same (suffix_for hosts) hosts (suffix_is_fresh hosts) m s.stats 0 i s.low;
     }

@@ -11,7 +11,11 @@ use shared_text::{Name, Units};
 use std::alloc::{AllocError, Global};
 
 /// The text of the module's script, in which this suffix stands after each declared name.
-pub(crate) fn print_script(alloc: Global, module: &Module, suffix: &[u8]) -> Result<Vec<u8>, AllocError>
+pub(crate) fn print_script(
+    alloc: Global,
+    module: &Module,
+    suffix: &[u8],
+) -> Result<Vec<u8>, AllocError>
     requires { list_all is_plain_item module.now.items ≡ true }
     ensures { IfOk result (λ out. out.items ≡ text_of (script_pieces suffix.now module.now)) }
 {
@@ -23,7 +27,12 @@ pub(crate) fn print_script(alloc: Global, module: &Module, suffix: &[u8]) -> Res
     Ok(out)
 }
 
-fn print_item(alloc: Global, out: &mut Vec<u8>, item: &Item, suffix: &[u8]) -> Result<(), AllocError>
+fn print_item(
+    alloc: Global,
+    out: &mut Vec<u8>,
+    item: &Item,
+    suffix: &[u8],
+) -> Result<(), AllocError>
     requires { is_plain_item item.now ≡ true }
     ensures { OnOk result ((rest : List Piece) → out.new.items ++ text_of rest ≡ out.old.items ++ text_of (item_pieces suffix.now item.now rest)) }
 {
@@ -38,7 +47,13 @@ fn print_item(alloc: Global, out: &mut Vec<u8>, item: &Item, suffix: &[u8]) -> R
 }
 
 /// Writes `var NAME = INIT;`.
-fn print_declaration(alloc: Global, out: &mut Vec<u8>, name: &Name, init: &Expression, suffix: &[u8]) -> Result<(), AllocError>
+fn print_declaration(
+    alloc: Global,
+    out: &mut Vec<u8>,
+    name: &Name,
+    init: &Expression,
+    suffix: &[u8],
+) -> Result<(), AllocError>
     requires { is_plain_expression init.now ≡ true }
     ensures { OnOk result ((rest : List Piece) → out.new.items ++ text_of rest ≡ out.old.items ++ text_of (declaration_pieces suffix.now name.now init.now rest)) }
 {
@@ -50,7 +65,12 @@ fn print_declaration(alloc: Global, out: &mut Vec<u8>, name: &Name, init: &Expre
     out.extend_from_slice(b";\n")
 }
 
-fn print_expression(alloc: Global, out: &mut Vec<u8>, expression: &Expression, suffix: &[u8]) -> Result<(), AllocError>
+fn print_expression(
+    alloc: Global,
+    out: &mut Vec<u8>,
+    expression: &Expression,
+    suffix: &[u8],
+) -> Result<(), AllocError>
     requires { is_plain_expression expression.now ≡ true }
     ensures { OnOk result ((rest : List Piece) → out.new.items ++ text_of rest ≡ out.old.items ++ text_of (expression_pieces suffix.now expression.now rest)) }
 {
@@ -60,7 +80,12 @@ fn print_expression(alloc: Global, out: &mut Vec<u8>, expression: &Expression, s
     }
 }
 
-fn print_call(alloc: Global, out: &mut Vec<u8>, call: &Call, suffix: &[u8]) -> Result<(), AllocError>
+fn print_call(
+    alloc: Global,
+    out: &mut Vec<u8>,
+    call: &Call,
+    suffix: &[u8],
+) -> Result<(), AllocError>
     requires { is_plain_call call.now ≡ true }
     ensures { OnOk result ((rest : List Piece) → out.new.items ++ text_of rest ≡ out.old.items ++ text_of (call_pieces suffix.now call.now rest)) }
 {
@@ -71,7 +96,12 @@ fn print_call(alloc: Global, out: &mut Vec<u8>, call: &Call, suffix: &[u8]) -> R
     Ok(())
 }
 
-fn print_arguments(alloc: Global, out: &mut Vec<u8>, args: &[Sum], suffix: &[u8]) -> Result<(), AllocError>
+fn print_arguments(
+    alloc: Global,
+    out: &mut Vec<u8>,
+    args: &[Sum],
+    suffix: &[u8],
+) -> Result<(), AllocError>
     requires { list_all is_plain_sum args.now ≡ true }
     ensures { OnOk result ((rest : List Piece) → out.new.items ++ text_of rest ≡ out.old.items ++ text_of (argument_pieces suffix.now args.now rest)) }
 {
@@ -85,7 +115,12 @@ fn print_arguments(alloc: Global, out: &mut Vec<u8>, args: &[Sum], suffix: &[u8]
 }
 
 /// Writes the arguments after the first, each behind a comma.
-fn print_more_arguments(alloc: Global, out: &mut Vec<u8>, args: &[Sum], suffix: &[u8]) -> Result<(), AllocError>
+fn print_more_arguments(
+    alloc: Global,
+    out: &mut Vec<u8>,
+    args: &[Sum],
+    suffix: &[u8],
+) -> Result<(), AllocError>
     requires { list_all is_plain_sum args.now ≡ true }
     ensures { OnOk result ((rest : List Piece) → out.new.items ++ text_of rest ≡ out.old.items ++ text_of (more_pieces suffix.now args.now rest)) }
 {
@@ -105,7 +140,12 @@ fn print_sum(alloc: Global, out: &mut Vec<u8>, sum: &Sum, suffix: &[u8]) -> Resu
 }
 
 /// Writes the operands after the first, each behind its operator.
-fn print_added(alloc: Global, out: &mut Vec<u8>, terms: &[Term], suffix: &[u8]) -> Result<(), AllocError>
+fn print_added(
+    alloc: Global,
+    out: &mut Vec<u8>,
+    terms: &[Term],
+    suffix: &[u8],
+) -> Result<(), AllocError>
     requires { list_all is_plain_term terms.now ≡ true }
     ensures { OnOk result ((rest : List Piece) → out.new.items ++ text_of rest ≡ out.old.items ++ text_of (added_pieces suffix.now terms.now rest)) }
 {
@@ -116,7 +156,12 @@ fn print_added(alloc: Global, out: &mut Vec<u8>, terms: &[Term], suffix: &[u8]) 
     Ok(())
 }
 
-fn print_term(alloc: Global, out: &mut Vec<u8>, term: &Term, suffix: &[u8]) -> Result<(), AllocError>
+fn print_term(
+    alloc: Global,
+    out: &mut Vec<u8>,
+    term: &Term,
+    suffix: &[u8],
+) -> Result<(), AllocError>
     requires { is_plain_term term.now ≡ true }
     ensures { OnOk result (out.new.items ≡ out.old.items ++ spelling (term_kind suffix.now term.now)) }
 {

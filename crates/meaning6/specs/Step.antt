@@ -195,7 +195,7 @@ abbrev pub start6 : List (List ℕ) → Module → State
 start6 hosts m = record {
   records = record { entries = module_entries hosts m.items } ∷ [];
   stack = [];
-  pending = record { environment = 0; items = m.items } ∷ []
+  pending = record { environment = 0; items = m.items } ∷ [];
 }
 
 -- what a module means where the program has these hosts
