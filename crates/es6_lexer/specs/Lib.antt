@@ -1,0 +1,6 @@
+pub mod Classes
+pub mod Elements
+pub mod Numbers
+pub mod Punctuators
+pub mod Quoted
+pub mod Values
