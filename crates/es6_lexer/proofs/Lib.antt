@@ -1,2 +1,5 @@
+pub mod Lexing
 pub mod Runs
+pub mod Spans
 pub mod Steps
+pub mod Within

@@ -1,5 +1,5 @@
 -- Runs of characters, a step at a time.
-use Rattle.std.proofs.Common.{◌≡◌, ℕ, zero, suc, ◌+◌, ◌<◌, ◌≤◌, Bool, true, false, List, [], ◌∷◌, length, take, drop, get_or, refl, sym, ap, ◌∙◌, arith, add-one}
+use Rattle.std.proofs.Common.{◌≡◌, ℕ, zero, suc, ◌+◌, ◌<◌, ◌≤◌, Bool, true, false, cond, List, [], ◌∷◌, length, take, drop, get_or, refl, sym, ap, ◌∙◌, arith, add-one}
 use Rattle.std.proofs.lemmas.List.{at_drop_more, at_drop_all}
 use Rattle.es6_lexer.specs.Classes.{run_of}
 
@@ -20,6 +20,10 @@ run_stop p cs i h f = at_drop_more (run_of p) cs i 0 h ∙ stop_cons p (get_or c
 pub run_end : (p : ℕ → Bool) (cs : List ℕ) (i : ℕ) → length cs ≤ i → run_of p (drop i cs) ≡ 0
 run_end p cs i h = at_drop_all (run_of p) cs i h
 
+within_cond : (b : Bool) (n m : ℕ) → n ≤ m → cond b (suc n) 0 ≤ suc m
+within_cond true n m h = omega arith
+within_cond false n m h = omega arith
+
 pub run_within : (p : ℕ → Bool) (cs : List ℕ) → run_of p cs ≤ length cs
 run_within p [] = omega arith
-run_within p (c ∷ cs) = ?
+run_within p (c ∷ cs) = within_cond (p c) (run_of p cs) (length cs) (run_within p cs)

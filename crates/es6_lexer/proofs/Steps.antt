@@ -1,5 +1,5 @@
 -- What is read at one place of a text, from what is read at the next.
-use Rattle.std.proofs.Common.{◌≡◌, ◌≢◌, ℕ, zero, suc, ◌+◌, ◌*◌, ◌<◌, ◌≤◌, Bool, true, false, cond, ◌&&◌, ◌||◌, List, [], ◌∷◌, length, take, drop, get_or, refl, sym, ap, subst, ◌∙◌, arith, add-one}
+use Rattle.std.proofs.Common.{◌≡◌, ◌≢◌, ℕ, zero, suc, ◌+◌, ◌*◌, ◌<◌, ◌≤◌, Bool, true, false, cond, ◌&&◌, ◌||◌, List, [], ◌∷◌, ◌++◌, length, take, drop, get_or, refl, sym, ap, subst, ◌∙◌, arith, add-one, append_assoc, append-nil}
 use Rattle.std.proofs.Math.Nat.{mul-le-mul_left}
 use Rattle.std.specs.Prelude.{eqb, slice_index}
 use Rattle.std.proofs.lemmas.List.{at_drop_more, at_drop_all, drop_more, drop-drop, get_or-drop}
@@ -15,6 +15,7 @@ use Rattle.es6_lexer.specs.declared.shape.EscapeEnd.TheVariants.{Cut, Spelled, W
 use Rattle.es6_lexer.specs.Classes.{is_line_terminator, digit_value}
 use Rattle.es6_lexer.specs.Numbers.{digits_from}
 use Rattle.es6_lexer.specs.Quoted.{escape, text_from, template_from, block_from}
+use Rattle.es6_lexer.specs.Values.{cooked_from, escape_units, escape_length, character_units}
 
 is_eq : (a b : ℕ) → a ≡ b → eqb a b ≡ true
 is_eq a b e = grind (arith, nat_tests)
@@ -171,3 +172,40 @@ block_nil i nl = refl
 
 pub block_end : (i : ℕ) (nl : Bool) (cs : List ℕ) → length cs ≤ i → block_from i nl (drop i cs) ≡ Stop OpenComment 0
 block_end i nl cs h = at_drop_all (block_from i nl) cs i h ∙ block_nil i nl
+
+-- the units of characters
+cooked_skip : (n : ℕ) (cs : List ℕ) → cooked_from n cs ≡ cooked_from 0 (drop n cs)
+unfolding cooked_from
+cooked_skip zero cs = refl
+cooked_skip (suc n) [] = refl
+cooked_skip (suc n) (c ∷ cs) = cooked_skip n cs
+
+cooked_at : (i : ℕ) (cs : List ℕ) (x : ℕ) → i < length cs → x ≡ get_or cs i x
+    → cooked_from 0 (drop i cs) ≡ cond (eqb x 92) (escape_units (drop (i + 1) cs) ++ cooked_from (escape_length (drop (i + 1) cs)) (drop (i + 1) cs)) (character_units x (slice_index cs (i + 1)) ++ cooked_from 0 (drop (i + 1) cs))
+unfolding cooked_from
+cooked_at i cs x h r =
+    ap (cooked_from 0) (drop_more cs i x h ∙ ap (λ c. c ∷ drop (i + 1) cs) (sym r))
+    ∙ ap (λ y. cond (eqb x 92) (escape_units (drop (i + 1) cs) ++ cooked_from (escape_length (drop (i + 1) cs)) (drop (i + 1) cs)) (character_units x y ++ cooked_from 0 (drop (i + 1) cs))) (head_of_drop cs i)
+
+pub cooked_escape : (us : List ℕ) (i : ℕ) (cs : List ℕ) (x : ℕ) → i < length cs → x ≡ get_or cs i x → x ≡ 92
+    → (us ++ escape_units (drop (i + 1) cs)) ++ cooked_from 0 (drop (i + (1 + escape_length (drop (i + 1) cs))) cs) ≡ us ++ cooked_from 0 (drop i cs)
+cooked_escape us i cs x h r e =
+    let rest = drop (i + 1) cs in
+    let n = escape_length rest in
+    let place : i + 1 + n ≡ i + (1 + n) = omega arith in
+    append_assoc us (escape_units rest) (cooked_from 0 (drop (i + (1 + n)) cs))
+    ∙ ap (λ t. us ++ (escape_units rest ++ t)) (ap (λ m. cooked_from 0 (drop m cs)) (sym place) ∙ sym (ap (cooked_from 0) (drop-drop n (i + 1) cs)) ∙ sym (cooked_skip n rest))
+    ∙ ap (λ t. us ++ t) (sym (cooked_at i cs x h r ∙ cond-true (eqb x 92) _ _ (is_eq x 92 e)))
+
+pub cooked_char : (us : List ℕ) (i : ℕ) (cs : List ℕ) (x : ℕ) → i < length cs → x ≡ get_or cs i x → (x ≡ 92 → ⊥)
+    → (us ++ character_units x (slice_index cs (i + 1))) ++ cooked_from 0 (drop (i + 1) cs) ≡ us ++ cooked_from 0 (drop i cs)
+cooked_char us i cs x h r e =
+    append_assoc us (character_units x (slice_index cs (i + 1))) (cooked_from 0 (drop (i + 1) cs))
+    ∙ ap (λ t. us ++ t) (sym (cooked_at i cs x h r ∙ cond-false (eqb x 92) _ _ (is_ne x 92 e)))
+
+cooked_nil : cooked_from 0 [] ≡ []
+unfolding cooked_from
+cooked_nil = refl
+
+pub cooked_end : (us : List ℕ) (i : ℕ) (cs : List ℕ) → length cs ≤ i → us ++ cooked_from 0 (drop i cs) ≡ us
+cooked_end us i cs h = ap (λ t. us ++ t) (at_drop_all (cooked_from 0) cs i h ∙ cooked_nil) ∙ append-nil us

@@ -1,5 +1,5 @@
 -- What stands at the front of a text (11): how it is read.
-use Rattle.std.specs.Prelude.{◌≡◌, ℕ, ◌+◌, Bool, true, false, ◌&&◌, ◌||◌, ◌==◌, List, [], ◌∷◌, drop, slice_index, if◌then◌else◌}
+use Rattle.std.specs.Prelude.{◌≡◌, ℕ, ◌+◌, ◌<◌, ◌≤◌, Bool, true, false, ◌&&◌, ◌||◌, ◌==◌, List, [], ◌∷◌, drop, slice_index, if◌then◌else◌}
 use Rattle.es6_lexer.specs.declared.token.LexicalKind.TheVariants.{IdentifierEscape}
 use Rattle.es6_lexer.specs.declared.shape.Element.{Element}
 use Rattle.es6_lexer.specs.declared.shape.Element.TheVariants.{Finished, Skip, Take, Stop}
@@ -39,3 +39,10 @@ element closes (c ∷ cs) =
     else (if is_decimal_digit c then number_element (c ∷ cs)
     else (if is_quote c then text_element (c ∷ cs)
     else marked_element closes (c ∷ cs)))))
+
+-- an element has a character and no more than there are, and a fault is at one of them
+abbrev pub IsInside : ℕ → Element → Type 0
+IsInside m Finished = Unit {0}
+IsInside m (Skip n line) = (1 ≤ n) × (n ≤ m)
+IsInside m (Take shape n) = (1 ≤ n) × (n ≤ m)
+IsInside m (Stop kind at) = at < m

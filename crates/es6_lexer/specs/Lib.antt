@@ -1,5 +1,6 @@
 pub mod Classes
 pub mod Elements
+pub mod Lexes
 pub mod Numbers
 pub mod Punctuators
 pub mod Quoted

@@ -2,7 +2,7 @@
 
 ghost use Rattle.std.specs.Prelude.{◌≡◌, ◌≤◌, length};
 ghost use Rattle.es6_lexer.specs.declared.shape.Element.TheVariants.{Skip};
-ghost use Rattle.es6_lexer.specs.Elements.{word_element, slash_element, marked_element, element};
+ghost use Rattle.es6_lexer.specs.Elements.{word_element, slash_element, marked_element, element, IsInside};
 
 use crate::classes::{
     identifier_run, is_decimal_digit, is_identifier_start, is_line_terminator, is_quote,
@@ -15,13 +15,22 @@ use crate::shape::{Element, Shape};
 use crate::token::LexicalKind;
 
 /// Reads what stands at the front of a text, where a `}` may close a `${`.
-#[tactic(auto, unfolding(crate::specs::Elements::element))]
 pub fn element(closes: bool, rest: &[char]) -> Element
-    ensures { result ≡ element closes rest.now }
+    ensures value { result ≡ element closes rest.now }
+    ensures within { IsInside (length rest.now) result }
 {
     if rest.is_empty() {
         return Element::Finished;
     }
+    element_by_character(closes, rest)
+}
+
+/// The same, by the first character.
+#[tactic(auto, unfolding(crate::specs::Elements::element))]
+fn element_by_character(closes: bool, rest: &[char]) -> Element
+    requires { 1 ≤ length rest.now }
+    ensures { result ≡ element closes rest.now }
+{
     let c = rest[0];
     if is_identifier_start(c) {
         word_element(rest)

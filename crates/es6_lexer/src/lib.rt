@@ -2,8 +2,10 @@
 //! A text is read once, and its list of tokens ends with `End` or with the first lexical fault.
 #![tactic(auto)]
 
+mod braces;
 mod classes;
 mod element;
+mod lexer;
 mod number;
 mod punctuator;
 mod quoted;
@@ -11,4 +13,5 @@ mod shape;
 mod token;
 mod values;
 
+pub use lexer::lex6;
 pub use token::{LexicalKind, NumberToken, Punctuator, Token, TokenKind};
