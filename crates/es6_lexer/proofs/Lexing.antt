@@ -28,10 +28,11 @@ step_take braces next newline offset rest shape n b size end front after kind to
     let d1 = subst (λ (m : ℕ). LexesFrom next false (offset + m) after tokens) size_is d in
     let d2 = subst (λ (x : List ℕ). LexesFrom next false (offset_after offset n rest) x tokens) a d1 in
     let d3 = subst (λ (x : List Bool). LexesFrom x false (offset_after offset n rest) (drop n rest) tokens) (o ∙ ap (λ x. opened x braces) same_kind) d2 in
-    let token_is = t ∙ ap (λ x. token_at x offset end newline) same_kind ∙ ap (λ x. token_at (kind_of shape (take n rest)) offset x newline) (w ∙ ap (λ m. offset + m) size_is) in
-    (token_at (kind_of shape (take n rest)) offset (offset_after offset n rest) newline ∷ tokens,
-     ap (λ x. x ∷ tokens) (sym token_is),
-     taken braces newline offset rest shape n tokens (sym (e ∙ ap (λ x. element x rest) c)) d3)
+    let token_is = t ∙ ap (λ x. token_at x offset end newline) same_kind ∙ ap (λ x. token_at (kind_of shape (take n rest)) offset x newline) (w ∙ ap (λ m. offset + m) size_is) in (
+      token_at (kind_of shape (take n rest)) offset (offset_after offset n rest) newline ∷ tokens,
+      ap (λ x. x ∷ tokens) (sym token_is),
+      taken braces newline offset rest shape n tokens (sym (e ∙ ap (λ x. element x rest) c)) d3,
+    )
 
 pub step_end : (braces : List Bool) (newline : Bool) (offset : ℕ) (rest : List ℕ) (b : Bool) (token : Token) → Finished ≡ element b rest → b ≡ closes braces → token ≡ token_at End offset offset newline
     → LexesFrom braces newline offset rest (token ∷ [])

@@ -34,9 +34,9 @@ and_true_right false b h = cc
 grown_inside : (p : Punctuator) (n : ℕ) (cs : List ℕ) → 1 ≤ n → IsInside (n + length cs) (grown p n cs)
 grown_inside p n [] h = (h, omega arith)
 grown_inside p n (c ∷ cs) h = elim (extended p c) as (λ o. IsInside (n + suc (length cs)) (elim o [ None ↦ Take (OfPunctuator p) n | Some q ↦ grown q (n + 1) cs ])) [
-    None ↦ (h, omega arith)
+  | None ↦ (h, omega arith)
   | Some q ↦ (let e : n + suc (length cs) ≡ n + 1 + length cs = omega arith in rw e (grown_inside q (n + 1) cs (omega arith)))
-  ]
+]
 
 single_inside : (o : Option Punctuator) (cs : List ℕ) → 0 < length cs → IsInside (length cs) (longest_from o cs)
 single_inside None cs h = h
@@ -59,8 +59,8 @@ is_there_digit cs i e = is_there cs i (λ z. let bad : is_decimal_digit 0 ≡ tr
 punctuator_inside : (cs : List ℕ) → 0 < length cs → IsInside (length cs) (punctuator_element cs)
 punctuator_inside cs h =
     by_cases (IsInside (length cs)) (eqb (slice_index cs 0) 46 && eqb (slice_index cs 1) 46 && eqb (slice_index cs 2) 46) _ _
-      (λ t. let third : slice_index cs 2 ≡ 46 = grind (arith, nat_tests) in let l : 2 < length cs = is_there_eq cs 2 45 third in (omega arith, omega arith))
-      (λ f. single_inside (single (slice_index cs 0)) cs h)
+    (λ t. let third : slice_index cs 2 ≡ 46 = grind (arith, nat_tests) in let l : 2 < length cs = is_there_eq cs 2 45 third in (omega arith, omega arith))
+    (λ f. single_inside (single (slice_index cs 0)) cs h)
 
 ended_inside : (v : NumberToken) (n : ℕ) (cs : List ℕ) → 1 ≤ n → n ≤ length cs → IsInside (length cs) (ended v n cs)
 ended_inside v n cs h l = by_cond (IsInside (length cs)) (goes_on is_identifier_part (drop n cs)) _ _ (omega arith) (h, l)
@@ -71,21 +71,21 @@ prefixed_inside radix cs h =
     let n = run_of (is_digit_of radix) (drop 2 cs) in
     let w = run_within (is_digit_of radix) (drop 2 cs) in
     by_cases (IsInside (length cs)) (eqb n 0) _ _ (λ t. h)
-      (λ f. let some : n ≡ 0 → ⊥ = eqb-false n 0 f in ended_inside _ (2 + n) cs (omega arith) (omega (arith, w, length-drop 2 cs)))
+    (λ f. let some : n ≡ 0 → ⊥ = eqb-false n 0 f in ended_inside _ (2 + n) cs (omega arith) (omega (arith, w, length-drop 2 cs)))
 
 fraction_inside : (cs : List ℕ) → fraction_length cs ≤ length cs
 fraction_inside cs =
     by_cases (λ k. k ≤ length cs) (eqb (slice_index cs 0) 46) _ _
-      (λ t. let l : 0 < length cs = is_there_eq cs 0 45 (eqb-true (slice_index cs 0) 46 t) in omega (arith, run_within (is_digit_of 10) (drop 1 cs), length-drop 1 cs))
-      (λ f. omega arith)
+    (λ t. let l : 0 < length cs = is_there_eq cs 0 45 (eqb-true (slice_index cs 0) 46 t) in omega (arith, run_within (is_digit_of 10) (drop 1 cs), length-drop 1 cs))
+    (λ f. omega arith)
 
 exponent_inside : (cs : List ℕ) → exponent_length cs ≤ length cs
 unfolding exponent_length
 exponent_inside cs =
     by_cond (λ k. k ≤ length cs) (not (eqb (slice_index cs 0) 101) && not (eqb (slice_index cs 0) 69)) _ _ (omega arith)
-      (by_cases (λ k. k ≤ length cs) (is_decimal_digit (slice_index cs (sign_end cs))) _ _
-        (λ t. let l = is_there_digit cs (sign_end cs) t in omega (arith, l, run_within (is_digit_of 10) (drop (sign_end cs) cs), length-drop (sign_end cs) cs))
-        (λ f. omega arith))
+    (by_cases (λ k. k ≤ length cs) (is_decimal_digit (slice_index cs (sign_end cs))) _ _
+    (λ t. let l = is_there_digit cs (sign_end cs) t in omega (arith, l, run_within (is_digit_of 10) (drop (sign_end cs) cs), length-drop (sign_end cs) cs))
+    (λ f. omega arith))
 
 -- what a number begins with
 abbrev pub BeginsNumber : List ℕ → Type 0
@@ -120,9 +120,9 @@ decimal_inside cs begins h =
     let x : e ≤ length cs = omega (arith, f, exponent_inside (drop m cs), length-drop m cs) in
     let some : 1 ≤ m = number_has cs begins in
     by_cond (IsInside (length cs)) (eqb (slice_index cs 0) 48 && nat_lt 1 n) _ _ h
-      (by_cases (IsInside (length cs)) (eqb e n) _ _
-        (λ t. let same : e ≡ n = eqb-true e n t in ended_inside _ n cs (omega (arith, some)) w)
-        (λ f. ended_inside Marked e cs (omega (arith, some)) x))
+    (by_cases (IsInside (length cs)) (eqb e n) _ _
+    (λ t. let same : e ≡ n = eqb-true e n t in ended_inside _ n cs (omega (arith, some)) w)
+    (λ f. ended_inside Marked e cs (omega (arith, some)) x))
 
 pub number_inside : (cs : List ℕ) → BeginsNumber cs → 0 < length cs → IsInside (length cs) (number_element cs)
 number_inside cs begins h = by_cond (IsInside (length cs)) (eqb (radix_of cs) 10) _ _ (decimal_inside cs begins h) (prefixed_inside (radix_of cs) cs h)
@@ -156,14 +156,14 @@ text_inside q zero i (c ∷ cs) h =
     let e : i + 1 + length cs ≡ i + suc (length cs) = omega arith in
     let P : Element → Type 0 = IsFrom i (i + suc (length cs)) in
     by_cond P (eqb c q) _ _ (omega arith, omega arith)
-      (by_cond P (eqb c 92) _ _
-        (elim (escape cs) as (λ v. P (elim v [ Cut ↦ Stop OpenString 0 | Wrong kind ↦ Stop kind i | Spelled n ↦ text_from q n (i + 1) cs ])) [
-            Cut ↦ omega arith
-          | Wrong kind ↦ omega arith
-          | Spelled n ↦ from_later i _ _ (subst (λ m. IsFrom (i + 1) m (text_from q n (i + 1) cs)) e (text_inside q n (i + 1) cs (omega arith)))
-          ])
-        (by_cond P (is_line_terminator c) _ _ (omega arith)
-          (from_later i _ _ (subst (λ m. IsFrom (i + 1) m (text_from q 0 (i + 1) cs)) e (text_inside q 0 (i + 1) cs (omega arith))))))
+    (by_cond P (eqb c 92) _ _
+    (elim (escape cs) as (λ v. P (elim v [ Cut ↦ Stop OpenString 0 | Wrong kind ↦ Stop kind i | Spelled n ↦ text_from q n (i + 1) cs ])) [
+      | Cut ↦ omega arith
+      | Wrong kind ↦ omega arith
+      | Spelled n ↦ from_later i _ _ (subst (λ m. IsFrom (i + 1) m (text_from q n (i + 1) cs)) e (text_inside q n (i + 1) cs (omega arith)))
+    ])
+    (by_cond P (is_line_terminator c) _ _ (omega arith)
+    (from_later i _ _ (subst (λ m. IsFrom (i + 1) m (text_from q 0 (i + 1) cs)) e (text_inside q 0 (i + 1) cs (omega arith))))))
 
 template_inside : (k i : ℕ) (cs : List ℕ) → 1 ≤ i → IsFrom i (i + length cs) (template_from k i cs)
 unfolding template_from
@@ -175,15 +175,15 @@ template_inside zero i (c ∷ cs) h =
     let e : i + 1 + length cs ≡ i + suc (length cs) = omega arith in
     let P : Element → Type 0 = IsFrom i (i + suc (length cs)) in
     by_cond P (eqb c 96) _ _ (omega arith, omega arith)
-      (by_cond P (eqb c 92) _ _
-        (elim (escape cs) as (λ v. P (elim v [ Cut ↦ Stop OpenTemplate 0 | Wrong kind ↦ Stop kind i | Spelled n ↦ template_from n (i + 1) cs ])) [
-            Cut ↦ omega arith
-          | Wrong kind ↦ omega arith
-          | Spelled n ↦ from_later i _ _ (subst (λ m. IsFrom (i + 1) m (template_from n (i + 1) cs)) e (template_inside n (i + 1) cs (omega arith)))
-          ])
-        (by_cases P (eqb c 36 && eqb (slice_index cs 0) 123) _ _
-          (λ t. let brace : slice_index cs 0 ≡ 123 = grind (arith, nat_tests) in let l : 0 < length cs = is_there_eq cs 0 122 brace in (omega arith, omega arith))
-          (λ f. from_later i _ _ (subst (λ m. IsFrom (i + 1) m (template_from 0 (i + 1) cs)) e (template_inside 0 (i + 1) cs (omega arith))))))
+    (by_cond P (eqb c 92) _ _
+    (elim (escape cs) as (λ v. P (elim v [ Cut ↦ Stop OpenTemplate 0 | Wrong kind ↦ Stop kind i | Spelled n ↦ template_from n (i + 1) cs ])) [
+      | Cut ↦ omega arith
+      | Wrong kind ↦ omega arith
+      | Spelled n ↦ from_later i _ _ (subst (λ m. IsFrom (i + 1) m (template_from n (i + 1) cs)) e (template_inside n (i + 1) cs (omega arith)))
+    ])
+    (by_cases P (eqb c 36 && eqb (slice_index cs 0) 123) _ _
+    (λ t. let brace : slice_index cs 0 ≡ 123 = grind (arith, nat_tests) in let l : 0 < length cs = is_there_eq cs 0 122 brace in (omega arith, omega arith))
+    (λ f. from_later i _ _ (subst (λ m. IsFrom (i + 1) m (template_from 0 (i + 1) cs)) e (template_inside 0 (i + 1) cs (omega arith))))))
 
 block_inside : (i : ℕ) (nl : Bool) (cs : List ℕ) → 1 ≤ i → IsFrom i (i + length cs) (block_from i nl cs)
 unfolding block_from
@@ -192,8 +192,8 @@ block_inside i nl (c ∷ cs) h =
     let e : i + 1 + length cs ≡ i + suc (length cs) = omega arith in
     let P : Element → Type 0 = IsFrom i (i + suc (length cs)) in
     by_cases P (eqb c 42 && eqb (slice_index cs 0) 47) _ _
-      (λ t. let slash : slice_index cs 0 ≡ 47 = grind (arith, nat_tests) in let l : 0 < length cs = is_there_eq cs 0 46 slash in (omega arith, omega arith))
-      (λ f. from_later i _ _ (subst (λ m. IsFrom (i + 1) m (block_from (i + 1) (nl || is_line_terminator c) cs)) e (block_inside (i + 1) (nl || is_line_terminator c) cs (omega arith))))
+    (λ t. let slash : slice_index cs 0 ≡ 47 = grind (arith, nat_tests) in let l : 0 < length cs = is_there_eq cs 0 46 slash in (omega arith, omega arith))
+    (λ f. from_later i _ _ (subst (λ m. IsFrom (i + 1) m (block_from (i + 1) (nl || is_line_terminator c) cs)) e (block_inside (i + 1) (nl || is_line_terminator c) cs (omega arith))))
 
 from_whole : (i : ℕ) (cs : List ℕ) (e : Element) → i ≤ length cs → IsFrom i (i + length (drop i cs)) e → IsInside (length cs) e
 from_whole i cs e h p = let l : i + length (drop i cs) ≡ length cs = omega (arith, length-drop i cs) in from_inside i _ e (subst (λ m. IsFrom i m e) l p)
@@ -201,20 +201,20 @@ from_whole i cs e h p = let l : i + length (drop i cs) ≡ length cs = omega (ar
 slash_inside : (cs : List ℕ) → 0 < length cs → IsInside (length cs) (slash_element cs)
 slash_inside cs h =
     by_cond (IsInside (length cs)) (eqb (slice_index cs 1) 47) _ _ (omega arith, omega (arith, run_within is_not_line_terminator (drop 1 cs), length-drop 1 cs))
-      (by_cases (IsInside (length cs)) (eqb (slice_index cs 1) 42) _ _
-        (λ t. let l : 1 < length cs = is_there_eq cs 1 41 (eqb-true (slice_index cs 1) 42 t) in from_whole 2 cs _ (omega arith) (block_inside 2 false (drop 2 cs) (omega arith)))
-        (λ f. punctuator_inside cs h))
+    (by_cases (IsInside (length cs)) (eqb (slice_index cs 1) 42) _ _
+    (λ t. let l : 1 < length cs = is_there_eq cs 1 41 (eqb-true (slice_index cs 1) 42 t) in from_whole 2 cs _ (omega arith) (block_inside 2 false (drop 2 cs) (omega arith)))
+    (λ f. punctuator_inside cs h))
 
 marked_inside : (b : Bool) (cs : List ℕ) → 0 < length cs → IsInside (length cs) (marked_element b cs)
 unfolding marked_element
 marked_inside b cs h =
     let c = slice_index cs 0 in
     by_cond (IsInside (length cs)) (eqb c 96 || (b && eqb c 125)) _ _ (from_whole 1 cs _ h (template_inside 0 1 (drop 1 cs) (omega arith)))
-      (by_cond (IsInside (length cs)) (eqb c 92) _ _ h
-        (by_cond (IsInside (length cs)) (eqb c 47) _ _ (slash_inside cs h)
-          (by_cases (IsInside (length cs)) (eqb c 46 && is_decimal_digit (slice_index cs 1)) _ _
-            (λ t. let point : c ≡ 46 = grind (arith, nat_tests) in let digit : is_decimal_digit (slice_index cs 1) ≡ true = and_true_right (eqb c 46) _ t in number_inside cs (inr (point, digit)) h)
-            (λ f. punctuator_inside cs h))))
+    (by_cond (IsInside (length cs)) (eqb c 92) _ _ h
+    (by_cond (IsInside (length cs)) (eqb c 47) _ _ (slash_inside cs h)
+    (by_cases (IsInside (length cs)) (eqb c 46 && is_decimal_digit (slice_index cs 1)) _ _
+    (λ t. let point : c ≡ 46 = grind (arith, nat_tests) in let digit : is_decimal_digit (slice_index cs 1) ≡ true = and_true_right (eqb c 46) _ t in number_inside cs (inr (point, digit)) h)
+    (λ f. punctuator_inside cs h))))
 
 word_inside : (cs : List ℕ) → 0 < length cs → IsInside (length cs) (word_element cs)
 word_inside cs h =
@@ -230,10 +230,10 @@ element_inside b (c ∷ cs) =
     let P : Element → Type 0 = IsInside (suc (length cs)) in
     let h : 0 < length (c ∷ cs) = omega arith in
     by_cond P (is_identifier_start c) _ _ (word_inside (c ∷ cs) h)
-      (by_cond P (is_white_space c) _ _ (omega arith, omega arith)
-        (by_cond P (is_line_terminator c) _ _ (omega arith, omega arith)
-          (by_cases P (is_decimal_digit c) _ _ (λ t. number_inside (c ∷ cs) (inl t) h)
-            (λ f. by_cond P (is_quote c) _ _ (from_whole 1 (c ∷ cs) _ h (text_inside c 0 1 cs (omega arith))) (marked_inside b (c ∷ cs) h)))))
+    (by_cond P (is_white_space c) _ _ (omega arith, omega arith)
+    (by_cond P (is_line_terminator c) _ _ (omega arith, omega arith)
+    (by_cases P (is_decimal_digit c) _ _ (λ t. number_inside (c ∷ cs) (inl t) h)
+    (λ f. by_cond P (is_quote c) _ _ (from_whole 1 (c ∷ cs) _ h (text_inside c 0 1 cs (omega arith))) (marked_inside b (c ∷ cs) h)))))
 
 pub element_nil : (b : Bool) (cs : List ℕ) → length cs ≡ 0 → Finished ≡ element b cs
 unfolding element

@@ -36,15 +36,15 @@ token_at kind begin end newline = record { kind = kind; span = record { begin = 
 -- the tokens of the rest of a text, which begins at the offset, under the open braces, and a line terminator standing before it or not
 pub data LexesFrom : List Bool → Bool → ℕ → List ℕ → List Token → Type 0 where
   finished : (braces : List Bool) (newline : Bool) (offset : ℕ) (rest : List ℕ) → element (closes braces) rest ≡ Finished
-    → LexesFrom braces newline offset rest (token_at End offset offset newline ∷ [])
+      → LexesFrom braces newline offset rest (token_at End offset offset newline ∷ [])
   stopped : (braces : List Bool) (newline : Bool) (offset : ℕ) (rest : List ℕ) (kind : LexicalKind) (at : ℕ) → element (closes braces) rest ≡ Stop kind at
-    → LexesFrom braces newline offset rest (token_at (Fault kind) (offset_after offset at rest) (offset_after offset (at + 1) rest) newline ∷ [])
+      → LexesFrom braces newline offset rest (token_at (Fault kind) (offset_after offset at rest) (offset_after offset (at + 1) rest) newline ∷ [])
   skipped : (braces : List Bool) (newline : Bool) (offset : ℕ) (rest : List ℕ) (n : ℕ) (line : Bool) (tokens : List Token) → element (closes braces) rest ≡ Skip n line
-    → LexesFrom braces (newline || line) (offset_after offset n rest) (drop n rest) tokens
-    → LexesFrom braces newline offset rest tokens
+      → LexesFrom braces (newline || line) (offset_after offset n rest) (drop n rest) tokens
+      → LexesFrom braces newline offset rest tokens
   taken : (braces : List Bool) (newline : Bool) (offset : ℕ) (rest : List ℕ) (shape : Shape) (n : ℕ) (tokens : List Token) → element (closes braces) rest ≡ Take shape n
-    → LexesFrom (opened (kind_of shape (take n rest)) braces) false (offset_after offset n rest) (drop n rest) tokens
-    → LexesFrom braces newline offset rest (token_at (kind_of shape (take n rest)) offset (offset_after offset n rest) newline ∷ tokens)
+      → LexesFrom (opened (kind_of shape (take n rest)) braces) false (offset_after offset n rest) (drop n rest) tokens
+      → LexesFrom braces newline offset rest (token_at (kind_of shape (take n rest)) offset (offset_after offset n rest) newline ∷ tokens)
 
 -- the tokens of a text
 abbrev pub Lexes : List ℕ → List Token → Type 0

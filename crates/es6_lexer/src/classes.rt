@@ -12,7 +12,10 @@ pub fn is_white_space(c: char) -> bool
 {
     match c {
         '\t' | '\u{B}' | '\u{C}' | ' ' | '\u{A0}' | '\u{FEFF}' => true,
-        _ => matches!(GeneralCategory::for_char(c), GeneralCategory::SpaceSeparator),
+        _ => matches!(
+            GeneralCategory::for_char(c),
+            GeneralCategory::SpaceSeparator
+        ),
     }
 }
 
@@ -76,7 +79,11 @@ pub fn digit_value(c: char) -> u32
 pub fn peek(rest: &[char], index: usize) -> char
     ensures { result ≡ slice_index rest.now index }
 {
-    if index < rest.len() { rest[index] } else { '\0' }
+    if index < rest.len() {
+        rest[index]
+    } else {
+        '\0'
+    }
 }
 
 /// How many characters at the front are parts of an identifier.

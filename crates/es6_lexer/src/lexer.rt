@@ -1,6 +1,6 @@
 //! The tokens of a text, one after another.
 
-ghost use Rattle.std.specs.Prelude.{◌≡◌, ◌+◌, ◌<◌, ◌≤◌, ◌^◌, [], length, take, drop, IfOk, OnOk, IsUtf8};
+ghost use Rattle.std.specs.Prelude.{◌≡◌, ◌+◌, ◌<◌, ◌≤◌, ◌^◌, ℕ, List, [], length, take, drop, IfOk, OnOk, IsUtf8};
 ghost use Rattle.std.specs.Str.{chars, encode_utf8_all};
 ghost use Rattle.es6_lexer.specs.declared.token.TokenKind.TheVariants.{Template, Fault};
 ghost use Rattle.es6_lexer.specs.Lexes.{Lexes, opened, offset_after, token_at};
@@ -25,6 +25,11 @@ pub fn lex6(alloc: Global, bytes: &[u8]) -> Result<Vec<Token>, AllocError>
     };
     tokens_of(alloc, bytes, &text)
 }
+
+/// No text has two lists of tokens.
+pub fn one_token_list()
+    ensures { (text : List ℕ) (a b : List Token) → Lexes text a → Lexes text b → a ≡ b }
+{}
 
 /// The tokens of characters, of which these are the bytes.
 fn tokens_of(alloc: Global, bytes: &[u8], text: &[char]) -> Result<Vec<Token>, AllocError>

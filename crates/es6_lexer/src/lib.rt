@@ -10,8 +10,10 @@ mod number;
 mod punctuator;
 mod quoted;
 mod shape;
+#[cfg(test)]
+mod tests;
 mod token;
 mod values;
 
-pub use lexer::lex6;
+pub use lexer::{lex6, one_token_list};
 pub use token::{LexicalKind, NumberToken, Punctuator, Token, TokenKind};

@@ -115,7 +115,11 @@ fn exponent_length(rest: &[char]) -> usize
     if (peek(rest, 0) != 'e') & (peek(rest, 0) != 'E') {
         return 0;
     }
-    let digits = if (peek(rest, 1) == '+') | (peek(rest, 1) == '-') { 2 } else { 1 };
+    let digits = if (peek(rest, 1) == '+') | (peek(rest, 1) == '-') {
+        2
+    } else {
+        1
+    };
     if is_decimal_digit(peek(rest, digits)) {
         digits + digit_run(10, &rest[digits..])
     } else {

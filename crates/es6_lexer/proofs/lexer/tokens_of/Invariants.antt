@@ -10,7 +10,7 @@ invariant-loop-tokens l = record {
   lexes : (tokens : List Token) → LexesFrom l.braces l.newline l.offset l.rest tokens → Lexes l.text (l.tokens.items ++ tokens);
   bytes : l.left ≡ encode_utf8_all l.rest;
   size : l.offset + length l.left ≡ length l.bytes;
-  }
+}
 
 abbrev pub decreases-loop-tokens : goal.decreases-loop-tokens
 decreases-loop-tokens l = length l.rest

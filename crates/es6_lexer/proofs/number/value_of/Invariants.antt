@@ -6,4 +6,4 @@ abbrev pub invariant-loop-c : goal.invariant-loop-c
 invariant-loop-c l = record {
   same : digits_from l.radix l.value (drop l.c-index l.digits) ≡ digits_from l.radix 0 l.digits;
   small : l.value ≤ 9007199254740991;
-  }
+}

@@ -7,4 +7,4 @@ abbrev pub invariant-loop-c : goal.invariant-loop-c
 invariant-loop-c l = record {
   same : grown l.punctuator l.length (drop l.c-index l.c-items) ≡ grown l.fn.first 1 (drop 1 l.rest);
   length : l.length ≡ l.c-index + 1;
-  }
+}

@@ -15,7 +15,7 @@ loop-at-preserved c =
     let plain = ap (λ y. eqb c.index-rest-at.result 42 && eqb y 47) (sym c.peek.ensures) ∙ c.if-c-peek.false in
     record {
       same = ap (λ t. block_from (c.loop-at.at + 1) (c.loop-at.newline || t) (drop (c.loop-at.at + 1) c.args.rest.now)) c.is_line_terminator-newline.ensures
-        ∙ sym (block_more c.loop-at.at c.loop-at.newline c.args.rest.now c.index-rest-at.result c.loop-at-test.true c.index-rest-at.is plain) ∙ c.loop-at.invariant.same;
+          ∙ sym (block_more c.loop-at.at c.loop-at.newline c.args.rest.now c.index-rest-at.result c.loop-at-test.true c.index-rest-at.is plain) ∙ c.loop-at.invariant.same;
       inside = omega arith;
     }
 

@@ -35,7 +35,7 @@ pub loop-at-preserved : goal.loop-at-preserved
 loop-at-preserved c = record {
   same = sym (text_char c.index-rest-0.result c.loop-at.at c.args.rest.now c.index-rest-at.result c.loop-at-test.true c.index-rest-at.is c.if-c-quote.false c.if-c-eq92.false (sym c.is_line_terminator.ensures ∙ c.if-is_line_terminator.false)) ∙ c.loop-at.invariant.same;
   inside = omega arith;
-  }
+}
 
 pub returns : goal.returns
 returns c = c.fault-2.ensures ∙ sym (text_end c.index-rest-0.result c.loop-at.at c.args.rest.now (let h : length c.args.rest.now ≤ c.loop-at.at = omega arith in h)) ∙ c.loop-at.invariant.same

@@ -13,8 +13,8 @@ loop-at-preserved-then-c-eq92 c =
     let n = c.escape_length.ensures.value ∙ ap escape_length (take_rest text (at + 1)) in
     record {
       same = ap (λ u. u ++ cooked_from 0 (drop (at + (1 + c.escape_length.result)) text)) units
-        ∙ ap (λ m. (c.loop-at.units.items ++ escape_units (drop (at + 1) text)) ++ cooked_from 0 (drop (at + (1 + m)) text)) n
-        ∙ cooked_escape c.loop-at.units.items at text c.index-text-at.result c.loop-at-test.true c.index-text-at.is c.if-c-eq92.true ∙ c.loop-at.invariant.same;
+          ∙ ap (λ m. (c.loop-at.units.items ++ escape_units (drop (at + 1) text)) ++ cooked_from 0 (drop (at + (1 + m)) text)) n
+          ∙ cooked_escape c.loop-at.units.items at text c.index-text-at.result c.loop-at-test.true c.index-text-at.is c.if-c-eq92.true ∙ c.loop-at.invariant.same;
       inside = omega (arith, c.escape_length.ensures.within, ap length (take_rest text (at + 1)), length-drop (at + 1) text);
     }
 
@@ -25,7 +25,7 @@ loop-at-preserved c =
     let units = c.in_ok-push_character.ensures.ok ∙ ap (λ y. c.loop-at.units.items ++ character_units c.index-text-at.result y) c.peek.ensures in
     record {
       same = ap (λ u. u ++ cooked_from 0 (drop (at + 1) text)) units
-        ∙ cooked_char c.loop-at.units.items at text c.index-text-at.result c.loop-at-test.true c.index-text-at.is c.if-c-eq92.false ∙ c.loop-at.invariant.same;
+          ∙ cooked_char c.loop-at.units.items at text c.index-text-at.result c.loop-at-test.true c.index-text-at.is c.if-c-eq92.false ∙ c.loop-at.invariant.same;
       inside = omega arith;
     }
 
