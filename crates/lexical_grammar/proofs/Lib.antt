@@ -1,0 +1,4 @@
+pub mod Escapes
+pub mod TemplateLemmas
+pub mod TextLemmas
+pub mod WordLemmas

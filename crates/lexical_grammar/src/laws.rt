@@ -1,0 +1,24 @@
+//! The laws.
+
+ghost use Rattle.std.specs.Prelude.{◌≡◌, ℕ, List, ◌∷◌};
+ghost use Rattle.es6_lexer.specs.Quoted.{text_element, template_element};
+ghost use Rattle.es6_lexer.specs.Elements.{word_element};
+ghost use Rattle.lexical_grammar.specs.Grammar.{IsTextOrFault, IsTemplateOrFault, IsWordOrFault};
+
+/// What is read at a quote is a string literal of the grammar, or the fault that stops it.
+pub fn texts()
+    ensures { (quote : ℕ) (rest : List ℕ) → IsTextOrFault quote rest (text_element (quote ∷ rest)) }
+{
+}
+
+/// What is read at a `` ` `` or a `}` is a stretch of a template, or the fault that stops it.
+pub fn templates()
+    ensures { (first : ℕ) (rest : List ℕ) → IsTemplateOrFault rest (template_element (first ∷ rest)) }
+{
+}
+
+/// What is read at the start of an identifier is the longest one, or the fault of an escape in it.
+pub fn words()
+    ensures { (first : ℕ) (rest : List ℕ) → IsWordOrFault rest (word_element (first ∷ rest)) }
+{
+}
