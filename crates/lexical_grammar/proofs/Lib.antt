@@ -1,4 +1,6 @@
+pub mod CommentLemmas
 pub mod Escapes
+pub mod PunctuatorLemmas
 pub mod TemplateLemmas
 pub mod TextLemmas
 pub mod WordLemmas

@@ -1,13 +1,15 @@
 -- The lexical grammar in its productions (11), each with what follows its text.
-use Rattle.std.specs.Prelude.{◌≡◌, ℕ, ◌+◌, ◌⊎◌, Bool, true, false, ◌&&◌, ◌||◌, ◌==◌, List, [], ◌∷◌, ◌++◌, length, slice_index}
-use Rattle.std.specs.List.{list_all}
+use Rattle.std.specs.Prelude.{◌≡◌, ℕ, ◌+◌, ◌≤◌, ◌⊎◌, Bool, true, false, not, ◌&&◌, ◌||◌, ◌==◌, List, [], ◌∷◌, ◌++◌, length, slice_index}
+use Rattle.std.specs.List.{list_all, list_any}
 use Rattle.es6_lexer.specs.declared.token.LexicalKind.{LexicalKind}
-use Rattle.es6_lexer.specs.declared.token.LexicalKind.TheVariants.{OpenString, OpenTemplate, IdentifierEscape}
+use Rattle.es6_lexer.specs.declared.token.LexicalKind.TheVariants.{OpenString, OpenTemplate, OpenComment, IdentifierEscape, BadCharacter}
 use Rattle.es6_lexer.specs.declared.shape.Element.{Element}
 use Rattle.es6_lexer.specs.declared.shape.Element.TheVariants.{Finished, Skip, Take, Stop}
 use Rattle.es6_lexer.specs.declared.shape.Shape.TheVariants.{OfWord, OfPunctuator, OfNumber, OfText, OfTemplate}
 use Rattle.es6_lexer.specs.declared.shape.EscapeEnd.TheVariants.{Spelled, Wrong}
 use Rattle.es6_lexer.specs.Classes.{is_line_terminator, is_identifier_part, goes_on}
+use Rattle.es6_lexer.specs.declared.token.Punctuator.{Punctuator}
+use Rattle.es6_lexer.specs.Punctuators.{spelling}
 use Rattle.es6_lexer.specs.Quoted.{escape}
 
 -- characters and escapes, none of which stops the literal, and what follows them
@@ -77,3 +79,26 @@ IsWordOrFault rest (Take OfText n) = ⊥
 IsWordOrFault rest (Take (OfPunctuator p) n) = ⊥
 IsWordOrFault rest (Take (OfNumber v) n) = ⊥
 IsWordOrFault rest (Take (OfTemplate last) n) = ⊥
+
+-- a punctuator is spelled in front, and no longer one; or none is (11.7)
+abbrev pub IsPunctuator : List ℕ → Element → Type 0
+IsPunctuator rest (Take (OfPunctuator p) n) = (after : List ℕ) × (rest ≡ spelling p ++ after) × (n ≡ length (spelling p)) × ((q : Punctuator) (more : List ℕ) → rest ≡ spelling q ++ more → length (spelling q) ≤ n)
+IsPunctuator rest (Stop kind at) = (kind ≡ BadCharacter) × (at ≡ 0) × ((q : Punctuator) (more : List ℕ) → rest ≡ spelling q ++ more → ⊥)
+IsPunctuator rest Finished = ⊥
+IsPunctuator rest (Skip n line) = ⊥
+IsPunctuator rest (Take OfWord n) = ⊥
+IsPunctuator rest (Take OfText n) = ⊥
+IsPunctuator rest (Take (OfNumber v) n) = ⊥
+IsPunctuator rest (Take (OfTemplate last) n) = ⊥
+
+-- no `*/` is in the text (11.4)
+abbrev pub has_no_close : List ℕ → Bool
+has_no_close [] = true
+has_no_close (c ∷ cs) = not (c == 42 && slice_index cs 0 == 47) && has_no_close cs
+
+-- behind `/*`, of which n characters were read: up to the first `*/`, with a mark for a line terminator among the characters; or no `*/` comes
+abbrev pub IsComment : ℕ → Bool → List ℕ → Element → Type 0
+IsComment i newline rest (Skip n line) = (body : List ℕ) × (after : List ℕ) × (rest ≡ body ++ (42 ∷ 47 ∷ after)) × (n ≡ i + length body + 2) × (has_no_close (body ++ (42 ∷ [])) ≡ true) × (line ≡ (newline || list_any is_line_terminator body))
+IsComment i newline rest (Stop kind at) = (kind ≡ OpenComment) × (at ≡ 0) × (has_no_close rest ≡ true)
+IsComment i newline rest Finished = ⊥
+IsComment i newline rest (Take shape n) = ⊥

@@ -1,9 +1,10 @@
 //! The laws.
 
-ghost use Rattle.std.specs.Prelude.{◌≡◌, ℕ, List, ◌∷◌};
-ghost use Rattle.es6_lexer.specs.Quoted.{text_element, template_element};
+ghost use Rattle.std.specs.Prelude.{◌≡◌, ℕ, List, ◌∷◌, false};
+ghost use Rattle.es6_lexer.specs.Quoted.{text_element, template_element, block_comment};
+ghost use Rattle.es6_lexer.specs.Punctuators.{punctuator_element};
 ghost use Rattle.es6_lexer.specs.Elements.{word_element};
-ghost use Rattle.lexical_grammar.specs.Grammar.{IsTextOrFault, IsTemplateOrFault, IsWordOrFault};
+ghost use Rattle.lexical_grammar.specs.Grammar.{IsTextOrFault, IsTemplateOrFault, IsWordOrFault, IsPunctuator, IsComment};
 
 /// What is read at a quote is a string literal of the grammar, or the fault that stops it.
 pub fn texts()
@@ -20,5 +21,17 @@ pub fn templates()
 /// What is read at the start of an identifier is the longest one, or the fault of an escape in it.
 pub fn words()
     ensures { (first : ℕ) (rest : List ℕ) → IsWordOrFault rest (word_element (first ∷ rest)) }
+{
+}
+
+/// What is read where a punctuator may stand is the longest one that is spelled there.
+pub fn punctuators()
+    ensures { (rest : List ℕ) → IsPunctuator rest (punctuator_element rest) }
+{
+}
+
+/// What is read at a `/*` ends with the first `*/`.
+pub fn comments()
+    ensures { (first second : ℕ) (rest : List ℕ) → IsComment 2 false rest (block_comment (first ∷ second ∷ rest)) }
 {
 }

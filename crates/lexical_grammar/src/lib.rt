@@ -4,4 +4,4 @@
 
 mod laws;
 
-pub use laws::{texts, templates, words};
+pub use laws::{comments, punctuators, templates, texts, words};
