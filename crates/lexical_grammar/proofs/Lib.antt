@@ -1,5 +1,6 @@
 pub mod CommentLemmas
 pub mod Escapes
+pub mod FrontLemmas
 pub mod NumberLemmas
 pub mod PunctuatorLemmas
 pub mod TemplateLemmas

@@ -15,7 +15,8 @@ use Rattle.es6_lexer.specs.declared.shape.Shape.TheVariants.{OfNumber}
 use Rattle.es6_lexer.specs.Classes.{is_decimal_digit, is_digit_of, is_identifier_part, run_of, goes_on}
 use Rattle.es6_lexer.specs.Numbers.{digits_value, whole, ended, prefixed, decimal, number_element, fraction_length, exponent_length, sign_end, radix_of}
 use Rattle.es6_lexer.proofs.Runs.{run_within}
-use Rattle.std.proofs.lemmas.Bool.{or_cases}
+use Rattle.std.proofs.lemmas.Bool.{or_cases, cond-true, cases_lt, not-false}
+use Rattle.std.proofs.Common.{eq-eqb, lt-ltb, ltb-true}
 use Rattle.es6_lexer.specs.Elements.{IsInside}
 use Rattle.es6_lexer.proofs.Within.{BeginsNumber, number_inside, decimal_digit, is_there_digit}
 use Rattle.lexical_grammar.specs.Literals.{IsDigits, IsFraction, IsSign, IsExponent, IsPrefix, Literal, decimal_integer, decimal_marked, prefixed_integer, IsNumber}
@@ -96,3 +97,139 @@ ended_is v n cs inside lit =
     by_cases (λ e. IsInside (length cs) e → IsNumber cs e) (goes_on is_identifier_part (drop n cs)) _ _
       (λ t. λ i. (refl, inr (inl (refl, v, take n cs, drop n cs, split, lit, t))))
       (λ f. λ i. (take n cs, drop n cs, split, sym (length-take-le n cs i.1), lit, f)) inside
+
+taken_some : (k : ℕ) (cs : List ℕ) → 1 ≤ k → (cs ≡ [] → k ≡ 0) → 1 ≤ length (take k cs)
+taken_some zero cs h e = absurd (omega arith)
+taken_some (suc k) [] h e = let z : suc k ≡ 0 = e refl in absurd (omega arith)
+taken_some (suc k) (c ∷ cs) h e = omega arith
+
+no_exponent : (cs : List ℕ) → cs ≡ [] → exponent_length cs ≡ 0
+unfolding exponent_length
+no_exponent [] e = refl
+no_exponent (c ∷ cs) e = cc
+
+no_fraction : (cs : List ℕ) → cs ≡ [] → fraction_length cs ≡ 0
+no_fraction [] e = refl
+no_fraction (c ∷ cs) e = cc
+
+-- a fraction begins with a point
+fraction_at_point : (cs : List ℕ) → slice_index cs 0 ≡ 46 → fraction_length cs ≡ 1 + run_of (is_digit_of 10) (drop 1 cs)
+fraction_at_point cs e = cond-true (eqb (slice_index cs 0) 46) _ _ (eq-eqb (slice_index cs 0) 46 e)
+
+point_two : (cs : List ℕ) → slice_index cs 0 ≡ 46 → is_decimal_digit (slice_index cs 1) ≡ true → 2 ≤ length (take (fraction_length cs) cs)
+point_two [] e d = cc
+point_two (c ∷ cs) e d =
+    let n = run_of (is_digit_of 10) cs in
+    let one : 1 + n ≡ suc n = omega arith in
+    let some = digits_least cs d in
+    rw (fraction_at_point (c ∷ cs) e, one) (omega arith)
+
+point_is_no_digit : (cs : List ℕ) → slice_index cs 0 ≡ 46 → run_of (is_digit_of 10) cs ≡ 0
+point_is_no_digit cs e = run_none (is_digit_of 10) cs (ap (is_digit_of 10) e)
+
+enough : (cs : List ℕ) → BeginsNumber cs → let n = run_of (is_digit_of 10) cs in (1 ≤ length (take n cs)) ⊎ (2 ≤ length (take (fraction_length (drop n cs)) (drop n cs)))
+enough cs (inl d) = inl (digits_least cs d)
+enough cs (inr p) = inr (subst (λ n. 2 ≤ length (take (fraction_length (drop n cs)) (drop n cs))) (sym (point_is_no_digit cs p.0)) (point_two cs p.0 p.1))
+
+has_digit : (cs : List ℕ) → BeginsNumber cs → fraction_length (drop (run_of (is_digit_of 10) cs) cs) ≡ 0 → 1 ≤ length (take (run_of (is_digit_of 10) cs) cs)
+has_digit cs (inl d) z = digits_least cs d
+has_digit cs (inr p) z =
+    let none : fraction_length cs ≡ 0 = subst (λ n. fraction_length (drop n cs) ≡ 0) (point_is_no_digit cs p.0) z in
+    absurd (omega (arith, fraction_at_point cs p.0))
+
+zero_alone : (cs : List ℕ) (n : ℕ) → n ≤ length cs → (eqb (slice_index cs 0) 48 && nat_lt 1 n) ≡ false → slice_index (take n cs) 0 ≡ 48 → length (take n cs) ≤ 1
+zero_alone cs n h f e = elim (cases_lt 1 n) [
+    inl more ↦ (let some : 0 < n = omega arith in
+      let head = sym (get_or-take n cs 0 0 some) ∙ e in
+      let both_true : (eqb (slice_index cs 0) 48 && nat_lt 1 n) ≡ true = rw (eq-eqb (slice_index cs 0) 48 head, lt-ltb 1 n more) refl in absurd (cc))
+  | inr few ↦ omega (arith, few, length-take-le n cs h)
+  ]
+
+decimal_is : (cs : List ℕ) → BeginsNumber cs → IsInside (length cs) (decimal cs) → IsNumber cs (decimal cs)
+unfolding decimal
+decimal_is cs begin inside =
+    let n = run_of (is_digit_of 10) cs in
+    let f = fraction_length (drop n cs) in
+    let m = n + f in
+    let x = exponent_length (drop m cs) in
+    let e = m + x in
+    let Q : Element → Type 0 = λ r. IsInside (length cs) r → IsNumber cs r in
+    let within = run_within (is_digit_of 10) cs in
+    let digits = run_passes (is_digit_of 10) cs in
+    by_cases Q (eqb (slice_index cs 0) 48 && nat_lt 1 n) _ _
+      (λ t. λ i. let two = both _ _ t in (refl, inl (refl, eqb-true (slice_index cs 0) 48 two.0, run_has (is_digit_of 10) cs 1 (ltb-true 1 n two.1))))
+      (λ z. by_cases Q (eqb e n) _ _
+        (λ t. λ i. let same : e ≡ n = eqb-true e n t in let none : f ≡ 0 = omega arith in
+          ended_is (whole (digits_value 10 (take n cs))) n cs i
+            (decimal_integer (take n cs) (drop n cs) digits (has_digit cs begin none) (zero_alone cs n within z) (λ p. let some = fraction_at_point (drop n cs) p in omega arith)))
+        (λ t. λ i.
+          let differ : e ≡ n → ⊥ = eqb-false e n t in
+          let ds = take n cs in
+          let fs = take f (drop n cs) in
+          let es = take x (drop m cs) in
+          let text : take e cs ≡ ds ++ (fs ++ es) = take-add m x cs ∙ ap (λ y. y ++ es) (take-add n f cs) ∙ append_assoc ds fs es in
+          let some : 1 ≤ length fs + length es = elim (cases_lt 0 f) [
+              inl more ↦ (let l = taken_some f (drop n cs) more (λ q. no_fraction (drop n cs) q) in omega arith)
+            | inr few ↦ (let pos : 1 ≤ x = omega arith in let l = taken_some x (drop m cs) pos (λ q. no_exponent (drop m cs) q) in omega arith)
+            ] in
+          ended_is Marked e cs i (subst (λ y. Literal Marked y (drop e cs)) (sym text)
+            (decimal_marked ds fs es (drop e cs) digits (zero_alone cs n within z) (fraction_is (drop n cs)) (exponent_is (drop m cs)) some (enough cs begin)))))
+      inside
+
+not_zero : (radix : ℕ) → IsPrefix radix 0 → ⊥
+not_zero radix (inl (r, inl e)) = omega arith
+not_zero radix (inl (r, inr e)) = omega arith
+not_zero radix (inr (inl (r, inl e))) = omega arith
+not_zero radix (inr (inl (r, inr e))) = omega arith
+not_zero radix (inr (inr (r, inl e))) = omega arith
+not_zero radix (inr (inr (r, inr e))) = omega arith
+
+letters : (a b : ℕ) (c : ℕ) → (eqb c a || eqb c b) ≡ true → (c ≡ a) ⊎ (c ≡ b)
+letters a b c t = elim (or_cases (eqb c a) (eqb c b) t) [ inl x ↦ inl (eqb-true c a x) | inr y ↦ inr (eqb-true c b y) ]
+
+prefix_tests : (cs : List ℕ) → eqb (radix_of cs) 10 ≡ false → (slice_index cs 0 ≡ 48) × IsPrefix (radix_of cs) (slice_index cs 1)
+prefix_tests cs f =
+    let c = slice_index cs 1 in
+    let Q : ℕ → Type 0 = λ r. eqb r 10 ≡ false → (slice_index cs 0 ≡ 48) × IsPrefix r c in
+    by_cases Q (not (eqb (slice_index cs 0) 48)) _ _ (λ t. λ g. cc)
+      (λ z. let zero_first : slice_index cs 0 ≡ 48 = eqb-true (slice_index cs 0) 48 (not-false (eqb (slice_index cs 0) 48) z) in
+        by_cases Q (eqb c 120 || eqb c 88) _ _ (λ t. λ g. (zero_first, inl (refl, letters 120 88 c t)))
+          (λ a. by_cases Q (eqb c 111 || eqb c 79) _ _ (λ t. λ g. (zero_first, inr (inl (refl, letters 111 79 c t))))
+            (λ b. by_cases Q (eqb c 98 || eqb c 66) _ _ (λ t. λ g. (zero_first, inr (inr (refl, letters 98 66 c t))))
+              (λ d. λ g. cc)))) f
+
+prefix_is : (cs : List ℕ) → eqb (radix_of cs) 10 ≡ false → (mark : ℕ) × (after : List ℕ) × (cs ≡ 48 ∷ mark ∷ after) × IsPrefix (radix_of cs) mark
+prefix_is [] f = absurd (let t = prefix_tests [] f in let z : 0 ≡ 48 = t.0 in omega arith)
+prefix_is (c ∷ []) f = absurd (not_zero _ ((prefix_tests (c ∷ []) f).1))
+prefix_is (c ∷ mark ∷ after) f = let t = prefix_tests (c ∷ mark ∷ after) f in (mark, after, ap (λ x. x ∷ mark ∷ after) t.0, t.1)
+
+prefixed_at : (radix mark : ℕ) (after : List ℕ) → IsPrefix radix mark → radix ≡ radix_of (48 ∷ mark ∷ after) → IsInside (length (48 ∷ mark ∷ after)) (prefixed radix (48 ∷ mark ∷ after)) → IsNumber (48 ∷ mark ∷ after) (prefixed radix (48 ∷ mark ∷ after))
+unfolding prefixed
+prefixed_at radix mark after p same inside =
+    let cs = 48 ∷ mark ∷ after in
+    let n = run_of (is_digit_of radix) after in
+    let Q : Element → Type 0 = λ r. IsInside (length cs) r → IsNumber cs r in
+    let stop = run_ends (is_digit_of radix) after in
+    by_cases Q (eqb n 0) _ _
+      (λ t. λ i. let none : n ≡ 0 = eqb-true n 0 t in
+        (refl, inr (inr (refl, mark, after, refl, subst (λ r. IsPrefix r mark) same p, subst (λ r. goes_on (is_digit_of r) after ≡ false) same (subst (λ k. goes_on (is_digit_of radix) (drop k after) ≡ false) none stop)))))
+      (λ f. λ i.
+        let some : n ≡ 0 → ⊥ = eqb-false n 0 f in
+        let two : 2 + n ≡ suc (suc n) = omega arith in
+        let least : 1 ≤ length (take n after) = omega (arith, length-take-le n after (run_within (is_digit_of radix) after)) in
+        ended_is (whole (digits_value radix (take n after))) (2 + n) cs i
+          (subst (λ k. Literal (whole (digits_value radix (take n after))) (take k cs) (drop (2 + n) cs)) (sym two)
+            (prefixed_integer radix mark (take n after) (drop (2 + n) cs) p (run_passes (is_digit_of radix) after) least)))
+      inside
+
+prefixed_is : (cs : List ℕ) → eqb (radix_of cs) 10 ≡ false → IsInside (length cs) (prefixed (radix_of cs) cs) → IsNumber cs (prefixed (radix_of cs) cs)
+prefixed_is cs f inside =
+    let p = prefix_is cs f in
+    let back = sym p.2 in
+    subst (λ x. IsNumber x (prefixed (radix_of cs) x)) back
+      (prefixed_at (radix_of cs) p.0 p.1 p.3 (ap radix_of p.2) (subst (λ x. IsInside (length x) (prefixed (radix_of cs) x)) p.2 inside))
+
+pub number_is : (cs : List ℕ) → BeginsNumber cs → 0 < length cs → IsNumber cs (number_element cs)
+number_is cs begin h =
+    by_cases (λ e. IsInside (length cs) e → IsNumber cs e) (eqb (radix_of cs) 10) _ _
+      (λ t. λ i. decimal_is cs begin i) (λ f. λ i. prefixed_is cs f i) (number_inside cs begin h)

@@ -7,7 +7,7 @@ use Rattle.es6_lexer.specs.declared.token.LexicalKind.TheVariants.{LegacyOctal, 
 use Rattle.es6_lexer.specs.declared.shape.Element.{Element}
 use Rattle.es6_lexer.specs.declared.shape.Element.TheVariants.{Finished, Skip, Take, Stop}
 use Rattle.es6_lexer.specs.declared.shape.Shape.TheVariants.{OfWord, OfPunctuator, OfNumber, OfText, OfTemplate}
-use Rattle.es6_lexer.specs.Classes.{is_digit_of, is_identifier_part, goes_on}
+use Rattle.es6_lexer.specs.Classes.{is_decimal_digit, is_digit_of, is_identifier_part, goes_on}
 use Rattle.es6_lexer.specs.Numbers.{digits_value, whole, radix_of}
 
 abbrev pub IsDigits : ℕ → List ℕ → Type 0
@@ -34,6 +34,10 @@ pub data Literal : NumberToken → List ℕ → List ℕ → Type 0 where
   decimal_marked : (ds fs es after : List ℕ) → IsDigits 10 ds → (slice_index ds 0 ≡ 48 → length ds ≤ 1) → IsFraction fs → IsExponent es → 1 ≤ length fs + length es → (1 ≤ length ds) ⊎ (2 ≤ length fs)
     → Literal Marked (ds ++ (fs ++ es)) after
   prefixed_integer : (radix letter : ℕ) (ds after : List ℕ) → IsPrefix radix letter → IsDigits radix ds → 1 ≤ length ds → Literal (whole (digits_value radix ds)) (48 ∷ letter ∷ ds) after
+
+-- what a number begins with: a digit, or a point and a digit
+abbrev pub BeginsNumber : List ℕ → Type 0
+BeginsNumber cs = (is_decimal_digit (slice_index cs 0) ≡ true) ⊎ ((slice_index cs 0 ≡ 46) × (is_decimal_digit (slice_index cs 1) ≡ true))
 
 -- a literal and the characters behind it, which are no part of an identifier; or why there is none
 abbrev pub IsNumber : List ℕ → Element → Type 0

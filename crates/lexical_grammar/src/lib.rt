@@ -4,4 +4,4 @@
 
 mod laws;
 
-pub use laws::{comments, punctuators, templates, texts, words};
+pub use laws::{comments, numbers, punctuators, templates, texts, tokens, words};
