@@ -1,14 +1,14 @@
 -- What is read in front of a text is what its productions say.
-use Rattle.std.proofs.Common.{◌≡◌, ℕ, ◌+◌, ◌<◌, ◌⊎◌, inl, inr, Bool, true, false, cond, ◌&&◌, ◌||◌, List, [], ◌∷◌, ◌++◌, suc, length, take, drop, eq-eqb, refl, sym, ap, subst, ◌∙◌, arith}
+use Rattle.std.proofs.Common.{◌≡◌, ℕ, ◌+◌, ◌⊎◌, inl, inr, Bool, true, false, ◌&&◌, ◌||◌, List, [], ◌∷◌, suc, length, take, drop, eq-eqb, refl, sym, subst, arith}
 use Rattle.std.specs.Prelude.{eqb, slice_index}
-use Rattle.std.proofs.lemmas.Bool.{eqb-true, eqb-false, or_cases, and_cases}
+use Rattle.std.proofs.lemmas.Bool.{eqb-true, eqb-false, or_cases}
 use Rattle.std.proofs.lemmas.List.{take-append-drop, length-take-le}
 use Rattle.es6_lexer.specs.declared.token.Token.{Token}
 use Rattle.es6_lexer.specs.declared.token.LexicalKind.TheVariants.{IdentifierEscape}
 use Rattle.es6_lexer.specs.Quoted as quoted
 use Rattle.es6_lexer.specs.declared.shape.Element.{Element}
-use Rattle.es6_lexer.specs.declared.shape.Element.TheVariants.{Finished, Skip, Take, Stop}
-use Rattle.es6_lexer.specs.Classes.{is_white_space, is_line_terminator, is_not_line_terminator, is_identifier_start, is_decimal_digit, is_quote, run_of, goes_on}
+use Rattle.es6_lexer.specs.declared.shape.Element.TheVariants.{Skip, Stop}
+use Rattle.es6_lexer.specs.Classes.{is_white_space, is_line_terminator, is_not_line_terminator, is_identifier_start, is_decimal_digit, is_quote, run_of}
 use Rattle.es6_lexer.specs.Elements.{element, marked_element, slash_element}
 use Rattle.es6_lexer.specs.Lexes.{LexesFrom, closes}
 use Rattle.es6_lexer.specs.Lexes as lexes
@@ -68,35 +68,35 @@ comment closing rest =
     let size = length-take-le n rest (run_within is_not_line_terminator rest) in
     let count : 2 + length (take n rest) ≡ 1 + suc n = omega (arith, size) in
     subst (λ k. Front closing (47 ∷ 47 ∷ rest) (Skip k false)) count
-      (subst (λ x. Front closing (47 ∷ 47 ∷ x) (Skip (2 + length (take n rest)) false)) (take-append-drop n rest)
-        (line_comment (take n rest) (drop n rest) (run_passes is_not_line_terminator rest) (run_ends is_not_line_terminator rest)))
+    (subst (λ x. Front closing (47 ∷ 47 ∷ x) (Skip (2 + length (take n rest)) false)) (take-append-drop n rest)
+    (line_comment (take n rest) (drop n rest) (run_passes is_not_line_terminator rest) (run_ends is_not_line_terminator rest)))
 
 slash_is : (closing : Bool) (rest : List ℕ) → IsMarked closing 47 → Front closing (47 ∷ rest) (slash_element (47 ∷ rest))
 slash_is closing rest m =
     by_cases (Front closing (47 ∷ rest)) (eqb (slice_index rest 0) 47) _ _
-      (λ t. let b = begins rest 46 (eqb-true (slice_index rest 0) 47 t) in
-        subst (λ x. Front closing (47 ∷ x) (Skip (1 + run_of is_not_line_terminator x) false)) (sym b.1) (comment closing b.0))
-      (λ f. by_cases (Front closing (47 ∷ rest)) (eqb (slice_index rest 0) 42) _ _
-        (λ t. let b = begins rest 41 (eqb-true (slice_index rest 0) 42 t) in
-          subst (λ x. Front closing (47 ∷ x) (quoted.block_comment (47 ∷ x))) (sym b.1) (block_comment b.0 _ (block_comment_is 47 42 b.0)))
-        (λ g. punctuator (47 ∷ rest) _ (others closing 47 rest m
-          (λ e. λ next. elim next [ inl a ↦ eqb-false (slice_index rest 0) 47 f a | inr a ↦ eqb-false (slice_index rest 0) 42 g a ])
-          (λ e. let bad : 47 ≡ 46 = e in absurd (omega arith))) (punctuator_is (47 ∷ rest))))
+    (λ t. let b = begins rest 46 (eqb-true (slice_index rest 0) 47 t) in
+    subst (λ x. Front closing (47 ∷ x) (Skip (1 + run_of is_not_line_terminator x) false)) (sym b.1) (comment closing b.0))
+    (λ f. by_cases (Front closing (47 ∷ rest)) (eqb (slice_index rest 0) 42) _ _
+    (λ t. let b = begins rest 41 (eqb-true (slice_index rest 0) 42 t) in
+    subst (λ x. Front closing (47 ∷ x) (quoted.block_comment (47 ∷ x))) (sym b.1) (block_comment b.0 _ (block_comment_is 47 42 b.0)))
+    (λ g. punctuator (47 ∷ rest) _ (others closing 47 rest m
+    (λ e. λ next. elim next [ inl a ↦ eqb-false (slice_index rest 0) 47 f a | inr a ↦ eqb-false (slice_index rest 0) 42 g a ])
+    (λ e. let bad : 47 ≡ 46 = e in absurd (omega arith))) (punctuator_is (47 ∷ rest))))
 
 marked_is : (closing : Bool) (c : ℕ) (rest : List ℕ) → is_identifier_start c ≡ false → is_white_space c ≡ false → is_line_terminator c ≡ false → is_decimal_digit c ≡ false → is_quote c ≡ false → Front closing (c ∷ rest) (marked_element closing (c ∷ rest))
 unfolding marked_element
 marked_is closing c rest w s l d q =
     let F : Element → Type 0 = Front closing (c ∷ rest) in
     by_cases F (eqb c 96 || (closing && eqb c 125)) _ _
-      (λ t. template c rest _ (elim (or_cases (eqb c 96) _ t) [ inl a ↦ inl (eqb-true c 96 a) | inr b ↦ (let p = both _ _ b in inr (p.0, eqb-true c 125 p.1)) ]) (template_element_is c rest))
-      (λ t. by_cases F (eqb c 92) _ _ (λ e. subst (λ x. Front closing (x ∷ rest) (Stop IdentifierEscape 0)) (sym (eqb-true c 92 e)) (escape_outside rest))
-        (λ e.
-          let m : IsMarked closing c = record { no_word = w; no_white_space = s; no_line_terminator = l; no_digit = d; no_quote = q; no_template = t; no_escape = eqb-false c 92 e } in
-          by_cases F (eqb c 47) _ _
-            (λ x. let is = eqb-true c 47 x in subst (λ y. Front closing (y ∷ rest) (slash_element (y ∷ rest))) (sym is) (slash_is closing rest (subst (λ y. IsMarked closing y) is m)))
-            (λ x. by_cases F (eqb c 46 && is_decimal_digit (slice_index rest 0)) _ _
-              (λ p. let two = both _ _ p in let begin = inr (eqb-true c 46 two.0, two.1) in number (c ∷ rest) _ begin (number_is (c ∷ rest) begin (omega arith)))
-              (λ p. punctuator (c ∷ rest) _ (others closing c rest m (λ e47. absurd (eqb-false c 47 x e47)) (λ e46. no_point c _ e46 p)) (punctuator_is (c ∷ rest))))))
+    (λ t. template c rest _ (elim (or_cases (eqb c 96) _ t) [ inl a ↦ inl (eqb-true c 96 a) | inr b ↦ (let p = both _ _ b in inr (p.0, eqb-true c 125 p.1)) ]) (template_element_is c rest))
+    (λ t. by_cases F (eqb c 92) _ _ (λ e. subst (λ x. Front closing (x ∷ rest) (Stop IdentifierEscape 0)) (sym (eqb-true c 92 e)) (escape_outside rest))
+    (λ e.
+    let m : IsMarked closing c = record { no_word = w; no_white_space = s; no_line_terminator = l; no_digit = d; no_quote = q; no_template = t; no_escape = eqb-false c 92 e } in
+    by_cases F (eqb c 47) _ _
+    (λ x. let is = eqb-true c 47 x in subst (λ y. Front closing (y ∷ rest) (slash_element (y ∷ rest))) (sym is) (slash_is closing rest (subst (λ y. IsMarked closing y) is m)))
+    (λ x. by_cases F (eqb c 46 && is_decimal_digit (slice_index rest 0)) _ _
+    (λ p. let two = both _ _ p in let begin = inr (eqb-true c 46 two.0, two.1) in number (c ∷ rest) _ begin (number_is (c ∷ rest) begin (omega arith)))
+    (λ p. punctuator (c ∷ rest) _ (others closing c rest m (λ e47. absurd (eqb-false c 47 x e47)) (λ e46. no_point c _ e46 p)) (punctuator_is (c ∷ rest))))))
 
 pub front : (closing : Bool) (rest : List ℕ) → Front closing rest (element closing rest)
 unfolding element
@@ -104,11 +104,11 @@ front closing [] = at_end
 front closing (c ∷ rest) =
     let F : Element → Type 0 = Front closing (c ∷ rest) in
     by_cases F (is_identifier_start c) _ _ (λ t. word c rest _ t (word_is c rest))
-      (λ w. by_cases F (is_white_space c) _ _ (λ t. white_space c rest t)
-        (λ s. by_cases F (is_line_terminator c) _ _ (λ t. line_terminator c rest t)
-          (λ l. by_cases F (is_decimal_digit c) _ _ (λ t. number (c ∷ rest) _ (inl t) (number_is (c ∷ rest) (inl t) (omega arith)))
-            (λ d. by_cases F (is_quote c) _ _ (λ t. text c rest _ t (text_element_is c rest))
-              (λ q. marked_is closing c rest w s l d q)))))
+    (λ w. by_cases F (is_white_space c) _ _ (λ t. white_space c rest t)
+    (λ s. by_cases F (is_line_terminator c) _ _ (λ t. line_terminator c rest t)
+    (λ l. by_cases F (is_decimal_digit c) _ _ (λ t. number (c ∷ rest) _ (inl t) (number_is (c ∷ rest) (inl t) (omega arith)))
+    (λ d. by_cases F (is_quote c) _ _ (λ t. text c rest _ t (text_element_is c rest))
+    (λ q. marked_is closing c rest w s l d q)))))
 
 -- the tokens that are read are a row of gaps and tokens
 pub row : (braces : List Bool) (newline : Bool) (offset : ℕ) (rest : List ℕ) (tokens : List Token) → LexesFrom braces newline offset rest tokens → TokensFrom braces newline offset rest tokens

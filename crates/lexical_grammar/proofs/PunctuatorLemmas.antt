@@ -1,5 +1,5 @@
 -- The punctuator at the front is the longest that is spelled there.
-use Rattle.std.proofs.Common.{◌≡◌, ℕ, ◌+◌, ◌<◌, ◌≤◌, Bool, true, false, cond, ◌&&◌, List, [], ◌∷◌, ◌++◌, length, drop, refl, sym, ap, subst, ◌∙◌, arith, length-append, append_assoc, append-nil}
+use Rattle.std.proofs.Common.{◌≡◌, ℕ, ◌+◌, ◌≤◌, Bool, true, false, cond, ◌&&◌, List, [], ◌∷◌, ◌++◌, length, refl, sym, ap, subst, ◌∙◌, arith, length-append, append_assoc}
 use Rattle.std.specs.Prelude.{eqb, slice_index, Option, None, Some}
 use Rattle.std.proofs.lemmas.Bool.{eqb-true}
 use Rattle.es6_lexer.specs.declared.token.Punctuator.{Punctuator}
@@ -21,8 +21,8 @@ beside_spelled : (front : List ℕ) (rows : List (ℕ × Punctuator)) (c : ℕ) 
 beside_spelled front [] c q ok e = cc
 beside_spelled front (row ∷ rows) c q ok e =
     by_cases (λ o. o ≡ Some q → spelling q ≡ front ++ (c ∷ [])) (eqb c row.0) (Some row.1) (beside c rows)
-      (λ t. λ s. let same : row.1 ≡ q = cc in ap spelling (sym same) ∙ ok.0 ∙ ap (λ x. front ++ (x ∷ [])) (sym (eqb-true c row.0 t)))
-      (λ f. λ s. beside_spelled front rows c q ok.1 s) e
+    (λ t. λ s. let same : row.1 ≡ q = cc in ap spelling (sym same) ∙ ok.0 ∙ ap (λ x. front ++ (x ∷ [])) (sym (eqb-true c row.0 t)))
+    (λ f. λ s. beside_spelled front rows c q ok.1 s) e
 
 extensions_spelled : (p : Punctuator) → AreSpelled (spelling p) (extensions p)
 extensions_spelled LeftBrace = tt
@@ -97,9 +97,9 @@ at_least_more k m (Stop kind at) h l = absurd l
 grown_least : (p : Punctuator) (n : ℕ) (cs : List ℕ) → IsAtLeast n (grown p n cs)
 grown_least p n [] = omega arith
 grown_least p n (c ∷ cs) = elim (extended p c) as (λ o. IsAtLeast n (elim o [ None ↦ Take (OfPunctuator p) n | Some q ↦ grown q (n + 1) cs ])) [
-    None ↦ omega arith
+  | None ↦ omega arith
   | Some q ↦ at_least_more (n + 1) n (grown q (n + 1) cs) (omega arith) (grown_least q (n + 1) cs)
-  ]
+]
 
 by_cond : {A : Type 0} (P : A → Type 0) (b : Bool) (x y : A) → P x → P y → P (cond b x y)
 by_cond P true x y p q = p
@@ -204,9 +204,9 @@ none_spelled (c ∷ cs) = single_spelled c cs (single c) refl
 element_spelled : (cs : List ℕ) → IsSpelled cs (punctuator_element cs)
 element_spelled cs =
     by_cases (IsSpelled cs) (eqb (slice_index cs 0) 46 && eqb (slice_index cs 1) 46 && eqb (slice_index cs 2) 46) _ _
-      (λ t. let last = both _ _ t in let first = both _ _ last.0 in
-        ellipsis_spelled cs (eqb-true (slice_index cs 0) 46 first.0) (eqb-true (slice_index cs 1) 46 first.1) (eqb-true (slice_index cs 2) 46 last.1))
-      (λ f. none_spelled cs)
+    (λ t. let last = both _ _ t in let first = both _ _ last.0 in
+    ellipsis_spelled cs (eqb-true (slice_index cs 0) 46 first.0) (eqb-true (slice_index cs 1) 46 first.1) (eqb-true (slice_index cs 2) 46 last.1))
+    (λ f. none_spelled cs)
 
 with_longest : (rest : List ℕ) (e : Element) → IsSpelled rest e → ((q : Punctuator) (more : List ℕ) → rest ≡ spelling q ++ more → IsAtLeast (length (spelling q)) e) → IsPunctuator rest e
 with_longest rest (Take (OfPunctuator p) n) (after, split, size) least = (after, split, size, λ q more s. least q more s)
@@ -221,4 +221,4 @@ with_longest rest (Skip n line) h least = absurd h
 pub punctuator_is : (rest : List ℕ) → IsPunctuator rest (punctuator_element rest)
 punctuator_is rest =
     with_longest rest (punctuator_element rest) (element_spelled rest)
-      (λ q more s. subst (λ x. IsAtLeast (length (spelling q)) (punctuator_element x)) (sym s) (reads_own q more))
+    (λ q more s. subst (λ x. IsAtLeast (length (spelling q)) (punctuator_element x)) (sym s) (reads_own q more))

@@ -1,5 +1,5 @@
 -- What is read at the start of an identifier.
-use Rattle.std.proofs.Common.{◌≡◌, ℕ, ◌+◌, ◌<◌, ◌≤◌, Bool, true, false, cond, ◌&&◌, List, [], ◌∷◌, ◌++◌, suc, length, take, drop, refl, sym, ap, subst, ◌∙◌, arith, length-drop}
+use Rattle.std.proofs.Common.{◌≡◌, ℕ, ◌+◌, Bool, true, false, List, [], ◌∷◌, ◌++◌, suc, take, drop, refl, sym, ap, ◌∙◌, arith}
 use Rattle.std.specs.Prelude.{eqb, slice_index}
 use Rattle.std.specs.List.{list_all}
 use Rattle.std.proofs.lemmas.Bool.{eqb-true, eqb-false}
@@ -36,6 +36,6 @@ word_is first rest =
     let one : 1 + n ≡ suc n = omega arith in
     let at : slice_index (first ∷ rest) (1 + n) ≡ slice_index (drop n rest) 0 = ap (slice_index (first ∷ rest)) one ∙ sym (head_tail rest n) in
     by_cases (IsWordOrFault rest) (eqb (slice_index (first ∷ rest) (1 + n)) 92) _ _
-      (λ t. let slash = sym at ∙ eqb-true _ 92 t in let b = begins (drop n rest) 91 slash in
-        (parts, b.0, split ∙ ap (λ x. parts ++ x) b.1, ap (λ m. 1 + m) (sym size), run_passes is_identifier_part rest, refl))
-      (λ f. (parts, drop n rest, split, ap (λ m. 1 + m) (sym size), run_passes is_identifier_part rest, run_ends is_identifier_part rest, λ z. eqb-false _ 92 f (at ∙ z)))
+    (λ t. let slash = sym at ∙ eqb-true _ 92 t in let b = begins (drop n rest) 91 slash in
+    (parts, b.0, split ∙ ap (λ x. parts ++ x) b.1, ap (λ m. 1 + m) (sym size), run_passes is_identifier_part rest, refl))
+    (λ f. (parts, drop n rest, split, ap (λ m. 1 + m) (sym size), run_passes is_identifier_part rest, run_ends is_identifier_part rest, λ z. eqb-false _ 92 f (at ∙ z)))

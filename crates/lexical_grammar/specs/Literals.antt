@@ -1,5 +1,5 @@
 -- Numeric literals (11.8.3), each with what follows its text.
-use Rattle.std.specs.Prelude.{◌≡◌, ℕ, ◌+◌, ◌<◌, ◌≤◌, ◌⊎◌, Bool, true, false, List, [], ◌∷◌, ◌++◌, length, drop, slice_index}
+use Rattle.std.specs.Prelude.{◌≡◌, ℕ, ◌+◌, ◌≤◌, ◌⊎◌, true, false, List, [], ◌∷◌, ◌++◌, length, slice_index}
 use Rattle.std.specs.List.{list_all}
 use Rattle.es6_lexer.specs.declared.token.NumberToken.{NumberToken}
 use Rattle.es6_lexer.specs.declared.token.NumberToken.TheVariants.{Marked}
@@ -32,7 +32,7 @@ IsPrefix radix letter = ((radix ≡ 16) × ((letter ≡ 120) ⊎ (letter ≡ 88)
 pub data Literal : NumberToken → List ℕ → List ℕ → Type 0 where
   decimal_integer : (ds after : List ℕ) → IsDigits 10 ds → 1 ≤ length ds → (slice_index ds 0 ≡ 48 → length ds ≤ 1) → (slice_index after 0 ≡ 46 → ⊥) → Literal (whole (digits_value 10 ds)) ds after
   decimal_marked : (ds fs es after : List ℕ) → IsDigits 10 ds → (slice_index ds 0 ≡ 48 → length ds ≤ 1) → IsFraction fs → IsExponent es → 1 ≤ length fs + length es → (1 ≤ length ds) ⊎ (2 ≤ length fs)
-    → Literal Marked (ds ++ (fs ++ es)) after
+      → Literal Marked (ds ++ (fs ++ es)) after
   prefixed_integer : (radix letter : ℕ) (ds after : List ℕ) → IsPrefix radix letter → IsDigits radix ds → 1 ≤ length ds → Literal (whole (digits_value radix ds)) (48 ∷ letter ∷ ds) after
 
 -- what a number begins with: a digit, or a point and a digit

@@ -44,15 +44,15 @@ pub data Front (closing : Bool) : List ℕ → Element → Type 0 where
 -- the tokens of the rest of a text, which begins at the offset, under the open braces, a line terminator standing before it or not
 pub data TokensFrom : List Bool → Bool → ℕ → List ℕ → List Token → Type 0 where
   finished : (braces : List Bool) (newline : Bool) (offset : ℕ) (rest : List ℕ) → Front (closes braces) rest Finished
-    → TokensFrom braces newline offset rest (token_at End offset offset newline ∷ [])
+      → TokensFrom braces newline offset rest (token_at End offset offset newline ∷ [])
   stopped : (braces : List Bool) (newline : Bool) (offset : ℕ) (rest : List ℕ) (kind : LexicalKind) (at : ℕ) → Front (closes braces) rest (Stop kind at)
-    → TokensFrom braces newline offset rest (token_at (Fault kind) (offset_after offset at rest) (offset_after offset (at + 1) rest) newline ∷ [])
+      → TokensFrom braces newline offset rest (token_at (Fault kind) (offset_after offset at rest) (offset_after offset (at + 1) rest) newline ∷ [])
   skipped : (braces : List Bool) (newline : Bool) (offset : ℕ) (rest : List ℕ) (n : ℕ) (line : Bool) (tokens : List Token) → Front (closes braces) rest (Skip n line)
-    → TokensFrom braces (newline || line) (offset_after offset n rest) (drop n rest) tokens
-    → TokensFrom braces newline offset rest tokens
+      → TokensFrom braces (newline || line) (offset_after offset n rest) (drop n rest) tokens
+      → TokensFrom braces newline offset rest tokens
   taken : (braces : List Bool) (newline : Bool) (offset : ℕ) (rest : List ℕ) (shape : Shape) (n : ℕ) (tokens : List Token) → Front (closes braces) rest (Take shape n)
-    → TokensFrom (opened (kind_of shape (take n rest)) braces) false (offset_after offset n rest) (drop n rest) tokens
-    → TokensFrom braces newline offset rest (token_at (kind_of shape (take n rest)) offset (offset_after offset n rest) newline ∷ tokens)
+      → TokensFrom (opened (kind_of shape (take n rest)) braces) false (offset_after offset n rest) (drop n rest) tokens
+      → TokensFrom braces newline offset rest (token_at (kind_of shape (take n rest)) offset (offset_after offset n rest) newline ∷ tokens)
 
 -- a text is a row of gaps and tokens, up to its end or its first fault
 abbrev pub IsRowOf : List Token → List ℕ → Type 0
