@@ -11,16 +11,16 @@ use Rattle.lexical_grammar.specs.Grammar.{IsComment}
 use Rattle.lexical_grammar.proofs.Escapes.{by_cases, both}
 use Rattle.lexical_grammar.proofs.WordLemmas.{begins}
 
-or_assoc : (a b c : Bool) → ((a || b) || c) ≡ (a || (b || c))
+pub or_assoc : (a b c : Bool) → ((a || b) || c) ≡ (a || (b || c))
 or_assoc true b c = refl
 or_assoc false b c = refl
 
-or_false : (a : Bool) → a ≡ (a || false)
+pub or_false : (a : Bool) → a ≡ (a || false)
 or_false true = refl
 or_false false = refl
 
 -- the first of a `*/` is looked for in what follows: the character behind c is the same with or without what comes later
-head_same : (c : ℕ) (body after : List ℕ) → slice_index (body ++ (42 ∷ 47 ∷ after)) 0 ≡ slice_index (body ++ (42 ∷ [])) 0
+pub head_same : (c : ℕ) (body after : List ℕ) → slice_index (body ++ (42 ∷ 47 ∷ after)) 0 ≡ slice_index (body ++ (42 ∷ [])) 0
 head_same c [] after = refl
 head_same c (x ∷ body) after = refl
 

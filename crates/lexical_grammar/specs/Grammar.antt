@@ -46,9 +46,6 @@ IsText quote i rest (Take (OfPunctuator p) n) = ⊥
 IsText quote i rest (Take (OfNumber v) n) = ⊥
 IsText quote i rest (Take (OfTemplate last) n) = ⊥
 
-abbrev pub IsTextOrFault : ℕ → List ℕ → Element → Type 0
-IsTextOrFault quote rest e = IsText quote 1 rest e
-
 -- what ends a stretch
 abbrev pub stretch_end : Bool → List ℕ
 stretch_end true = 96 ∷ []
@@ -64,9 +61,6 @@ IsTemplate i rest (Take OfWord n) = ⊥
 IsTemplate i rest (Take (OfPunctuator p) n) = ⊥
 IsTemplate i rest (Take (OfNumber v) n) = ⊥
 IsTemplate i rest (Take OfText n) = ⊥
-
-abbrev pub IsTemplateOrFault : List ℕ → Element → Type 0
-IsTemplateOrFault rest e = IsTemplate 1 rest e
 
 -- the parts of an identifier, all that there are, and no `\` behind them but at the fault (11.6)
 abbrev pub IsWordOrFault : List ℕ → Element → Type 0

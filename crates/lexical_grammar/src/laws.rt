@@ -1,42 +1,48 @@
 //! The laws.
 
-ghost use Rattle.std.specs.Prelude.{◌≡◌, ◌<◌, ℕ, List, ◌∷◌, false, length};
-ghost use Rattle.es6_lexer.specs.Quoted.{text_element, template_element, block_comment};
-ghost use Rattle.es6_lexer.specs.Punctuators.{punctuator_element};
-ghost use Rattle.es6_lexer.specs.Elements.{word_element};
+ghost use Rattle.std.specs.Prelude.{◌≡◌, ◌↔◌, ◌<◌, ℕ, List, ◌∷◌, true, false, length};
+ghost use Rattle.es6_lexer.specs.declared.shape.Element.{Element};
 ghost use Rattle.es6_lexer.specs.declared.token.Token.{Token};
+ghost use Rattle.es6_lexer.specs.Classes.{is_quote};
+ghost use Rattle.es6_lexer.specs.Elements.{word_element};
 ghost use Rattle.es6_lexer.specs.Lexes.{Lexes};
 ghost use Rattle.es6_lexer.specs.Numbers.{number_element};
+ghost use Rattle.es6_lexer.specs.Punctuators.{punctuator_element};
+ghost use Rattle.es6_lexer.specs.Quoted.{block_comment, template_element, text_element};
+ghost use Rattle.lexical_grammar.specs.Grammar.{IsComment, IsPunctuator, IsTemplate, IsText, IsWordOrFault};
 ghost use Rattle.lexical_grammar.specs.Literals.{BeginsNumber, IsNumber};
 ghost use Rattle.lexical_grammar.specs.Tokens.{IsRowOf};
-ghost use Rattle.lexical_grammar.specs.Grammar.{IsTextOrFault, IsTemplateOrFault, IsWordOrFault, IsPunctuator, IsComment};
 
-/// What is read at a quote is a string literal of the grammar, or the fault that stops it.
+/// What is read at a quote is exactly the string literal of the grammar, or the fault that stops
+/// it.
 pub fn texts()
-    ensures { (quote : ℕ) (rest : List ℕ) → IsTextOrFault quote rest (text_element (quote ∷ rest)) }
+    ensures { (quote : ℕ) (rest : List ℕ) (e : Element) → is_quote quote ≡ true → (text_element (quote ∷ rest) ≡ e) ↔ IsText quote 1 rest e }
 {}
 
-/// What is read at a `` ` `` or a `}` is a stretch of a template, or the fault that stops it.
+/// What is read at a `` ` `` or a `}` is exactly the stretch of a template, or the fault that
+/// stops it.
 pub fn templates()
-    ensures { (first : ℕ) (rest : List ℕ) → IsTemplateOrFault rest (template_element (first ∷ rest)) }
+    ensures { (first : ℕ) (rest : List ℕ) (e : Element) → (template_element (first ∷ rest) ≡ e) ↔ IsTemplate 1 rest e }
 {}
 
-/// What is read at the start of an identifier is the longest one, or the fault of an escape in it.
+/// What is read at the start of an identifier is exactly the longest one, or the fault of an
+/// escape in it.
 pub fn words()
-    ensures { (first : ℕ) (rest : List ℕ) → IsWordOrFault rest (word_element (first ∷ rest)) }
+    ensures { (first : ℕ) (rest : List ℕ) (e : Element) → (word_element (first ∷ rest) ≡ e) ↔ IsWordOrFault rest e }
 {}
 
-/// What is read where a punctuator may stand is the longest one that is spelled there.
+/// What is read where a punctuator may stand is exactly the longest one that is spelled there.
 pub fn punctuators()
-    ensures { (rest : List ℕ) → IsPunctuator rest (punctuator_element rest) }
+    ensures { (rest : List ℕ) (e : Element) → (punctuator_element rest ≡ e) ↔ IsPunctuator rest e }
 {}
 
-/// What is read at a `/*` ends with the first `*/`.
+/// What is read at a `/*` ends exactly with the first `*/`.
 pub fn comments()
-    ensures { (first second : ℕ) (rest : List ℕ) → IsComment 2 false rest (block_comment (first ∷ second ∷ rest)) }
+    ensures { (first second : ℕ) (rest : List ℕ) (e : Element) → (block_comment (first ∷ second ∷ rest) ≡ e) ↔ IsComment 2 false rest e }
 {}
 
-/// What is read where a number begins is a literal of the grammar, or the fault that stops it.
+/// What is read where a number begins is a literal of the grammar that no part of an identifier
+/// follows, or the fault that stops it.
 pub fn numbers()
     ensures { (rest : List ℕ) → BeginsNumber rest → 0 < length rest → IsNumber rest (number_element rest) }
 {}
