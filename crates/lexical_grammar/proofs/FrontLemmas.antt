@@ -95,7 +95,7 @@ marked_is closing c rest w s l d q =
     by_cases F (eqb c 47) _ _
     (λ x. let is = eqb-true c 47 x in subst (λ y. Front closing (y ∷ rest) (slash_element (y ∷ rest))) (sym is) (slash_is closing rest (subst (λ y. IsMarked closing y) is m)))
     (λ x. by_cases F (eqb c 46 && is_decimal_digit (slice_index rest 0)) _ _
-    (λ p. let two = both _ _ p in let begin = inr (eqb-true c 46 two.0, two.1) in number (c ∷ rest) _ begin (number_is (c ∷ rest) begin (omega arith)))
+    (λ p. let two = both _ _ p in let begin = inr (eqb-true c 46 two.0, two.1) in number (c ∷ rest) _ begin (number_is (c ∷ rest)))
     (λ p. punctuator (c ∷ rest) _ (others closing c rest m (λ e47. absurd (eqb-false c 47 x e47)) (λ e46. no_point c _ e46 p)) (punctuator_is (c ∷ rest))))))
 
 pub front : (closing : Bool) (rest : List ℕ) → Front closing rest (element closing rest)
@@ -106,7 +106,7 @@ front closing (c ∷ rest) =
     by_cases F (is_identifier_start c) _ _ (λ t. word c rest _ t (word_is c rest))
     (λ w. by_cases F (is_white_space c) _ _ (λ t. white_space c rest t)
     (λ s. by_cases F (is_line_terminator c) _ _ (λ t. line_terminator c rest t)
-    (λ l. by_cases F (is_decimal_digit c) _ _ (λ t. number (c ∷ rest) _ (inl t) (number_is (c ∷ rest) (inl t) (omega arith)))
+    (λ l. by_cases F (is_decimal_digit c) _ _ (λ t. number (c ∷ rest) _ (inl t) (number_is (c ∷ rest)))
     (λ d. by_cases F (is_quote c) _ _ (λ t. text c rest _ t (text_element_is c rest))
     (λ q. marked_is closing c rest w s l d q)))))
 

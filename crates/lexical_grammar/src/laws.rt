@@ -1,6 +1,6 @@
 //! The laws.
 
-ghost use Rattle.std.specs.Prelude.{◌≡◌, ◌↔◌, ◌<◌, ℕ, List, ◌∷◌, true, false, length};
+ghost use Rattle.std.specs.Prelude.{◌≡◌, ◌↔◌, ℕ, List, ◌∷◌, true, false};
 ghost use Rattle.es6_lexer.specs.declared.shape.Element.{Element};
 ghost use Rattle.es6_lexer.specs.declared.token.Token.{Token};
 ghost use Rattle.es6_lexer.specs.Classes.{is_quote};
@@ -10,7 +10,7 @@ ghost use Rattle.es6_lexer.specs.Numbers.{number_element};
 ghost use Rattle.es6_lexer.specs.Punctuators.{punctuator_element};
 ghost use Rattle.es6_lexer.specs.Quoted.{block_comment, template_element, text_element};
 ghost use Rattle.lexical_grammar.specs.Grammar.{IsComment, IsPunctuator, IsTemplate, IsText, IsWordOrFault};
-ghost use Rattle.lexical_grammar.specs.Literals.{BeginsNumber, IsNumber};
+ghost use Rattle.lexical_grammar.specs.Literals.{IsNumber};
 ghost use Rattle.lexical_grammar.specs.Tokens.{IsRowOf};
 
 /// What is read at a quote is exactly the string literal of the grammar, or the fault that stops
@@ -41,11 +41,12 @@ pub fn comments()
     ensures { (first second : ℕ) (rest : List ℕ) (e : Element) → (block_comment (first ∷ second ∷ rest) ≡ e) ↔ IsComment 2 false rest e }
 {}
 
-/// What is read where a number begins is a literal of the grammar that no part of an identifier
-/// follows, or the fault that stops it.
+/// What is read where a number begins is exactly the literal of the grammar, or the fault that
+/// stops it.
 pub fn numbers()
-    ensures { (rest : List ℕ) → BeginsNumber rest → 0 < length rest → IsNumber rest (number_element rest) }
-{}
+    ensures { (rest : List ℕ) (e : Element) → (number_element rest ≡ e) ↔ IsNumber rest e }
+{
+}
 
 /// The tokens that `lex6` gives are a row of gaps and tokens, each by its production, up to the
 /// end of the text or its first fault.
