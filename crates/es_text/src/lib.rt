@@ -1,5 +1,16 @@
 //! Source texts and the places in them, which every later crate's spans and faults speak of.
+//!
+//! A text is UTF-8; what the language sees of it are its code points, and what it counts
+//! columns in are 16-bit units (ECMA-262, 6th edition, 10.1).
 #![tactic(auto)]
+
+mod lines;
+#[cfg(test)]
+mod tests;
+mod units;
+
+pub use lines::{Lines, offsets_and_places};
+pub use units::{TextFault, chars_of, push_code_point, units_of};
 
 /// A stretch of a text, in bytes from 0: the offset of its first byte, and that after its last one.
 #[derive(Clone, Copy, Debug, PartialEq, Eq)]

@@ -1,0 +1,9 @@
+use Rattle.std.proofs.Common.{◌≡◌, ◌≤◌, ◌-◌, ◌++◌, drop, length}
+use Rattle.es6_lexer.specs.Values.{cooked_from, cooked}
+use Rattle.es6_lexer.proofs.values.cooked.Given as goal
+
+abbrev pub invariant-loop-at : goal.invariant-loop-at
+invariant-loop-at l = record { same : l.units.items ++ cooked_from 0 (drop l.at l.text) ≡ cooked l.text; inside : l.at ≤ length l.text }
+
+abbrev pub decreases-loop-at : goal.decreases-loop-at
+decreases-loop-at l = length l.text - l.at

@@ -1,0 +1,7 @@
+pub mod Classes
+pub mod Elements
+pub mod Lexes
+pub mod Numbers
+pub mod Punctuators
+pub mod Quoted
+pub mod Values

@@ -1,0 +1,13 @@
+pub mod CommentLemmas
+pub mod CommentOnly
+pub mod Escapes
+pub mod FrontLemmas
+pub mod NumberLemmas
+pub mod PunctuatorLemmas
+pub mod PunctuatorOnly
+pub mod TemplateLemmas
+pub mod TemplateOnly
+pub mod TextLemmas
+pub mod TextOnly
+pub mod WordLemmas
+pub mod WordOnly
