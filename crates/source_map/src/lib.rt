@@ -1,0 +1,12 @@
+//! Source maps (Source Map Revision 3): which place of a source stands behind a place of a script.
+//! `docs/SOURCE_MAP.md` has the format and its faults.
+#![tactic(auto)]
+
+mod digits;
+mod fault;
+mod fields;
+mod map;
+mod reading;
+
+pub use fault::MapFault;
+pub use map::{Map, Segment, Target, Text};
