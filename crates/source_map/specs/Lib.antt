@@ -1,3 +1,4 @@
 pub mod Outcome
 pub mod Digits
 pub mod Segments
+pub mod Document

@@ -3,10 +3,12 @@
 #![tactic(auto)]
 
 mod digits;
+mod document;
 mod fault;
 mod fields;
 mod map;
 mod reading;
 
+pub use document::read_map;
 pub use fault::MapFault;
 pub use map::{Map, Segment, Target, Text};
