@@ -2,3 +2,4 @@ pub mod Outcome
 pub mod Digits
 pub mod Segments
 pub mod Document
+pub mod Line

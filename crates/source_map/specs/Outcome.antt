@@ -18,6 +18,11 @@ abbrev pub Gives : {A : Type 0} → Result A MapFault → Result A MapFault → 
 Gives (Ok x) outcome = outcome ≡ Ok x
 Gives (Err e) outcome = Fails e outcome
 
+-- the same of what a value is by a view
+abbrev pub GivesBy : {A B : Type 0} → (A → B) → Result A MapFault → Result B MapFault → Type 0
+GivesBy view (Ok x) outcome = outcome ≡ Ok (view x)
+GivesBy view (Err e) outcome = Fails e outcome
+
 -- what it left is the outcome, unless memory ran out
 abbrev pub Leaves : {A B : Type 0} → Result A MapFault → B → Result B MapFault → Type 0
 Leaves (Ok x) left outcome = outcome ≡ Ok left

@@ -6,9 +6,11 @@ mod digits;
 mod document;
 mod fault;
 mod fields;
+mod line;
 mod map;
 mod reading;
 
 pub use document::read_map;
 pub use fault::MapFault;
+pub use line::{HEAD, map_of_script, map_text};
 pub use map::{Map, Segment, Target, Text};
