@@ -21,7 +21,8 @@ pub(crate) fn digit(character: u8) -> Option<u8>
 #[tactic(auto, unfolding(crate::specs::Digits::letter))]
 pub(crate) fn letter_of(digit: u8) -> u8
     requires { digit < 64 }
-    ensures { result ≡ letter digit }
+    ensures letter { result ≡ letter digit }
+    ensures ascii { result < 128 }
 {
     match digit {
         0..=25 => b'A' + digit,

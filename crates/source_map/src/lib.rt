@@ -9,6 +9,7 @@ mod fields;
 mod line;
 mod map;
 mod reading;
+mod writing;
 
 pub use document::read_map;
 pub use fault::MapFault;
