@@ -45,7 +45,7 @@ after_name : (v : Values) (n : Option ℕ) → AreSmall v → IfSome n (λ n. n 
 after_name v None h small = h
 after_name v (Some n) h small = record { generated = h.generated; source = h.source; line = h.line; column = h.column; name = small }
 
-after_target : (v : Values) (t : Option Target) → AreSmall v → IfSome t IsSmallTarget → AreSmall (targeted v t)
+pub after_target : (v : Values) (t : Option Target) → AreSmall v → IfSome t IsSmallTarget → AreSmall (targeted v t)
 after_target v None h small = h
 after_target v (Some t) h small =
     after_name (placed v t) t.name (record { generated = h.generated; source = small.source; line = small.line; column = small.column; name = h.name }) small.name
@@ -55,3 +55,8 @@ AreSmall-values_to line v x w s h is values column small =
     let y = subst AreSmall (sym is) (in_line (ltb line s.generated.line) v h) in
     subst AreSmall (sym values)
     (after_target (record x { generated = s.generated.column }) s.target (record { generated = column; source = y.source; line = y.line; column = y.column; name = y.name }) small)
+
+-- seven texts, pushed one after another, of which two are known by equations
+pub pushed : (o a b c d e f g p x u q y v r z t : List ℕ) → o ≡ [] → a ≡ o ++ p → b ≡ a ++ x → x ≡ u → c ≡ b ++ q → d ≡ c ++ y → y ≡ v → e ≡ d ++ r → f ≡ e ++ z → g ≡ f ++ t
+    → g ≡ p ++ (u ++ (q ++ (v ++ (r ++ (z ++ t)))))
+pushed o a b c d e f g p x u q y v r z t h0 h1 h2 i2 h3 h4 i4 h5 h6 h7 = rw (h7, h6, h5, h4, i4, h3, h2, i2, h1, h0) (simp append_assoc)

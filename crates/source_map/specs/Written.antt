@@ -1,6 +1,7 @@
 -- The text of a map.
 use Rattle.std.specs.Prelude.{ℕ, zero, suc, ◌+◌, ◌-◌, ◌*◌, ◌/◌, ◌%◌, ◌==◌, ◌≤◌, nat_lt, nat_le, if◌then◌else◌, Bool, true, false, List, [], ◌∷◌, ◌++◌, replicate, codes, Option, Some, None, IfSome}
 use Rattle.json.specs.Print.{quoted}
+use Rattle.serde_json.specs.Written.{comma_if}
 use Rattle.source_map.specs.declared.map.Segment.{Segment}
 use Rattle.source_map.specs.declared.map.Target.{Target}
 use Rattle.source_map.specs.declared.reading.Values.{Values}
@@ -85,15 +86,14 @@ mappings_text line first v (s ∷ ss) =
 
 -- ---- the whole
 
-abbrev pub more_texts : List (List ℕ) → List ℕ
-more_texts [] = []
-more_texts (t ∷ ts) = 44 ∷ (quoted t ++ more_texts ts)
-
 -- the texts in quotes, with commas between them
-abbrev pub list_text : List (List ℕ) → List ℕ
-list_text [] = []
-list_text (t ∷ ts) = quoted t ++ more_texts ts
+abbrev pub texts_text : Bool → List (List ℕ) → List ℕ
+texts_text later [] = []
+texts_text later (t ∷ ts) = comma_if later ++ (quoted t ++ texts_text true ts)
 
-abbrev pub document_text : List (List ℕ) → List (List ℕ) → List ℕ → List ℕ
+abbrev pub list_text : List (List ℕ) → List ℕ
+list_text ts = texts_text false ts
+
+unfoldable pub document_text : List (List ℕ) → List (List ℕ) → List ℕ → List ℕ
 document_text sources names mappings =
     codes "{\"version\":3,\"sources\":[" ++ (list_text sources ++ (codes "],\"names\":[" ++ (list_text names ++ (codes "],\"mappings\":" ++ (quoted mappings ++ codes "}")))))

@@ -8,10 +8,12 @@ mod fault;
 mod fields;
 mod line;
 mod map;
+mod print;
 mod reading;
 mod writing;
 
 pub use document::read_map;
 pub use fault::MapFault;
 pub use line::{HEAD, map_of_script, map_text};
+pub use print::write_map;
 pub use map::{Map, Segment, Target, Text};
