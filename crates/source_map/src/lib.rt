@@ -6,6 +6,7 @@ mod digits;
 mod document;
 mod fault;
 mod fields;
+mod find;
 mod line;
 mod map;
 mod print;
