@@ -98,15 +98,15 @@ digit_at at d s =
     if nat_lt limit (number / 2) then bad_digit (begun_at at s) s else
     Ok (record s { fields = s.fields ++ (record { at = begun_at at s; number = number }) ∷ []; begun = begun_at at s; number = 0; weight = 1 })))
 
+abbrev pub digit_or_fault : ℕ → Reading → Option ℕ → Result Reading MapFault
+digit_or_fault at s None = bad_digit at s
+digit_or_fault at s (Some d) = digit_at at d s
+
 unfoldable pub character_at : ℕ → ℕ → Reading → Result Reading MapFault
 character_at at c s =
     if c == 59 then (end_line s >>= λ t. Ok (record t { line = t.line + 1; values = record t.values { generated = 0 }; first = true; start = at + 1 })) else (
     if c == 44 then (end_segment s >>= λ t. Ok (record t { first = false; start = at + 1 })) else
-    unwrap_digit (digit_of c))
-    where
-      unwrap_digit : Option ℕ → Result Reading MapFault
-      unwrap_digit None = bad_digit at s
-      unwrap_digit (Some d) = digit_at at d s
+    digit_or_fault at s (digit_of c))
 
 -- the characters from the place `at` on
 unfoldable pub characters_from : ℕ → List ℕ → Reading → Result Reading MapFault

@@ -2,6 +2,7 @@
 ghost use Rattle.std.specs.Prelude.{◌≡◌, Some, IfOk, option_and_then, option_map};
 ghost use Rattle.serde_json.specs.Find.{get, as_array, as_str};
 ghost use Rattle.serde_json.specs.View.{view, items_view};
+ghost use Rattle.source_map.specs.Maps.{IsMap};
 ghost use Rattle.source_map.specs.Outcome.{Gives};
 ghost use Rattle.source_map.specs.Document.{texts, texts_at, version_of, is_number, map_of_data, map_of, or_bad_json};
 
@@ -67,6 +68,7 @@ fn map_in(alloc: Global, document: &Value) -> Result<Map, MapFault>
 /// The map that a text is. `docs/SOURCE_MAP.md` has the faults, of which the first counts.
 pub fn read_map(alloc: Global, text: &[u8]) -> Result<Map, MapFault>
     ensures exact { Gives result (map_of text.now) }
+    ensures valid { IfOk result IsMap }
 {
     match Value::from_slice(alloc, text) {
         Ok(document) => map_in(alloc, &document),
