@@ -1,6 +1,6 @@
 -- A field that is written is read back.
-use Rattle.std.proofs.Common.{◌≡◌, ◌≢◌, ℕ, zero, suc, ◌+◌, ◌-◌, ◌*◌, ◌/◌, ◌%◌, ◌^◌, ◌<◌, ◌≤◌, ◌==◌, ltb, leb, List, [], ◌∷◌, ◌++◌, Bool, true, false, cond, Option, Some, None, Ok, ◌⊎◌, inl, inr, refl, sym, ap, ◌∙◌, subst, arith, lit≤}
-use Rattle.std.proofs.lemmas.Bool.{le-ltb, lt-ltb, le-leb, lt-leb, ne_eqb, cases_Bool, ltb-true, leb-true, leb-false}
+use Rattle.std.proofs.Common.{◌≡◌, ◌≢◌, ℕ, zero, suc, ◌+◌, ◌-◌, ◌*◌, ◌/◌, ◌%◌, ◌^◌, ◌<◌, ◌≤◌, ltb, leb, List, [], ◌∷◌, ◌++◌, Bool, true, false, cond, Some, Ok, ◌⊎◌, inl, inr, refl, sym, ap, ◌∙◌, arith, lit≤}
+use Rattle.std.proofs.lemmas.Bool.{le-ltb, le-leb, lt-leb, ne_eqb, cases_Bool, ltb-true, leb-true, leb-false}
 use Rattle.std.proofs.lemmas.Bool.Decides.{nat_tests}
 use Rattle.source_map.specs.declared.map.Segment.{Segment}
 use Rattle.source_map.specs.declared.fields.Field.{Field}
@@ -104,7 +104,7 @@ module _ (sources names line : ℕ) (v : Values) (first : Bool) (start : ℕ) (s
       let b = begun_at at s in
       let number_is : number + n % 32 * weight ≡ total = ap (λ m. number + m * weight) (omega arith) ∙ sym is in
       let whole : digit_at at n s ≡ Ok (between (fs ++ (record { at = b; number = total }) ∷ []) b 0 1) =
-          rw (le-ltb 1073741824 weight room, lt-leb 32 n small, number_is, le-ltb limit (total / 2) (omega arith)) refl in
+      rw (le-ltb 1073741824 weight room, lt-leb 32 n small, number_is, le-ltb limit (total / 2) (omega arith)) refl in
       (suc at, b, b, ap (λ r. r >>= characters_from (suc at) rest) (character_at-letter at n s (omega arith) ∙ whole))
 
   more_digit : (n at : ℕ) (rest : List ℕ) (fs : List Field) (begun number weight : ℕ) → weight ≤ 1073741824
@@ -115,7 +115,7 @@ module _ (sources names line : ℕ) (v : Values) (first : Bool) (start : ℕ) (s
       let b = begun_at at s in
       let low : (32 + n % 32) % 32 ≡ n % 32 = omega arith in
       let next : digit_at at (32 + n % 32) s ≡ Ok (between fs b (number + n % 32 * weight) (weight * 32)) =
-          rw (le-ltb 1073741824 weight room, le-leb 32 (32 + n % 32) (omega arith), low) refl in
+      rw (le-ltb 1073741824 weight room, le-leb 32 (32 + n % 32) (omega arith), low) refl in
       ap (λ r. r >>= characters_from (suc at) rest) (character_at-letter at (32 + n % 32) s (omega arith) ∙ next)
 
   either : (b : Bool) (fs : List Field) (begun number weight at total : ℕ) (xs ys rest : List ℕ) → (b ≡ true → ReadsField fs begun number weight at xs total rest) → ReadsField fs begun number weight at ys total rest

@@ -1,13 +1,11 @@
 -- Which segment begins at a place.
-use Rattle.std.proofs.Common.{◌≡◌, ◌≢◌, ℕ, zero, suc, ◌+◌, ◌-◌, ◌/◌, ◌<◌, ◌≤◌, ◌==◌, ltb, List, [], ◌∷◌, length, get_or, Bool, true, false, cond, ◌&&◌, Option, Some, None, ◌⊎◌, inl, inr, refl, sym, ap, ap₂, ◌∙◌, subst, arith}
-use Rattle.std.specs.List.{AllByRecursion}
+use Rattle.std.proofs.Common.{◌≡◌, ℕ, zero, suc, ◌+◌, ◌<◌, ◌≤◌, ◌==◌, ltb, List, [], ◌∷◌, length, get_or, Bool, true, false, cond, ◌&&◌, None, ◌⊎◌, inl, inr, refl, sym, ap, ap₂, ◌∙◌, subst, arith}
 use Rattle.std.proofs.lemmas.List.Elements.{All-from_recursion}
 use Rattle.std.proofs.lemmas.Bool.{ne_eqb, eqb-true, and_parts, eq-eqb, cases_Bool, ltb-true, ltb-false}
 use Rattle.std.proofs.lemmas.List.{get_or_default}
 use Rattle.std.proofs.Math.Nat.{eq-or-lt_of_le}
 use Rattle.es_text.specs.declared.Place.{Place}
 use Rattle.source_map.specs.declared.map.Segment.{Segment}
-use Rattle.source_map.specs.declared.map.Target.{Target}
 use Rattle.source_map.specs.Maps.{IsBefore, AreOrdered, is_place, target_at}
 
 before_before : (a b c : Place) → IsBefore a b → IsBefore b c → IsBefore a c

@@ -1,5 +1,5 @@
 -- The characters that are written for segments are those segments.
-use Rattle.std.proofs.Common.{◌≡◌, ℕ, zero, suc, ◌+◌, ◌-◌, ◌<◌, ◌≤◌, ltb, List, [], ◌∷◌, ◌++◌, length, Bool, true, false, cond, ◌&&◌, Option, Some, None, Ok, ◌⊎◌, inl, inr, refl, sym, ap, ◌∙◌, subst, arith, append_assoc, append-nil, add_assoc}
+use Rattle.std.proofs.Common.{◌≡◌, ℕ, zero, suc, ◌+◌, ◌-◌, ◌<◌, ◌≤◌, ltb, List, [], ◌∷◌, ◌++◌, length, Bool, true, false, cond, ◌&&◌, Option, Some, None, Ok, inl, inr, refl, sym, ap, ◌∙◌, subst, arith, append_assoc, append-nil}
 use Rattle.std.specs.Prelude.{IfSome, replicate}
 use Rattle.std.specs.List.{AllByRecursion}
 use Rattle.std.proofs.lemmas.Bool.{lt-ltb, le-ltb, ne_eqb}
@@ -13,7 +13,7 @@ use Rattle.source_map.specs.Segments.{limit, end_fields, end_segment, end_line, 
 use Rattle.source_map.specs.Maps.{IsBefore, AreOrdered, IsTarget, IsName, IsSegment}
 use Rattle.source_map.specs.Written.{separator, values_in, segment_text, placed, named, targeted, values_to, mappings_text, no_values, AreSmall, IsSmallTarget}
 use Rattle.source_map.proofs.FieldsBack.{between}
-use Rattle.source_map.proofs.SegmentsBack.{Follows, Ends, ended, ReadsSegment, read_target}
+use Rattle.source_map.proofs.SegmentsBack.{Follows, Ends, ended, read_target}
 use Rattle.source_map.proofs.Spelling.{after_target}
 
 -- ---- values
@@ -134,10 +134,13 @@ module _ (sources names : ℕ) where
       let sum : line + 1 + m ≡ to = omega arith in
       let q = lines_over m (suc at) (line + 1) (values_to v s) (at + 1) after b rest in
       let r = ready t ts more q.0 w true q.1 after b (small_start (values_to v s) small) (inl refl) is before ordered each in
-      let text : mappings_text line false (values_to v s) (t ∷ ts) ≡ 59 ∷ (replicate m 59 ++ rest) = rw (lt-ltb line to below, count) refl in
-      (r.0, ap (λ x. characters_from at x (between sources names line v first start segments fs b 0 1)) text
-      ∙ semicolon_after at line v first start segments fs b s (replicate m 59 ++ rest) ends ∙ q.2
-      ∙ ap (λ l. characters_from q.0 rest (clean l w true q.1 after b)) sum ∙ r.1, r.2 ∙ concat segments s t ts)
+      let text : mappings_text line false (values_to v s) (t ∷ ts) ≡ 59 ∷ (replicate m 59 ++ rest) = rw (lt-ltb line to below, count) refl in (
+        r.0,
+        ap (λ x. characters_from at x (between sources names line v first start segments fs b 0 1)) text
+            ∙ semicolon_after at line v first start segments fs b s (replicate m 59 ++ rest) ends ∙ q.2
+            ∙ ap (λ l. characters_from q.0 rest (clean l w true q.1 after b)) sum ∙ r.1,
+        r.2 ∙ concat segments s t ts,
+      )
 
   -- a comma, and then the next segment
   same_line : (t : Segment) (ts : List Segment) → RestReads ts → (at : ℕ) (v : Values) (first : Bool) (start : ℕ) (segments : List Segment) (fs : List Field) (b : ℕ) (s : Segment)
@@ -153,10 +156,13 @@ module _ (sources names : ℕ) where
       let rest = segment_text w t ++ mappings_text to false (values_to w t) ts in
       let column : w.generated < t.generated.column = subst (λ c. c < t.generated.column) (sym (generated-values_to v s)) below in
       let r = ready t ts more (suc at) w false (at + 1) after b small (inr column) is before ordered each in
-      let text : mappings_text line false w (t ∷ ts) ≡ 44 ∷ rest = rw (le-ltb line to (omega arith)) refl in
-      (r.0, ap (λ x. characters_from at x (between sources names line v first start segments fs b 0 1)) text
-      ∙ comma_after at line v first start segments fs b s rest ends
-      ∙ ap (λ l. characters_from (suc at) rest (clean l w false (at + 1) after b)) same ∙ r.1, r.2 ∙ concat segments s t ts)
+      let text : mappings_text line false w (t ∷ ts) ≡ 44 ∷ rest = rw (le-ltb line to (omega arith)) refl in (
+        r.0,
+        ap (λ x. characters_from at x (between sources names line v first start segments fs b 0 1)) text
+            ∙ comma_after at line v first start segments fs b s rest ends
+            ∙ ap (λ l. characters_from (suc at) rest (clean l w false (at + 1) after b)) same ∙ r.1,
+        r.2 ∙ concat segments s t ts,
+      )
 
   last : (at : ℕ) (v : Values) (first : Bool) (start : ℕ) (segments : List Segment) (fs : List Field) (b : ℕ) (s : Segment) → Ends sources names s.generated.line v first start segments s fs b
       → ReadsAll at (mappings_text s.generated.line false (values_to v s) []) (between sources names s.generated.line v first start segments fs b 0 1) ((segments ++ s ∷ []) ++ [])

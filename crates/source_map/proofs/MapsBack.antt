@@ -17,9 +17,11 @@ pub laid_out : (m : Map) (slice : List Segment) (written mappings text items : L
     → text ≡ document_text m.sources m.names mappings → items ≡ text
     → (x : List ℕ) × (items ≡ document_text m.sources m.names x) × (segments_of (length m.sources) (length m.names) x ≡ Ok m.segments)
 laid_out m slice written mappings text items is same characters copied laid given =
-    let each = recursion_from_All (IsSegment (length m.sources) (length m.names)) m.segments is.each in
-    (mappings, given ∙ laid,
-    ap (segments_of (length m.sources) (length m.names)) (copied ∙ characters ∙ ap (mappings_text 0 true no_values) same) ∙ segments_of-mappings_text (length m.sources) (length m.names) m.segments is.ordered each)
+    let each = recursion_from_All (IsSegment (length m.sources) (length m.names)) m.segments is.each in (
+      mappings,
+      given ∙ laid,
+      ap (segments_of (length m.sources) (length m.names)) (copied ∙ characters ∙ ap (mappings_text 0 true no_values) same) ∙ segments_of-mappings_text (length m.sources) (length m.names) m.segments is.ordered each,
+    )
 
 -- such a text is read as the map
 pub reads_back : (m : Map) (text items : List ℕ) → IsUtf8 text → items ≡ text → (x : List ℕ) × (items ≡ document_text m.sources m.names x) × (segments_of (length m.sources) (length m.names) x ≡ Ok m.segments)

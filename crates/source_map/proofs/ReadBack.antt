@@ -1,26 +1,24 @@
 -- The text that is written is JSON, and a map's JSON.
-use Rattle.std.proofs.Common.{◌≡◌, ℕ, zero, suc, ◌+◌, ◌<◌, ◌≤◌, ◌==◌, max, List, [], ◌∷◌, ◌++◌, length, Bool, true, false, cond, Option, Some, None, option_map, option_and_then, Result, Ok, Err, decimal, codes, refl, sym, ap, ap₂, ◌∙◌, subst, arith, append_assoc, append-nil, lit<}
-use Rattle.std.specs.Prelude.{⊤}
+use Rattle.std.proofs.Common.{◌≡◌, ℕ, ◌≤◌, max, List, [], ◌∷◌, ◌++◌, length, Bool, true, false, Some, option_map, option_and_then, Result, Ok, decimal, codes, refl, sym, ap, ◌∙◌, arith, append_assoc, append-nil, lit<}
 use Rattle.std.specs.Str.{IsUtf8}
 use Rattle.std.proofs.lemmas.Fmt.{decimal_digit}
-use Rattle.json.specs.Token.{Token}
 use Rattle.json.specs.Lex.{tokens}
 use Rattle.json.specs.Json as json
-use Rattle.json.specs.Print.{quoted, print}
+use Rattle.json.specs.Print.{quoted}
 use Rattle.json.specs.Tree as tree
 use Rattle.json.proofs.Printed.Tokens.{tokens-print}
 use Rattle.json.proofs.Printed.Trees.{value-json_tokens, ArePrintable-json_tokens}
 use Rattle.json.proofs.Printed.Decimals.{IsNumber-decimal}
-use Rattle.serde_json.specs.Data.{Num, unsigned, Data, number, string, array, object, Items, no_items, item, Members, no_members, member}
-use Rattle.serde_json.specs.Read.{read, of_json, of_items, of_members, max_depth, number_of}
-use Rattle.serde_json.specs.Written.{outline, items_outline, compact_text, items_text, members_text, comma_if, number_text}
+use Rattle.serde_json.specs.Data.{unsigned, Data, number, string, array, object, Items, no_items, item, no_members, member}
+use Rattle.serde_json.specs.Read.{read, of_json, of_items, max_depth, number_of}
+use Rattle.serde_json.specs.Written.{outline, items_outline, compact_text, items_text, comma_if}
 use Rattle.serde_json.proofs.Texts.{print-outline}
 use Rattle.serde_json.proofs.OnLiterals.{serde_json_on_literals}
 use Rattle.source_map.specs.declared.map.Map.{Map}
 use Rattle.source_map.specs.declared.fault.MapFault.{MapFault}
 use Rattle.source_map.specs.Outcome.{◌>>=◌}
 use Rattle.source_map.specs.Segments.{segments_of}
-use Rattle.source_map.specs.Document.{texts, map_of, map_of_data, version_of, or_bad_json}
+use Rattle.source_map.specs.Document.{texts, map_of, map_of_data, version_of}
 use Rattle.source_map.specs.Written.{texts_text, list_text, document_text}
 use Rattle.source_map.proofs.Texts.{map_of-read}
 

@@ -1,5 +1,5 @@
 -- A segment that is written is read back.
-use Rattle.std.proofs.Common.{◌≡◌, ℕ, zero, suc, ◌+◌, ◌<◌, ◌≤◌, ltb, List, [], ◌∷◌, ◌++◌, length, Bool, true, false, ◌||◌, Option, Some, None, Ok, ◌⊎◌, inl, inr, refl, sym, ap, ◌∙◌, subst, arith, append_assoc}
+use Rattle.std.proofs.Common.{◌≡◌, ℕ, ◌<◌, ◌≤◌, ltb, List, [], ◌∷◌, ◌++◌, length, Bool, true, false, ◌||◌, Option, Some, None, Ok, ◌⊎◌, inl, inr, refl, sym, ap, ◌∙◌, subst, arith, append_assoc}
 use Rattle.std.specs.Prelude.{IfSome}
 use Rattle.std.proofs.lemmas.Bool.{lt-ltb}
 use Rattle.es_text.specs.declared.Place.{Place}
@@ -9,9 +9,9 @@ use Rattle.source_map.specs.declared.fields.Field.{Field}
 use Rattle.source_map.specs.declared.reading.Values.{Values}
 use Rattle.source_map.specs.declared.reading.Reading.{Reading}
 use Rattle.source_map.specs.Outcome.{◌>>=◌}
-use Rattle.source_map.specs.Segments.{limit, moved, move_by, move_all, end_fields, characters_from}
+use Rattle.source_map.specs.Segments.{limit, move_by, move_all, end_fields, characters_from}
 use Rattle.source_map.specs.Maps.{IsTarget, IsName}
-use Rattle.source_map.specs.Written.{signed, field_text, name_text, place_text, target_text, segment_text, placed, targeted, values_to, AreSmall}
+use Rattle.source_map.specs.Written.{signed, field_text, segment_text, placed, values_to, AreSmall}
 use Rattle.source_map.proofs.FieldsBack.{moved-signed, between, field_read}
 
 -- ---- what the fields move
@@ -181,10 +181,13 @@ module _ (sources names line : ℕ) (v : Values) (first : Bool) (start : ℕ) (s
   unfolding ReadsFour
   read_place c at begun source place rest small h f is =
       let t = target source place None in
-      let r = read_four c at begun t rest small h is in
-      (r.0, r.1, four c r.2 r.3 r.4 r.5 t [],
-      ap (λ x. characters_from at x (state [] begun)) (regroup_four (field_text v.generated c) (field_text v.source source) (field_text v.line place.line) (field_text v.column place.column) [] rest) ∙ r.6,
-      end_place c r.2 r.3 r.4 r.5 r.1 source place h f is)
+      let r = read_four c at begun t rest small h is in (
+        r.0,
+        r.1,
+        four c r.2 r.3 r.4 r.5 t [],
+        ap (λ x. characters_from at x (state [] begun)) (regroup_four (field_text v.generated c) (field_text v.source source) (field_text v.line place.line) (field_text v.column place.column) [] rest) ∙ r.6,
+        end_place c r.2 r.3 r.4 r.5 r.1 source place h f is,
+      )
 
   read_named : (c at begun source n : ℕ) (place : Place) (rest : List ℕ) → AreSmall v → c ≤ limit → Follows first v.generated c → IsTarget sources names (target source place (Some n))
       → ReadsSegment (segment c (Some (target source place (Some n)))) at rest begun
@@ -192,10 +195,13 @@ module _ (sources names line : ℕ) (v : Values) (first : Bool) (start : ℕ) (s
   read_named c at begun source n place rest small h f is =
       let t = target source place (Some n) in
       let r = read_four c at begun t (field_text v.name n ++ rest) small h is in
-      let q = read_field v.name n r.0 rest (four c r.2 r.3 r.4 r.5 t []) r.1 small.name is.name.1 in
-      (q.0, q.1, four c r.2 r.3 r.4 r.5 t (field q.2 v.name n ∷ []),
-      ap (λ x. characters_from at x (state [] begun)) (regroup_four (field_text v.generated c) (field_text v.source source) (field_text v.line place.line) (field_text v.column place.column) (field_text v.name n) rest) ∙ r.6 ∙ q.3,
-      end_named c r.2 r.3 r.4 r.5 q.2 q.1 source n place h f is)
+      let q = read_field v.name n r.0 rest (four c r.2 r.3 r.4 r.5 t []) r.1 small.name is.name.1 in (
+        q.0,
+        q.1,
+        four c r.2 r.3 r.4 r.5 t (field q.2 v.name n ∷ []),
+        ap (λ x. characters_from at x (state [] begun)) (regroup_four (field_text v.generated c) (field_text v.source source) (field_text v.line place.line) (field_text v.column place.column) (field_text v.name n) rest) ∙ r.6 ∙ q.3,
+        end_named c r.2 r.3 r.4 r.5 q.2 q.1 source n place h f is,
+      )
 
   pub read_target : (c at begun : ℕ) (t : Option Target) (rest : List ℕ) → AreSmall v → c ≤ limit → Follows first v.generated c → IfSome t (IsTarget sources names) → ReadsSegment (segment c t) at rest begun
   read_target c at begun None rest small h f is = read_bare c at begun rest small h f

@@ -1,5 +1,5 @@
 -- The recursions of specs/Segments, a step at a time.
-use Rattle.std.proofs.Common.{◌≡◌, ◌<◌, ◌≤◌, ◌+◌, ℕ, suc, List, [], ◌∷◌, length, get_or, drop, Result, Ok, Err, refl, sym, ap, subst, ◌∙◌, add-one, drop-cons}
+use Rattle.std.proofs.Common.{◌≡◌, ◌<◌, ◌≤◌, ◌+◌, ℕ, List, length, get_or, drop, Result, Ok, Err, refl, sym, ap, subst, ◌∙◌, add-one, drop-cons}
 use Rattle.source_map.specs.declared.fields.Field.{Field}
 use Rattle.source_map.specs.declared.reading.Values.{Values}
 use Rattle.source_map.specs.declared.reading.Reading.{Reading}

@@ -1,16 +1,15 @@
 -- What is read is a map: its segments in order, its numbers in range.
-use Rattle.std.proofs.Common.{◌≡◌, ◌≢◌, ℕ, zero, suc, ◌+◌, ◌-◌, ◌*◌, ◌/◌, ◌%◌, ◌^◌, ◌<◌, ◌≤◌, ◌==◌, ltb, leb, List, [], ◌∷◌, ◌++◌, length, Bool, true, false, cond, ◌||◌, ◌&&◌, Option, Some, None, option_and_then, Result, Ok, Err, codes, ◌⊎◌, inl, inr, refl, sym, ap, ◌∙◌, subst, arith}
+use Rattle.std.proofs.Common.{◌≡◌, ℕ, zero, suc, ◌+◌, ◌-◌, ◌*◌, ◌/◌, ◌%◌, ◌^◌, ◌<◌, ◌≤◌, ◌==◌, ltb, leb, List, [], ◌∷◌, ◌++◌, length, Bool, true, false, cond, ◌||◌, ◌&&◌, Option, Some, None, option_and_then, Result, Ok, Err, codes, ◌⊎◌, inl, inr, refl, sym, ◌∙◌, subst, arith}
 use Rattle.std.specs.Prelude.{IfSome, IfOk}
 use Rattle.std.specs.List.{AllByRecursion}
-use Rattle.std.proofs.lemmas.Bool.{cases_Bool, ltb-true, ltb-false, true≢false}
-use Rattle.es_text.specs.declared.Place.{Place}
+use Rattle.std.proofs.lemmas.Bool.{ltb-true, ltb-false, true≢false}
 use Rattle.source_map.specs.declared.map.Segment.{Segment}
 use Rattle.source_map.specs.declared.map.Target.{Target}
 use Rattle.source_map.specs.declared.fields.Field.{Field}
 use Rattle.source_map.specs.declared.reading.Values.{Values}
 use Rattle.source_map.specs.declared.reading.Reading.{Reading}
 use Rattle.source_map.specs.declared.fault.MapFault.{MapFault}
-use Rattle.source_map.specs.declared.fault.MapFault.TheVariants.{BadDigit, BadFields, BadIndex, BadVersion}
+use Rattle.source_map.specs.declared.fault.MapFault.TheVariants.{BadDigit, BadFields, BadVersion}
 use Rattle.source_map.specs.Digits.{digit_of}
 use Rattle.source_map.specs.Outcome.{◌>>=◌, or_bad_index, Gives}
 use Rattle.source_map.specs.Segments.{limit, moved, within, after_column, move_by, move_all, segment_at, bad_digit, end_fields, end_segment, end_line, begun_at, digit_at, character_at, characters_from, beginning, segments_of, digit_or_fault}

@@ -1,5 +1,5 @@
 -- The digits of `mappings`: A to Z, a to z, 0 to 9, + and / stand for 0 to 63.
-use Rattle.std.specs.Prelude.{ℕ, ◌+◌, ◌-◌, ◌&&◌, ◌==◌, nat_lt, nat_le, if◌then◌else◌, Option, Some, None}
+use Rattle.std.specs.Prelude.{ℕ, ◌+◌, ◌-◌, ◌&&◌, ◌==◌, nat_le, if◌then◌else◌, Option, Some, None}
 
 -- the digit that a character stands for
 unfoldable pub digit_of : ℕ → Option ℕ

@@ -1,5 +1,5 @@
 -- The map in a script: its last line that isn't empty. LF ends a line.
-use Rattle.std.specs.Prelude.{◌≡◌, ℕ, zero, suc, ◌==◌, if◌then◌else◌, List, length, take, drop, Bool, slice_index, Result, Ok, Err, codes, nat_eq}
+use Rattle.std.specs.Prelude.{ℕ, zero, suc, ◌==◌, if◌then◌else◌, List, length, take, drop, Bool, slice_index, Result, Ok, Err, nat_eq}
 use lib.Pointwise.{pointwise}
 use Rattle.base64.specs.Engines.{standard}
 use Rattle.base64.specs.GeneralPurpose.{decode_of}

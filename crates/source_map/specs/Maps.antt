@@ -1,5 +1,5 @@
 -- What a map has to be.
-use Rattle.std.specs.Prelude.{◌≡◌, ◌<◌, ◌≤◌, ◌⊎◌, ◌==◌, ◌&&◌, ℕ, List, [], ◌∷◌, length, Bool, Option, Some, None, IfSome, All, ⊤, if◌then◌else◌}
+use Rattle.std.specs.Prelude.{◌≡◌, ◌<◌, ◌≤◌, ◌⊎◌, ◌==◌, ◌&&◌, ℕ, List, [], ◌∷◌, length, Bool, Option, None, IfSome, All, ⊤, if◌then◌else◌}
 use Rattle.std.specs.List.{AllByRecursion}
 use Rattle.es_text.specs.declared.Place.{Place}
 use Rattle.source_map.specs.declared.map.Segment.{Segment}

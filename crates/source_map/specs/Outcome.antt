@@ -36,4 +36,3 @@ abbrev pub ◌>>=◌ : {A B : Type 0} → Result A MapFault → (A → Result B 
 abbrev pub or_bad_index : ℕ → Option ℕ → Result ℕ MapFault
 or_bad_index at None = Err (BadIndex at)
 or_bad_index at (Some value) = Ok value
-

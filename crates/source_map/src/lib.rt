@@ -16,5 +16,8 @@ mod writing;
 pub use document::read_map;
 pub use fault::MapFault;
 pub use line::{HEAD, map_of_script, map_text};
-pub use print::write_map;
 pub use map::{Map, Segment, Target, Text};
+pub use print::write_map;
+
+#[cfg(test)]
+mod tests;

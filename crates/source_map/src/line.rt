@@ -1,5 +1,6 @@
 //! The map that a script holds, in its last line that isn't empty.
-ghost use Rattle.std.specs.Prelude.{◌≡◌, ◌≤◌, length, take, drop};
+ghost use Rattle.std.specs.Prelude.{◌≡◌, ◌≤◌, length, take, drop, IfOk};
+ghost use Rattle.source_map.specs.Maps.{IsMap};
 ghost use Rattle.source_map.specs.Outcome.{Gives, GivesBy};
 ghost use Rattle.source_map.specs.Line.{text_end, line_begin, last_line, text_of_line, map_text_of, script_map_of};
 
@@ -65,6 +66,7 @@ pub fn map_text(alloc: Global, script: &[u8]) -> Result<Vec<u8>, MapFault>
 /// The map that a script holds.
 pub fn map_of_script(alloc: Global, script: &[u8]) -> Result<Map, MapFault>
     ensures exact { Gives result (script_map_of script.now) }
+    ensures valid { IfOk result IsMap }
 {
     let text = map_text(alloc, script)?;
     read_map(alloc, &text)

@@ -55,7 +55,11 @@ fn moved_by(value: u32, field: u32) -> Option<u32>
 {
     let distance = field / 2;
     if field % 2 == 1 {
-        if value < distance { None } else { Some(value - distance) }
+        if value < distance {
+            None
+        } else {
+            Some(value - distance)
+        }
     } else if u64::from(LIMIT) < u64::from(value) + u64::from(distance) {
         None
     } else {
@@ -66,13 +70,21 @@ fn moved_by(value: u32, field: u32) -> Option<u32>
 fn index_within(count: usize, value: u32) -> Option<u32>
     ensures { result ≡ within count value }
 {
-    if (value as usize) < count { Some(value) } else { None }
+    if (value as usize) < count {
+        Some(value)
+    } else {
+        None
+    }
 }
 
 fn column_after(first: bool, before: u32, column: u32) -> Option<u32>
     ensures { result ≡ after_column first before column }
 {
-    if first || before < column { Some(column) } else { None }
+    if first || before < column {
+        Some(column)
+    } else {
+        None
+    }
 }
 
 fn in_range(at: usize, value: Option<u32>) -> Result<u32, MapFault>
@@ -93,7 +105,10 @@ impl Reading {
                 let moved = moved_by(values.generated, number);
                 let column = moved.and_then(|x| column_after(self.first, values.generated, x));
                 let generated = in_range(at, column)?;
-                Ok(Values { generated, ..values })
+                Ok(Values {
+                    generated,
+                    ..values
+                })
             }
             1 => {
                 let moved = moved_by(values.source, number);

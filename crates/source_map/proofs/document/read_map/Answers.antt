@@ -1,10 +1,5 @@
-use Rattle.std.proofs.Common.{◌≡◌, Result, Ok, Err, arith, sym, ◌∙◌}
-use Rattle.std.specs.Prelude.{IfOk}
+use Rattle.std.proofs.Common.{arith}
 use Rattle.std.proofs.lemmas.Grind.{common_steps}
-use Rattle.source_map.specs.declared.map.Map.{Map}
-use Rattle.source_map.specs.declared.fault.MapFault.{MapFault}
-use Rattle.source_map.specs.Outcome.{Gives}
-use Rattle.source_map.specs.Maps.{IsMap}
 use Rattle.source_map.proofs.Texts.{map_of-read, map_of-refused}
 use Rattle.source_map.proofs.Valid.{valid_if_given}
 use Rattle.source_map.proofs.document.read_map.Goals as goal

@@ -1,4 +1,4 @@
-use Rattle.std.proofs.Common.{◌≡◌, drop, ◌++◌, option_map, List, ℕ}
+use Rattle.std.proofs.Common.{◌≡◌, drop, ◌++◌, option_map}
 use Rattle.serde_json.specs.View.{items_view}
 use Rattle.source_map.specs.Document.{texts}
 use Rattle.source_map.proofs.document.texts_of.Given as goal

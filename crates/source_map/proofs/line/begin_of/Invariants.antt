@@ -1,4 +1,4 @@
-use Rattle.std.proofs.Common.{◌≡◌, ◌≤◌, length}
+use Rattle.std.proofs.Common.{◌≡◌, ◌≤◌}
 use Rattle.source_map.specs.Line.{line_begin}
 use Rattle.source_map.proofs.line.begin_of.Given as goal
 

@@ -1,4 +1,4 @@
-use Rattle.std.proofs.Common.{◌≡◌, ◌+◌, ◌-◌, ◌/◌, ◌<◌, ◌≤◌, length, inl, inr, refl, arith, subst, sym, ap, ◌∙◌}
+use Rattle.std.proofs.Common.{inl, inr, refl, arith, subst, sym, ap, ◌∙◌}
 use Rattle.std.proofs.lemmas.Bool.{true≢false}
 use Rattle.source_map.specs.Maps.{AreOrdered, target_at}
 use Rattle.source_map.proofs.Found.{below_or_above, below_more, above_more, target_at-none, target_at-found, is_place-between}

@@ -1,4 +1,4 @@
-use Rattle.std.proofs.Common.{◌≡◌, refl, ap, sym, ◌∙◌, drop, length, ◌<◌, arith}
+use Rattle.std.proofs.Common.{arith}
 use Rattle.std.proofs.lemmas.Result.{err_from_is_err_and}
 use Rattle.source_map.proofs.Steps.{move_all-moved, move_all-fault, move_all-end}
 use Rattle.source_map.proofs.reading.Reading.values_after.Goals as goal
