@@ -1,8 +1,8 @@
 -- The map in a script: its last line that isn't empty. LF ends a line.
-use Rattle.std.specs.Prelude.{ℕ, zero, suc, ◌==◌, if◌then◌else◌, List, length, take, drop, Bool, slice_index, Result, Ok, Err, nat_eq}
+use Rattle.std.specs.Prelude.{ℕ, zero, suc, ◌==◌, if◌then◌else◌, List, ◌++◌, length, take, drop, Bool, slice_index, Result, Ok, Err, nat_eq}
 use lib.Pointwise.{pointwise}
 use Rattle.base64.specs.Engines.{standard}
-use Rattle.base64.specs.GeneralPurpose.{decode_of}
+use Rattle.base64.specs.GeneralPurpose.{decode_of, encode_of}
 use Rattle.base64.specs.declared.decode.DecodeError.{DecodeError}
 use Rattle.source_map.specs.declared.fault.MapFault.{MapFault}
 use Rattle.source_map.specs.declared.fault.MapFault.TheVariants.{NoMap, BadBase64}
@@ -27,6 +27,10 @@ line_to script end = drop (line_begin script end) (take end script)
 -- the last line that isn't empty, or an empty one where there is none
 abbrev pub last_line : List ℕ → List ℕ
 last_line script = line_to script (text_end script (length script))
+
+-- the line of a map whose text is these bytes, in standard base64 (RFC 4648, section 4)
+abbrev pub line_of : List ℕ → List ℕ
+line_of text = HEAD.now ++ encode_of standard text
 
 abbrev pub or_bad_base64 : Result (List ℕ) DecodeError → Result (List ℕ) MapFault
 or_bad_base64 (Ok bytes) = Ok bytes

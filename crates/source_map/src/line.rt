@@ -1,8 +1,9 @@
 //! The map that a script holds, in its last line that isn't empty.
-ghost use Rattle.std.specs.Prelude.{◌≡◌, ◌≤◌, length, take, drop, IfOk};
+ghost use Rattle.std.specs.Prelude.{◌≡◌, ◌≤◌, length, take, drop, IfOk, IsErrOf, ◌≢◌, ℕ, List};
+ghost use Rattle.base64.specs.GeneralPurpose.{IsBytes};
 ghost use Rattle.source_map.specs.Maps.{IsMap};
 ghost use Rattle.source_map.specs.Outcome.{Gives, GivesBy};
-ghost use Rattle.source_map.specs.Line.{text_end, line_begin, last_line, text_of_line, map_text_of, script_map_of};
+ghost use Rattle.source_map.specs.Line.{text_end, line_begin, last_line, text_of_line, map_text_of, script_map_of, line_of};
 
 use crate::document::read_map;
 use crate::fault::MapFault;
@@ -52,6 +53,10 @@ fn last_line_of(script: &[u8]) -> &[u8]
 #[tactic(auto, unfolding(crate::specs::Line::map_text_of))]
 pub fn map_text(alloc: Global, script: &[u8]) -> Result<Vec<u8>, MapFault>
     ensures exact { GivesBy (λ v. v.items) result (map_text_of script.now) }
+    // The line is the text in base64, and where it isn't any text's, that is the fault.
+    ensures line { IfOk result (λ v. last_line script.now ≡ line_of v.items) }
+    ensures other { IsErrOf result MapFault.BadBase64
+        → (text : List ℕ) → IsBytes text → last_line script.now ≢ line_of text }
 {
     let Some(base64) = last_line_of(script).strip_prefix(HEAD) else {
         return Err(MapFault::NoMap);
