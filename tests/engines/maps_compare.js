@@ -159,15 +159,15 @@ compare([[0, 0, 0, MOST, MOST], [0, MOST, 0, 0, 0], [3, 1, 0, MOST, 0, 0]], 1, 1
 // ---- what is refused, as our own page on the format says
 
 const refused = [
-  ["A!", "BadDigit { at: 1 }"],
-  ["AA", "BadFields { at: 0 }"],
-  ["AAAA,AAAA", "BadIndex { at: 5 }"],
-  ["AAAA,CCAA", "BadIndex { at: 6 }"],
-  ["AAAAC", "BadIndex { at: 4 }"],
-  ["AAAg", "BadDigit { at: 3 }"],
-  ["AAggggggggA", "BadDigit { at: 2 }"],
-  [vlq(MOST) + ",C", "BadIndex { at: 8 }"],
-  [vlq(MOST + 1), "BadDigit { at: 0 }"],
+  ["A!", "BadDigit at 1"],
+  ["AA", "BadFields at 0"],
+  ["AAAA,AAAA", "BadIndex at 5"],
+  ["AAAA,CCAA", "BadIndex at 6"],
+  ["AAAAC", "BadIndex at 4"],
+  ["AAAg", "BadDigit at 3"],
+  ["AAggggggggA", "BadDigit at 2"],
+  [vlq(MOST) + ",C", "BadIndex at 8"],
+  [vlq(MOST + 1), "BadDigit at 0"],
 ];
 for (const [characters, want] of refused) {
   const [answer] = run(document(["a.js"], ["n"], characters));

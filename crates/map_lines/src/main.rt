@@ -8,7 +8,11 @@ use std::io::{self, BufRead, BufReader, BufWriter, Read, Write};
 
 /// One segment in a line, with its numbers from 0.
 fn write_segment<W: Write + Drop>(out: &mut W, segment: Segment) -> io::Result<()> {
-    write!(out, "{} {}", segment.generated.line, segment.generated.column)?;
+    write!(
+        out,
+        "{} {}",
+        segment.generated.line, segment.generated.column
+    )?;
     if let Some(target) = segment.target {
         let place = target.place;
         write!(out, " {} {} {}", target.source, place.line, place.column)?;
@@ -31,7 +35,7 @@ fn main(rt: HostRuntime) -> io::Result<()> {
                 write_segment(&mut out, *segment)?;
             }
         }
-        Err(fault) => writeln!(out, "{fault:?}")?,
+        Err(fault) => writeln!(out, "{fault}")?,
     }
     out.flush()
 }

@@ -112,6 +112,8 @@ fn the_first_fault(rt: HostRuntime) -> Result<(), Fail> {
     for (mappings, want) in cases {
         assert_eq!(rt; fault_with(rt.alloc(), mappings)?, Some(want), "{mappings}");
     }
+    let text = format!(in rt.alloc(); "{} {}", MapFault::NoMap, MapFault::BadDigit { at: 1 })?;
+    assert_eq!(rt; text.as_str(), "NoMap BadDigit at 1");
     // Lines without segments are no fault, nor are seven digits that spell 0.
     assert_eq!(rt; fault_with(rt.alloc(), ";;;A;;ggggggA")?, None);
     Ok(())
