@@ -110,7 +110,7 @@ function compareWithNode(text, segments, what) {
   check(wrong === 0, `${what}: node's SourceMap differs at ${wrong} of ${segments.length} segments`);
 }
 
-function compareWithPackage(text, segments, what) {
+async function compareWithPackage(text, segments, what) {
   let library;
   try {
     library = require("source-map");
@@ -118,7 +118,8 @@ function compareWithPackage(text, segments, what) {
     return false;
   }
   const read = [];
-  new library.SourceMapConsumer(JSON.parse(text)).eachMapping((mapping) => {
+  const consumer = await new library.SourceMapConsumer(JSON.parse(text));
+  consumer.eachMapping((mapping) => {
     const segment = [mapping.generatedLine - 1, mapping.generatedColumn];
     if (mapping.source !== null) segment.push(mapping.source, mapping.originalLine - 1, mapping.originalColumn);
     if (mapping.name !== null) segment.push(mapping.name);
@@ -134,7 +135,7 @@ function compareWithPackage(text, segments, what) {
   return true;
 }
 
-function compare(segments, sources, names, what) {
+async function compare(segments, sources, names, what) {
   const sourceList = Array.from({ length: sources }, (_, k) => `s${k}.js`);
   const nameList = Array.from({ length: names }, (_, k) => `n${k}`);
   const characters = mappings(segments);
@@ -145,20 +146,10 @@ function compare(segments, sources, names, what) {
   return compareWithPackage(text, segments, what);
 }
 
-let withPackage = false;
-for (let round = 0; round < 40; round += 1) {
-  const wide = [3, 40, 1000, 200000][round % 4];
-  const sources = 1 + below(20);
-  const names = 1 + below(20);
-  withPackage = compare(randomSegments(200 + below(400), sources, names, wide), sources, names, `round ${round}`);
-}
-compare(randomSegments(20000, 300, 2000, 30), 300, 2000, "20000 segments");
+// ---- what is refused, as docs/SOURCE_MAP.md says
+
 const MOST = 2147483647;
-compare([[0, 0, 0, MOST, MOST], [0, MOST, 0, 0, 0], [3, 1, 0, MOST, 0, 0]], 1, 1, "the largest numbers");
-
-// ---- what is refused, as our own page on the format says
-
-const refused = [
+const REFUSED = [
   ["A!", "BadDigit at 1"],
   ["AA", "BadFields at 0"],
   ["AAAA,AAAA", "BadIndex at 5"],
@@ -166,15 +157,34 @@ const refused = [
   ["AAAAC", "BadIndex at 4"],
   ["AAAg", "BadDigit at 3"],
   ["AAggggggggA", "BadDigit at 2"],
-  [vlq(MOST) + ",C", "BadIndex at 8"],
+  [`${vlq(MOST)},C`, "BadIndex at 8"],
   [vlq(MOST + 1), "BadDigit at 0"],
 ];
-for (const [characters, want] of refused) {
-  const [answer] = run(document(["a.js"], ["n"], characters));
-  check(answer === want, `${characters}: ${answer} in place of ${want}`);
-}
-check(run("{}")[0] === "BadJson", "{} is read");
-check(run('{"version":2,"sources":[],"names":[],"mappings":""}')[0] === "BadVersion", "version 2 is read");
 
-console.log(`maps_compare: ${failures === 0 ? "all maps agree" : `${failures} differences`}${withPackage ? ", with the package source-map" : ""}`);
-process.exit(failures === 0 ? 0 : 1);
+function refuse() {
+  for (const [characters, want] of REFUSED) {
+    const [answer] = run(document(["a.js"], ["n"], characters));
+    check(answer === want, `${characters}: ${answer} in place of ${want}`);
+  }
+  check(run("{}")[0] === "BadJson", "{} is read");
+  check(run('{"version":2,"sources":[],"names":[],"mappings":""}')[0] === "BadVersion", "version 2 is read");
+}
+
+async function main() {
+  let withPackage = false;
+  for (let round = 0; round < 40; round += 1) {
+    const wide = [3, 40, 1000, 200000][round % 4];
+    const sources = 1 + below(20);
+    const names = 1 + below(20);
+    const segments = randomSegments(200 + below(400), sources, names, wide);
+    withPackage = await compare(segments, sources, names, `round ${round}`);
+  }
+  await compare(randomSegments(20000, 300, 2000, 30), 300, 2000, "20000 segments");
+  await compare([[0, 0, 0, MOST, MOST], [0, MOST, 0, 0, 0], [3, 1, 0, MOST, 0, 0]], 1, 1, "the largest numbers");
+  refuse();
+  const verdict = failures === 0 ? "all maps agree" : `${failures} differences`;
+  console.log(`maps_compare: ${verdict}${withPackage ? ", with the package source-map" : ""}`);
+  process.exit(failures === 0 ? 0 : 1);
+}
+
+main();
