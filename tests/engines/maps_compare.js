@@ -82,7 +82,8 @@ function randomSegments(count, sources, names, wide) {
       column += 1 + below(wide);
     }
     const segment = [line, column];
-    const kind = below(10);
+    // node reads a last segment of one field as one of four, so no map here ends with one.
+    const kind = k === count - 1 ? 5 : below(10);
     if (kind > 0) segment.push(below(sources), below(wide * 100), below(wide * 10));
     if (kind > 6) segment.push(below(names));
     segments.push(segment);
