@@ -1,0 +1,191 @@
+// Holds source maps to independent programs. `node maps_compare.js PROGRAM`, where PROGRAM is the built
+// map_lines: it reads the text of a map, and prints it as our writer gives it, then its segments.
+//
+// 1. Maps that the writer of this file makes (at random, and by hand) are read as the segments that they
+//    were made of.
+// 2. What our writer makes of them is read by node's own `module.SourceMap`, segment by segment, and by the
+//    package `source-map` where it is there.
+// 3. Texts with a fault are refused.
+"use strict";
+
+const { execFileSync } = require("child_process");
+const { SourceMap } = require("module");
+
+const program = process.argv[2];
+const LETTERS = "ABCDEFGHIJKLMNOPQRSTUVWXYZabcdefghijklmnopqrstuvwxyz0123456789+/";
+let failures = 0;
+
+function check(holds, what) {
+  if (!holds) {
+    failures += 1;
+    console.log(`maps_compare: ${what}`);
+  }
+}
+
+// A generator of numbers that gives the same ones in each run.
+let seed = 20150617;
+function below(limit) {
+  seed = (Math.imul(seed, 1103515245) + 12345) >>> 0;
+  return Math.floor((seed / 4294967296) * limit);
+}
+
+// ---- an independent writer
+
+function vlq(number) {
+  let rest = BigInt(Math.abs(number)) * 2n + (number < 0 ? 1n : 0n);
+  let text = "";
+  do {
+    let digit = Number(rest % 32n);
+    rest /= 32n;
+    if (rest > 0n) digit += 32;
+    text += LETTERS[digit];
+  } while (rest > 0n);
+  return text;
+}
+
+function mappings(segments) {
+  const before = [0, 0, 0, 0, 0];
+  let line = 0;
+  let first = true;
+  let text = "";
+  for (const [to, ...fields] of segments) {
+    for (; line < to; line += 1) {
+      text += ";";
+      before[0] = 0;
+      first = true;
+    }
+    if (!first) text += ",";
+    first = false;
+    fields.forEach((value, k) => {
+      text += vlq(value - before[k]);
+      before[k] = value;
+    });
+  }
+  return text;
+}
+
+function document(sources, names, characters) {
+  return JSON.stringify({ file: "out.js", mappings: characters, names, sourceRoot: "", sources, version: 3 });
+}
+
+// ---- random maps
+
+function randomSegments(count, sources, names, wide) {
+  const segments = [];
+  let line = 0;
+  let column = 0;
+  for (let k = 0; k < count; k += 1) {
+    if (below(8) === 0) {
+      line += 1 + (below(10) === 0 ? below(5) : 0);
+      column = below(wide);
+    } else if (k > 0) {
+      column += 1 + below(wide);
+    }
+    const segment = [line, column];
+    // node reads a last segment of one field as one of four, so no map here ends with one.
+    const kind = k === count - 1 ? 5 : below(10);
+    if (kind > 0) segment.push(below(sources), below(wide * 100), below(wide * 10));
+    if (kind > 6) segment.push(below(names));
+    segments.push(segment);
+  }
+  return segments;
+}
+
+function run(text) {
+  return execFileSync(program, { input: text, maxBuffer: 1 << 28 }).toString().split("\n");
+}
+
+// ---- the readers
+
+function compareWithNode(text, segments, what) {
+  const map = new SourceMap(JSON.parse(text));
+  let wrong = 0;
+  for (const [line, column, source, sourceLine, sourceColumn] of segments) {
+    const entry = map.findEntry(line, column);
+    const there = entry.generatedLine === line && entry.generatedColumn === column;
+    const same = source === undefined
+      ? entry.originalSource === undefined
+      : entry.originalSource === `s${source}.js` && entry.originalLine === sourceLine && entry.originalColumn === sourceColumn;
+    if (!there || !same) wrong += 1;
+  }
+  check(wrong === 0, `${what}: node's SourceMap differs at ${wrong} of ${segments.length} segments`);
+}
+
+async function compareWithPackage(text, segments, what) {
+  let library;
+  try {
+    library = require("source-map");
+  } catch {
+    return false;
+  }
+  const read = [];
+  const consumer = await new library.SourceMapConsumer(JSON.parse(text));
+  consumer.eachMapping((mapping) => {
+    const segment = [mapping.generatedLine - 1, mapping.generatedColumn];
+    if (mapping.source !== null) segment.push(mapping.source, mapping.originalLine - 1, mapping.originalColumn);
+    if (mapping.name !== null) segment.push(mapping.name);
+    read.push(segment.join(" "));
+  });
+  const want = segments.map(([line, column, source, sourceLine, sourceColumn, name]) => {
+    const segment = [line, column];
+    if (source !== undefined) segment.push(`s${source}.js`, sourceLine, sourceColumn);
+    if (name !== undefined) segment.push(`n${name}`);
+    return segment.join(" ");
+  });
+  check(read.join("\n") === want.join("\n"), `${what}: the package source-map differs`);
+  return true;
+}
+
+async function compare(segments, sources, names, what) {
+  const sourceList = Array.from({ length: sources }, (_, k) => `s${k}.js`);
+  const nameList = Array.from({ length: names }, (_, k) => `n${k}`);
+  const characters = mappings(segments);
+  const [text, ...lines] = run(document(sourceList, nameList, characters));
+  check(text === JSON.stringify({ version: 3, sources: sourceList, names: nameList, mappings: characters }), `${what}: another text`);
+  check(lines.join("\n") === segments.map((segment) => `${segment.join(" ")}\n`).join(""), `${what}: other segments`);
+  compareWithNode(text, segments, what);
+  return compareWithPackage(text, segments, what);
+}
+
+// ---- what is refused, as docs/SOURCE_MAP.md says
+
+const MOST = 2147483647;
+const REFUSED = [
+  ["A!", "BadDigit at 1"],
+  ["AA", "BadFields at 0"],
+  ["AAAA,AAAA", "BadIndex at 5"],
+  ["AAAA,CCAA", "BadIndex at 6"],
+  ["AAAAC", "BadIndex at 4"],
+  ["AAAg", "BadDigit at 3"],
+  ["AAggggggggA", "BadDigit at 2"],
+  [`${vlq(MOST)},C`, "BadIndex at 8"],
+  [vlq(MOST + 1), "BadDigit at 0"],
+];
+
+function refuse() {
+  for (const [characters, want] of REFUSED) {
+    const [answer] = run(document(["a.js"], ["n"], characters));
+    check(answer === want, `${characters}: ${answer} in place of ${want}`);
+  }
+  check(run("{}")[0] === "BadJson", "{} is read");
+  check(run('{"version":2,"sources":[],"names":[],"mappings":""}')[0] === "BadVersion", "version 2 is read");
+}
+
+async function main() {
+  let withPackage = false;
+  for (let round = 0; round < 40; round += 1) {
+    const wide = [3, 40, 1000, 200000][round % 4];
+    const sources = 1 + below(20);
+    const names = 1 + below(20);
+    const segments = randomSegments(200 + below(400), sources, names, wide);
+    withPackage = await compare(segments, sources, names, `round ${round}`);
+  }
+  await compare(randomSegments(20000, 300, 2000, 30), 300, 2000, "20000 segments");
+  await compare([[0, 0, 0, MOST, MOST], [0, MOST, 0, 0, 0], [3, 1, 0, MOST, 0, 0]], 1, 1, "the largest numbers");
+  refuse();
+  const verdict = failures === 0 ? "all maps agree" : `${failures} differences`;
+  console.log(`maps_compare: ${verdict}${withPackage ? ", with the package source-map" : ""}`);
+  process.exit(failures === 0 ? 0 : 1);
+}
+
+main();
