@@ -79,7 +79,7 @@ slash_is closing rest m =
     (λ f. by_cases (Front closing (47 ∷ rest)) (eqb (slice_index rest 0) 42) _ _
     (λ t. let b = begins rest 41 (eqb-true (slice_index rest 0) 42 t) in
     subst (λ x. Front closing (47 ∷ x) (quoted.block_comment (47 ∷ x))) (sym b.1) (block_comment b.0 _ (block_comment_is 47 42 b.0)))
-    (λ g. punctuator (47 ∷ rest) _ (others closing 47 rest m
+    (λ g. punctuator 47 rest _ (others closing 47 rest m
     (λ e. λ next. elim next [ inl a ↦ eqb-false (slice_index rest 0) 47 f a | inr a ↦ eqb-false (slice_index rest 0) 42 g a ])
     (λ e. let bad : 47 ≡ 46 = e in absurd (omega arith))) (punctuator_is (47 ∷ rest))))
 
@@ -96,7 +96,7 @@ marked_is closing c rest w s l d q =
     (λ x. let is = eqb-true c 47 x in subst (λ y. Front closing (y ∷ rest) (slash_element (y ∷ rest))) (sym is) (slash_is closing rest (subst (λ y. IsMarked closing y) is m)))
     (λ x. by_cases F (eqb c 46 && is_decimal_digit (slice_index rest 0)) _ _
     (λ p. let two = both _ _ p in let begin = inr (eqb-true c 46 two.0, two.1) in number (c ∷ rest) _ begin (number_is (c ∷ rest)))
-    (λ p. punctuator (c ∷ rest) _ (others closing c rest m (λ e47. absurd (eqb-false c 47 x e47)) (λ e46. no_point c _ e46 p)) (punctuator_is (c ∷ rest))))))
+    (λ p. punctuator c rest _ (others closing c rest m (λ e47. absurd (eqb-false c 47 x e47)) (λ e46. no_point c _ e46 p)) (punctuator_is (c ∷ rest))))))
 
 pub front : (closing : Bool) (rest : List ℕ) → Front closing rest (element closing rest)
 unfolding element

@@ -1,7 +1,9 @@
+pub mod ClassLemmas
 pub mod CommentLemmas
 pub mod CommentOnly
 pub mod Escapes
 pub mod FrontLemmas
+pub mod FrontOnly
 pub mod NumberLemmas
 pub mod PunctuatorLemmas
 pub mod PunctuatorOnly

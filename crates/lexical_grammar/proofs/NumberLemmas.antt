@@ -1,5 +1,5 @@
 -- What is read where a number begins.
-use Rattle.std.proofs.Common.{◌≡◌, ℕ, zero, suc, ◌+◌, ◌-◌, ◌<◌, ◌≤◌, ◌⊎◌, inl, inr, Bool, true, false, cond, ◌&&◌, ◌||◌, List, [], ◌∷◌, ◌++◌, length, take, drop, refl, sym, ap, subst, ◌∙◌, arith, length-drop, length-append, append_assoc, eq-eqb}
+use Rattle.std.proofs.Common.{◌≡◌, ℕ, suc, ◌+◌, ◌-◌, ◌<◌, ◌≤◌, ◌⊎◌, inl, inr, Bool, true, false, cond, ◌&&◌, ◌||◌, List, [], ◌∷◌, ◌++◌, length, take, drop, refl, sym, ap, subst, ◌∙◌, arith, eq-eqb}
 use Rattle.std.specs.Prelude.{eqb, nat_lt, nat_le, not, slice_index}
 use Rattle.std.proofs.lemmas.Bool.Decides.{nat_tests}
 use Rattle.std.specs.List.{list_all}
@@ -75,10 +75,10 @@ fraction_len fs after (inr (ds, is, all)) =
 fraction_there : (cs : List ℕ) → IsFraction (take (fraction_length cs) cs) (drop (fraction_length cs) cs)
 fraction_there cs =
     by_cases (λ n. IsFraction (take n cs) (drop n cs)) (eqb (slice_index cs 0) 46) _ _
-      (λ t. let b = begins cs 45 (eqb-true (slice_index cs 0) 46 t) in let n = run_of (is_digit_of 10) b.0 in let one : 1 + n ≡ suc n = omega arith in
-        subst (λ x. IsFraction (take (1 + run_of (is_digit_of 10) (drop 1 x)) x) (drop (1 + run_of (is_digit_of 10) (drop 1 x)) x)) (sym b.1)
-          (rw one (inr (take n b.0, refl, (run_passes (is_digit_of 10) b.0, run_ends (is_digit_of 10) b.0)))))
-      (λ f. inl (refl, λ e. eqb-false (slice_index cs 0) 46 f e))
+    (λ t. let b = begins cs 45 (eqb-true (slice_index cs 0) 46 t) in let n = run_of (is_digit_of 10) b.0 in let one : 1 + n ≡ suc n = omega arith in
+    subst (λ x. IsFraction (take (1 + run_of (is_digit_of 10) (drop 1 x)) x) (drop (1 + run_of (is_digit_of 10) (drop 1 x)) x)) (sym b.1)
+    (rw one (inr (take n b.0, refl, (run_passes (is_digit_of 10) b.0, run_ends (is_digit_of 10) b.0)))))
+    (λ f. inl (refl, λ e. eqb-false (slice_index cs 0) 46 f e))
 
 by_digit : (a b c : Bool) (x y z : ℕ) → nat_lt (cond a x (cond b y (cond c z 16))) 10 ≡ true → (b ≡ true → nat_lt y 10 ≡ false) → (c ≡ true → nat_lt z 10 ≡ false) → a ≡ true
 by_digit true b c x y z h f g = refl
@@ -88,7 +88,7 @@ by_digit false false false x y z h f g = cc
 
 ten_digit : (c : ℕ) → is_digit_of 10 c ≡ true → is_decimal_digit c ≡ true
 ten_digit c h = by_digit (nat_le 48 c && nat_le c 57) (nat_le 97 c && nat_le c 102) (nat_le 65 c && nat_le c 70) (c - 48) (c - 97 + 10) (c - 65 + 10) h
-  (λ t. grind (arith, nat_tests)) (λ t. grind (arith, nat_tests))
+    (λ t. grind (arith, nat_tests)) (λ t. grind (arith, nat_tests))
 
 first_digit : (ds after : List ℕ) → 1 ≤ length ds → list_all (is_digit_of 10) ds ≡ true → is_decimal_digit (slice_index (ds ++ after) 0) ≡ true
 first_digit [] after h all = absurd (omega arith)
@@ -100,7 +100,7 @@ mark_test c (inr b) = ap (λ x. not (eqb x 101) && not (eqb x 69)) b
 
 digit_is_no_sign : (c : ℕ) → is_decimal_digit c ≡ true → (eqb c 43 || eqb c 45) ≡ false
 digit_is_no_sign c d = let low : 48 ≤ c = grind (arith, nat_tests) in
-  let a : eqb c 43 ≡ false = is_ne c 43 (λ e. omega arith) in let b : eqb c 45 ≡ false = is_ne c 45 (λ e. omega arith) in rw (a, b) refl
+    let a : eqb c 43 ≡ false = is_ne c 43 (λ e. omega arith) in let b : eqb c 45 ≡ false = is_ne c 45 (λ e. omega arith) in rw (a, b) refl
 
 exponent_at : (cs : List ℕ) (k : ℕ) → (not (eqb (slice_index cs 0) 101) && not (eqb (slice_index cs 0) 69)) ≡ false → sign_end cs ≡ k → is_decimal_digit (slice_index cs k) ≡ true
     → exponent_length cs ≡ k + run_of (is_digit_of 10) (drop k cs)
@@ -162,16 +162,16 @@ marked_there [] f d = cc
 marked_there (mark ∷ rest) f d =
     let m = letter mark f in
     by_cases (λ k. is_decimal_digit (slice_index (mark ∷ rest) k) ≡ true → let n = k + run_of (is_digit_of 10) (drop k (mark ∷ rest)) in IsExponent (take n (mark ∷ rest)) (drop n (mark ∷ rest)))
-      (eqb (slice_index rest 0) 43 || eqb (slice_index rest 0) 45) 2 1 (λ t. λ digit. signed_tail mark rest m t digit) (λ t. λ digit. plain_there mark rest m digit) d
+    (eqb (slice_index rest 0) 43 || eqb (slice_index rest 0) 45) 2 1 (λ t. λ digit. signed_tail mark rest m t digit) (λ t. λ digit. plain_there mark rest m digit) d
 
 exponent_there : (cs : List ℕ) → IsExponent (take (exponent_length cs) cs) (drop (exponent_length cs) cs)
 unfolding exponent_length
 exponent_there cs =
     by_cases (λ n. exponent_length cs ≡ n → IsExponent (take n cs) (drop n cs)) (not (eqb (slice_index cs 0) 101) && not (eqb (slice_index cs 0) 69)) 0
-      (cond (is_decimal_digit (slice_index cs (sign_end cs))) (sign_end cs + run_of (is_digit_of 10) (drop (sign_end cs) cs)) 0)
-      (λ t. λ e. inl (refl, e))
-      (λ f. by_cases (λ n. exponent_length cs ≡ n → IsExponent (take n cs) (drop n cs)) (is_decimal_digit (slice_index cs (sign_end cs))) (sign_end cs + run_of (is_digit_of 10) (drop (sign_end cs) cs)) 0
-        (λ d. λ e. marked_there cs f d) (λ d. λ e. inl (refl, e))) refl
+    (cond (is_decimal_digit (slice_index cs (sign_end cs))) (sign_end cs + run_of (is_digit_of 10) (drop (sign_end cs) cs)) 0)
+    (λ t. λ e. inl (refl, e))
+    (λ f. by_cases (λ n. exponent_length cs ≡ n → IsExponent (take n cs) (drop n cs)) (is_decimal_digit (slice_index cs (sign_end cs))) (sign_end cs + run_of (is_digit_of 10) (drop (sign_end cs) cs)) 0
+    (λ d. λ e. marked_there cs f d) (λ d. λ e. inl (refl, e))) refl
 
 -- a decimal literal, by the numbers of its characters
 decimal_by : List ℕ → ℕ → ℕ → Element
@@ -188,14 +188,14 @@ ended_at v n cs after e = ap (λ x. cond (goes_on is_identifier_part x) (Stop Ba
 values_meet : (cs ds fs es after : List ℕ) → let n = length ds in let e = length ds + length fs + length es in take n cs ≡ ds → drop e cs ≡ after
     → cond (eqb e n) (ended (whole (digits_value 10 (take n cs))) n cs) (ended Marked e cs) ≡ ended_by (decimal_value ds fs es) e after
 values_meet cs ds fs es after t d = elim (cases_eq (length fs + length es) 0) [
-    inl z ↦ (let n = length ds in let e = length ds + length fs + length es in let same : e ≡ n = omega arith in
+  | inl z ↦ (let n = length ds in let e = length ds + length fs + length es in let same : e ≡ n = omega arith in
       cond-true (eqb e n) _ _ (eq-eqb e n same) ∙ ap (λ x. ended (whole (digits_value 10 x)) n cs) t ∙ ended_at (whole (digits_value 10 ds)) n cs after (ap (λ k. drop k cs) (sym same) ∙ d)
       ∙ ap (λ k. ended_by (whole (digits_value 10 ds)) k after) (sym same)
       ∙ ap (λ v. ended_by v e after) (sym (cond-true (eqb (length fs + length es) 0) (whole (digits_value 10 ds)) Marked (eq-eqb _ 0 z))))
   | inr z ↦ (let n = length ds in let e = length ds + length fs + length es in
       cond-false (eqb e n) _ _ (is_ne e n (λ s. z (omega arith))) ∙ ended_at Marked e cs after d
       ∙ ap (λ v. ended_by v e after) (sym (cond-false (eqb (length fs + length es) 0) (whole (digits_value 10 ds)) Marked (is_ne _ 0 z))))
-  ]
+]
 
 decimal_only : (cs : List ℕ) (e : Element) → IsDecimal cs e → decimal cs ≡ e
 unfolding decimal_by
@@ -232,9 +232,10 @@ decimal_there cs =
     let split1 = sym (take-append-drop f rest1) ∙ ap (λ y. fs ++ y) split2 in
     let split = sym (take-append-drop n cs) ∙ ap (λ y. ds ++ y) split1 in
     let end1 = subst (λ y. goes_on (is_digit_of 10) y ≡ false) split1 (run_ends (is_digit_of 10) cs) in
-    let fraction = subst (λ y. IsFraction fs y) split2 (fraction_there rest1) in
-    (cond (eqb (slice_index cs 0) 48 && nat_lt 1 (length ds)) (Stop LegacyOctal 0) (ended_by (decimal_value ds fs es) (length ds + length fs + length es) after),
-     (ds, fs, es, after, split, (run_passes (is_digit_of 10) cs, end1), fraction, exponent_there rest2, refl))
+    let fraction = subst (λ y. IsFraction fs y) split2 (fraction_there rest1) in (
+      cond (eqb (slice_index cs 0) 48 && nat_lt 1 (length ds)) (Stop LegacyOctal 0) (ended_by (decimal_value ds fs es) (length ds + length fs + length es) after),
+      (ds, fs, es, after, split, (run_passes (is_digit_of 10) cs, end1), fraction, exponent_there rest2, refl),
+    )
 
 prefixed_by : (radix letter : ℕ) (ds after : List ℕ) → AreAllDigits radix ds after
     → prefixed radix (48 ∷ letter ∷ (ds ++ after)) ≡ cond (eqb (length ds) 0) (Stop BadNumber 0) (ended_by (whole (digits_value radix ds)) (2 + length ds) after)
@@ -257,9 +258,10 @@ prefixed_there cs f =
     let radix = radix_of cs in
     let n = run_of (is_digit_of radix) p.1 in
     let ds = take n p.1 in
-    let after = drop n p.1 in
-    (cond (eqb (length ds) 0) (Stop BadNumber 0) (ended_by (whole (digits_value radix ds)) (2 + length ds) after),
-     (p.0, ds, after, p.2 ∙ ap (λ y. 48 ∷ p.0 ∷ y) (sym (take-append-drop n p.1)), p.3, (run_passes (is_digit_of radix) p.1, run_ends (is_digit_of radix) p.1), refl))
+    let after = drop n p.1 in (
+      cond (eqb (length ds) 0) (Stop BadNumber 0) (ended_by (whole (digits_value radix ds)) (2 + length ds) after),
+      (p.0, ds, after, p.2 ∙ ap (λ y. 48 ∷ p.0 ∷ y) (sym (take-append-drop n p.1)), p.3, (run_passes (is_digit_of radix) p.1, run_ends (is_digit_of radix) p.1), refl),
+    )
 
 -- what is a number, or its fault, is read so
 pub number_only : (cs : List ℕ) (e : Element) → IsNumber cs e → number_element cs ≡ e
@@ -270,7 +272,7 @@ number_only cs e (inr (other, p)) = cond-false (eqb (radix_of cs) 10) _ _ (is_ne
 pub number_is : (cs : List ℕ) → IsNumber cs (number_element cs)
 number_is cs =
     let some : (e : Element) × IsNumber cs e = elim (cases_eq (radix_of cs) 10) [
-        inl ten ↦ (let d = decimal_there cs in (d.0, inl (ten, d.1)))
+      | inl ten ↦ (let d = decimal_there cs in (d.0, inl (ten, d.1)))
       | inr other ↦ (let p = prefixed_there cs (is_ne (radix_of cs) 10 other) in (p.0, inr (other, p.1)))
-      ] in
+    ] in
     subst (IsNumber cs) (sym (number_only cs some.0 some.1)) some.1

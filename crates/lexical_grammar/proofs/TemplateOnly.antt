@@ -1,7 +1,7 @@
 -- A stretch of a template that is spelled is read so.
-use Rattle.std.proofs.Common.{◌≡◌, ℕ, zero, suc, ◌+◌, ◌⊎◌, inl, inr, Bool, true, false, cond, ◌&&◌, ◌||◌, List, [], ◌∷◌, ◌++◌, length, drop, eq-eqb, refl, sym, ap, subst, ◌∙◌, arith, append_assoc, length-append}
+use Rattle.std.proofs.Common.{◌≡◌, ℕ, suc, ◌+◌, inl, inr, Bool, true, false, ◌&&◌, List, [], ◌∷◌, ◌++◌, length, drop, refl, sym, ap, ◌∙◌, arith, append_assoc, length-append}
 use Rattle.std.specs.Prelude.{eqb, slice_index}
-use Rattle.std.proofs.lemmas.Bool.{cond-true, cond-false, eqb-true}
+use Rattle.std.proofs.lemmas.Bool.{cond-false}
 use Rattle.std.proofs.lemmas.List.{drop_at}
 use Rattle.es6_lexer.specs.declared.token.LexicalKind.{LexicalKind}
 use Rattle.es6_lexer.specs.declared.token.LexicalKind.TheVariants.{OpenTemplate}
@@ -10,7 +10,7 @@ use Rattle.es6_lexer.specs.declared.shape.Element.TheVariants.{Finished, Skip, T
 use Rattle.es6_lexer.specs.declared.shape.Shape.TheVariants.{OfWord, OfPunctuator, OfNumber, OfText, OfTemplate}
 use Rattle.es6_lexer.specs.declared.shape.EscapeEnd.{EscapeEnd}
 use Rattle.es6_lexer.specs.declared.shape.EscapeEnd.TheVariants.{Cut, Spelled, Wrong}
-use Rattle.es6_lexer.specs.Quoted.{escape, template_from, template_element}
+use Rattle.es6_lexer.specs.Quoted.{escape, template_from}
 use Rattle.es6_lexer.proofs.Steps.{template_skip}
 use Rattle.lexical_grammar.specs.Grammar.{Characters, none, plain, escaped, template_stops, stretch_end, IsTemplate}
 use Rattle.lexical_grammar.proofs.TextOnly.{is_ne, or_first, or_second}

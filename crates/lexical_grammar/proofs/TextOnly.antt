@@ -1,6 +1,6 @@
 -- A string literal that is spelled is read so.
-use Rattle.std.proofs.Common.{◌≡◌, ℕ, zero, suc, ◌+◌, ◌⊎◌, inl, inr, Bool, true, false, cond, ◌&&◌, ◌||◌, List, [], ◌∷◌, ◌++◌, length, drop, eq-eqb, refl, sym, ap, subst, ◌∙◌, arith, append_assoc, length-append}
-use Rattle.std.specs.Prelude.{eqb, slice_index}
+use Rattle.std.proofs.Common.{◌≡◌, ℕ, suc, ◌+◌, ◌⊎◌, inl, inr, Bool, true, false, ◌||◌, List, [], ◌∷◌, ◌++◌, length, drop, eq-eqb, refl, sym, ap, ◌∙◌, arith, append_assoc, length-append}
+use Rattle.std.specs.Prelude.{eqb}
 use Rattle.std.proofs.lemmas.Bool.{cond-true, cond-false, eqb-true, or_cases}
 use Rattle.std.proofs.lemmas.Bool.Decides.{nat_tests}
 use Rattle.std.proofs.lemmas.List.{drop_at}
@@ -12,7 +12,7 @@ use Rattle.es6_lexer.specs.declared.shape.Shape.TheVariants.{OfWord, OfPunctuato
 use Rattle.es6_lexer.specs.declared.shape.EscapeEnd.{EscapeEnd}
 use Rattle.es6_lexer.specs.declared.shape.EscapeEnd.TheVariants.{Cut, Spelled, Wrong}
 use Rattle.es6_lexer.specs.Classes.{is_line_terminator, is_quote, goes_on}
-use Rattle.es6_lexer.specs.Quoted.{escape, text_from, text_element}
+use Rattle.es6_lexer.specs.Quoted.{escape, text_from}
 use Rattle.es6_lexer.proofs.Steps.{text_skip}
 use Rattle.lexical_grammar.specs.Grammar.{Characters, none, plain, escaped, text_stops, IsText}
 

@@ -39,7 +39,7 @@ pub data Front (closing : Bool) : List ℕ → Element → Type 0 where
   text : (quote : ℕ) (rest : List ℕ) (e : Element) → is_quote quote ≡ true → IsText quote 1 rest e → Front closing (quote ∷ rest) e
   template : (c : ℕ) (rest : List ℕ) (e : Element) → (c ≡ 96) ⊎ ((closing ≡ true) × (c ≡ 125)) → IsTemplate 1 rest e → Front closing (c ∷ rest) e
   escape_outside : (rest : List ℕ) → Front closing (92 ∷ rest) (Stop IdentifierEscape 0)
-  punctuator : (rest : List ℕ) (e : Element) → BeginsNoOther closing rest → IsPunctuator rest e → Front closing rest e
+  punctuator : (c : ℕ) (rest : List ℕ) (e : Element) → BeginsNoOther closing (c ∷ rest) → IsPunctuator (c ∷ rest) e → Front closing (c ∷ rest) e
 
 -- the tokens of the rest of a text, which begins at the offset, under the open braces, a line terminator standing before it or not
 pub data TokensFrom : List Bool → Bool → ℕ → List ℕ → List Token → Type 0 where

@@ -45,11 +45,15 @@ pub fn comments()
 /// stops it.
 pub fn numbers()
     ensures { (rest : List ℕ) (e : Element) → (number_element rest ≡ e) ↔ IsNumber rest e }
-{
-}
+{}
 
-/// The tokens that `lex6` gives are a row of gaps and tokens, each by its production, up to the
-/// end of the text or its first fault.
+/// The tokens that `lex6` gives are exactly the row of gaps and tokens, each by its production, up
+/// to the end of the text or its first fault.
 pub fn tokens()
-    ensures { (text : List ℕ) (tokens : List Token) → Lexes text tokens → IsRowOf tokens text }
+    ensures { (text : List ℕ) (tokens : List Token) → Lexes text tokens ↔ IsRowOf tokens text }
+{}
+
+/// No text is two rows of gaps and tokens.
+pub fn one_row()
+    ensures { (text : List ℕ) (a b : List Token) → IsRowOf a text → IsRowOf b text → a ≡ b }
 {}

@@ -4,4 +4,4 @@
 
 mod laws;
 
-pub use laws::{comments, numbers, punctuators, templates, texts, tokens, words};
+pub use laws::{comments, numbers, one_row, punctuators, templates, texts, tokens, words};
