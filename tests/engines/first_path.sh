@@ -19,14 +19,20 @@ compare() { # NAME EXPECTED GOT
   fi
 }
 
-# A script for an engine whose one way to write a line is `print`.
-plain_script() { # SCRIPT ANSWERS
+# A script for an engine whose one way to write a line is `print`. mujs loads a script by its path, duktape by its text.
+plain_script() { # ENGINE SCRIPT ANSWERS
+  local run
+  if [ "$1" = mujs ]; then
+    run="load(\"$2\")"
+  else
+    run="(0, eval)($(node -e 'process.stdout.write(JSON.stringify(require("fs").readFileSync(process.argv[1], "utf8")))' "$2"))"
+  fi
   echo 'var say = print;'
   cat "$here/first_hosts.js"
-  echo "var answers = $(cat "$2" 2>/dev/null || echo '{}');"
+  echo "var answers = $(cat "$3" 2>/dev/null || echo '{}');"
   echo 'var made = makeHosts(say, answers, ["print", "read", "count"]), name, threw = false;'
   echo 'for (name in made.hosts) this[name] = made.hosts[name];'
-  echo "try { (0, eval)($(node -e 'process.stdout.write(JSON.stringify(require("fs").readFileSync(process.argv[1], "utf8")))' "$1")); }"
+  echo "try { $run; }"
   echo 'catch (error) { threw = true; say("threw " + made.show(error)); }'
   echo 'if (!threw) say("ended");'
 }
@@ -49,9 +55,9 @@ for module in "$here"/first/*.js; do
   compare "$name as a module in node" "$expected" "$work/got"
   node --no-warnings "$here/first_node.js" script "$work/$name.script" "$answers" >"$work/got"
   compare "$name in node" "$expected" "$work/got"
-  plain_script "$work/$name.script" "$answers" >"$work/plain.js"
   for engine in mujs duk; do
     command -v "$engine" >/dev/null 2>&1 || continue
+    plain_script "$engine" "$work/$name.script" "$answers" >"$work/plain.js"
     "$engine" "$work/plain.js" >"$work/got" 2>&1
     compare "$name in $engine" "$expected" "$work/got"
   done
