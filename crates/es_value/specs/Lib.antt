@@ -1,0 +1,3 @@
+pub mod Arithmetic
+pub mod Bits
+pub mod Convert
