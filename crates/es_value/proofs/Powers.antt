@@ -1,9 +1,9 @@
 -- Powers of whole numbers.
-use Rattle.std.proofs.Common.{◌≡◌, ◌<◌, ◌≤◌, ◌+◌, ◌-◌, ◌*◌, ◌%◌, ℕ, zero, suc, ℤ, pos, negsuc, unsigned_abs, refl, sym, ap, ◌∙◌, arith, ◌*ℤ◌, ◌≤ℤ◌, ◌<ℤ◌, false, true, Ok, Err, Result, nat_le, nat_eq, if◌then◌else◌, ◌≢◌}
+use Rattle.std.proofs.Common.{◌≡◌, ◌<◌, ◌≤◌, ◌+◌, ◌-◌, ◌*◌, ◌%◌, ℕ, zero, suc, ℤ, pos, negsuc, unsigned_abs, refl, sym, ap, ◌∙◌, arith, ◌*ℤ◌, ◌≤ℤ◌, ◌<ℤ◌, Ok, Err, ◌≢◌}
 use Rattle.std.proofs.lemmas.Bool.Decides.{nat_tests}
 use Rattle.std.proofs.lemmas.Int.{unsigned_abs-mul, ints}
 use Rattle.std.proofs.Math.Nat.{mul-le-mul_left}
-use Rattle.es_value.specs.Arithmetic.{times, is_safe, whole, power, product}
+use Rattle.es_value.specs.Arithmetic.{times, whole, power, product}
 use Rattle.es_value.specs.declared.arithmetic.Exit.{Exit}
 use Rattle.es_value.specs.declared.arithmetic.Exit.TheVariants.{X1}
 

@@ -1,5 +1,6 @@
 //! The values of the language.
 ghost use Rattle.std.specs.Prelude.{◌≡◌, IfOk, IsTrue, ◌↔◌};
+ghost use Rattle.es_value.specs.Equality.{same_value};
 
 use crate::text::Str;
 use std::alloc::AllocError;
@@ -38,7 +39,8 @@ impl Value {
 
 /// Whether the values are strictly equal (7.2.13). No number of this profile is NaN or -0, so these are the equal values.
 pub fn same(a: &Value, b: &Value) -> bool
-    ensures { IsTrue result ↔ (a.now ≡ b.now) }
+    ensures value { result ≡ same_value a.now b.now }
+    ensures equal { IsTrue result ↔ (a.now ≡ b.now) }
 {
     match (a, b) {
         (Value::Undefined, Value::Undefined) => true,
@@ -46,7 +48,7 @@ pub fn same(a: &Value, b: &Value) -> bool
         (Value::Bool(x), Value::Bool(y)) => x == y,
         (Value::Number(x), Value::Number(y)) => x == y,
         (Value::Text(x), Value::Text(y)) => x == y,
-        (Value::Object(x), Value::Object(y)) => x == y,
+        (Value::Object(x), Value::Object(y)) => x.0 == y.0,
         _ => false,
     }
 }

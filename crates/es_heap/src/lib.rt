@@ -1,0 +1,6 @@
+//! The heap.
+#![tactic(auto)]
+
+mod key;
+
+pub use key::{Key};
