@@ -1,5 +1,5 @@
 -- The heap: a list of objects, where an object is named by its place.
-use Rattle.std.specs.Prelude.{◌≡◌, ℕ, ℤ, ◌<◌, ◌++◌, zero, suc, Bool, true, false, List, [], ◌∷◌, length, slice_index_or, slice_set, Option, None, Some, IfSome, Result}
+use Rattle.std.specs.Prelude.{◌≡◌, ℕ, ℤ, ◌<◌, ◌++◌, zero, suc, nat_lt, if◌then◌else◌, Bool, true, false, List, [], ◌∷◌, length, slice_index_or, slice_set, Option, None, Some, IfSome, Result}
 use Rattle.std.specs.List.{list_any}
 use Rattle.es_value.specs.declared.value.ObjId.{ObjId}
 use Rattle.es_heap.specs.declared.class.Class.{Class}
@@ -15,11 +15,7 @@ use Rattle.es_heap.specs.Objects as object
 abbrev pub Heap : Type 0
 Heap = List Object
 
--- the heap made this object
-abbrev pub IsIn : Heap → ObjId → Type 0
-IsIn heap id = id.0 < length heap
-
--- the object of this name; what no heap made is an empty one
+-- the object of this name; a name that the heap didn't give stands for an empty one, which nothing changes
 abbrev pub object_at : Heap → ObjId → Object
 object_at heap id = slice_index_or heap id.0 (new_object None OrdinaryClass)
 
@@ -33,6 +29,19 @@ IsBelow n (Some id) = id.0 < n
 -- each prototype was made before its object, so chains end
 abbrev pub ChainsEnd : Heap → Type 0
 ChainsEnd heap = (n : ℕ) → n < length heap → IsBelow n (object_at heap (record { 0 = n })).proto
+
+-- the name of the next object that is made
+abbrev pub next_id : Heap → ObjId
+next_id heap = record { 0 = length heap }
+
+-- a prototype that the heap made, or none
+abbrev pub proto_in : Heap → Option ObjId → Option ObjId
+proto_in heap None = None
+proto_in heap (Some up) = if nat_lt up.0 (length heap) then Some up else None
+
+-- the heap with a new object
+abbrev pub made : Heap → Option ObjId → Class → Heap
+made heap proto class = heap ++ new_object (proto_in heap proto) class ∷ []
 
 -- an object's outcome, as one of the heap
 abbrev pub at : Heap → ObjId → Outcome Object → Outcome Heap
