@@ -21,9 +21,7 @@ module _ (heap : Heap) (id : ObjId) (k : Key) where
   find_within_up (suc n) up h e q =
       let less : suc n - 1 ≡ n = omega arith in
       ap (λ o. found_or o id (above_of (object_at heap id).proto (λ up. find_within n heap up k))) e
-          ∙ ap (λ o. above_of o (λ up. find_within n heap up k)) q ∙ ap (λ m. find_within m heap up k) (sym less)
-
-
+      ∙ ap (λ o. above_of o (λ up. find_within n heap up k)) q ∙ ap (λ m. find_within m heap up k) (sym less)
 
 -- an array is an object that the heap made
 pub array_is_made : (heap : Heap) (id : ObjId) → is_array (object_at heap id).class ≡ true → id.0 < length heap

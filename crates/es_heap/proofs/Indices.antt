@@ -23,6 +23,7 @@ index_is us i e = by (is_canonical us) refl (nat_lt (digits_value us) 4294967295
     canon true true h = refl
     canon true false h = h
     canon false b h = absurd (true≢false (sym h))
+
     by : (c : Bool) → is_canonical us ≡ c → (d : Bool) → nat_lt (digits_value us) 4294967295 ≡ d → cond (c && d) (Some (digits_value us)) None ≡ Some i → (us ≡ decimal i) × (i < 4294967295)
     by true p true q h =
         let n : digits_value us ≡ i = cc in
@@ -46,6 +47,7 @@ canonical us digits start small =
     long : (us : List ℕ) → starts_well us ≡ true → 0 < length us
     long [] s = absurd (true≢false (sym s))
     long (u ∷ us) s = omega arith
+
     zero : (us : List ℕ) → starts_well us ≡ true → get_or us 0 0 ≡ 48 → length us ≡ 1
     zero [] s e = absurd (true≢false (sym s))
     zero (u ∷ []) s e = refl
@@ -74,6 +76,7 @@ index_of_badly_started us bad = by (index_of_units us) refl
         let first : 48 < get_or (decimal (suc i)) 0 0 = first_decimal (suc i) (omega arith) (omega arith) in
         let same : u ≡ get_or (decimal (suc i)) 0 0 = ap (λ xs. get_or xs 0 0) e in
         grind (arith, nat_tests, first, same)
+
     by : (o : Option ℕ) → index_of_units us ≡ o → index_of_units us ≡ None
     by None e = e
     by (Some i) e =

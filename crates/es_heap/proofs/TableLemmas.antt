@@ -45,9 +45,11 @@ IndicesBelow-without top i k (e ∷ es) t at none b = by (same_key k e.0) refl (
         let equal : j ≡ i = omega arith in
         let key : k ≡ e.0 = index_injective k e.0 i at (p ∙ ap Some equal) in
         absurd (true≢false (sym ((same_key-Decides k e.0).1 key) ∙ ne))
+
     other : (o : Option ℕ) → array_index e.0 ≡ o → same_key k e.0 ≡ false → IsBelow top o → IsBelow i o
     other None p ne below = tt
     other (Some j) p ne below = apart j p ne below (nat_lt j i) refl
+
     by : (c : Bool) → same_key k e.0 ≡ c → (lookup (same_key k) es ≡ None → IndicesBelow i es) → IndicesBelow i (e ∷ es)
     by true q rest =
         let found : Some e.1 ≡ None = sym (ap (λ c. cond c (Some e.1) (lookup (same_key k) es)) q) ∙ none in
@@ -62,6 +64,7 @@ cut_end-above top n (e ∷ es) h b = ap (λ m. fold end_after m es) (by (array_i
     one : (i : ℕ) → i < n → (c : Bool) → (if c then n else max n (i + 1)) ≡ n
     one i below true = refl
     one i below false = omega arith
+
     by : (o : Option ℕ) → IsBelow top o → end_past n o e.1 ≡ n
     by None below = refl
     by (Some i) below = one i (omega arith) (is_configurable e.1)
@@ -82,6 +85,7 @@ IndicesBelow-cut n (e ∷ es) = by (stays n e) refl (IndicesBelow-cut n es)
     one : (o : Option ℕ) → stays_of n o ≡ true → IsBelow n o
     one None q = tt
     one (Some i) q = grind (arith, nat_tests)
+
     by : (c : Bool) → stays n e ≡ c → IndicesBelow n (cut_at n es) → IndicesBelow n (cond c (e ∷ cut_at n es) (cut_at n es))
     by true q rest = (one (array_index e.0) q, rest)
     by false q rest = rest

@@ -51,7 +51,12 @@ impl Heap {
 
     /// A new object, which is extensible. An array has its property `length`, 0 and writable; else there are no properties.
     /// A prototype that this heap didn't make counts as none, so that chains end.
-    pub fn make(&mut self, alloc: Global, proto: Option<ObjId>, class: Class) -> Result<ObjId, AllocError>
+    pub fn make(
+        &mut self,
+        alloc: Global,
+        proto: Option<ObjId>,
+        class: Class,
+    ) -> Result<ObjId, AllocError>
         ensures ok { IfOk result (λ id. (id ≡ next_id self.old) × (self.new ≡ made self.old proto class)) }
         ensures err { OnErr result (self.new ≡ self.old) }
     {
@@ -162,7 +167,13 @@ impl Heap {
     ///   nor configurable would change its value or become writable;
     /// - `NotConfigurable`: otherwise. Where nothing else refuses, an element that isn't configurable stops the cut of an array,
     ///   whose length is then past that element, writable as asked.
-    pub fn define_own(&mut self, _alloc: Global, id: ObjId, key: Key, property: Prop) -> Result<(), HeapFault>
+    pub fn define_own(
+        &mut self,
+        _alloc: Global,
+        id: ObjId,
+        key: Key,
+        property: Prop,
+    ) -> Result<(), HeapFault>
         ensures { Comes self.old self.new result (define_own self.old id key property) }
     {
         if id.0 >= self.objects.len() {

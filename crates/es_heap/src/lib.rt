@@ -9,6 +9,8 @@ mod length;
 mod object;
 mod prop;
 mod table;
+#[cfg(test)]
+mod tests;
 
 pub use class::Class;
 pub use heap::Heap;

@@ -7,8 +7,8 @@ ghost use Rattle.es_heap.specs.Keys.{same_key, length_key};
 ghost use Rattle.es_heap.specs.Tables.{cut_end};
 ghost use Rattle.es_heap.specs.Objects.{Comes, Settles, fault_of, own, with_own, new_object, recorded_after, length_property, length_of, length_writable, define_own, ordinary_define, define_element, define_length, define_length_number, cut_to, set_length, after_delete, deleted, refusal, same_function};
 
-use crate::index::array_index;
 use crate::class::Class;
+use crate::index::array_index;
 use crate::key::Key;
 use crate::length::Length;
 use crate::prop::{HeapFault, Prop};
@@ -212,13 +212,22 @@ impl Object {
         ensures proto { self.new.proto ≡ self.old.proto }
     {
         match next {
-            Prop::Plain { value: Value::Number(number), writable, .. } => self.define_length_number(*number, next, *writable),
+            Prop::Plain {
+                value: Value::Number(number),
+                writable,
+                ..
+            } => self.define_length_number(*number, next, *writable),
             Prop::Plain { .. } => Err(HeapFault::BadLength),
             Prop::Accessor { .. } => Err(HeapFault::NotConfigurable),
         }
     }
 
-    fn define_length_number(&mut self, number: i64, next: &Prop, writable: bool) -> Result<(), HeapFault>
+    fn define_length_number(
+        &mut self,
+        number: i64,
+        next: &Prop,
+        writable: bool,
+    ) -> Result<(), HeapFault>
         requires { is_array self.old.class ≡ true }
         ensures outcome { Comes self.old self.new result (define_length_number self.old number next.now writable) }
         ensures memory { fault_of result ≢ Some HeapFault.OutOfMemory }
@@ -276,7 +285,18 @@ fn refusal(now: &Prop, next: &Prop) -> Option<HeapFault>
         return None;
     }
     match (now, next) {
-        (Prop::Plain { value, writable, .. }, Prop::Plain { value: new_value, writable: new_writable, configurable }) => {
+        (
+            Prop::Plain {
+                value,
+                writable,
+                ..
+            },
+            Prop::Plain {
+                value: new_value,
+                writable: new_writable,
+                configurable,
+            },
+        ) => {
             if *configurable {
                 Some(HeapFault::NotConfigurable)
             } else if *writable || !*new_writable && same(value, new_value) {
@@ -285,7 +305,14 @@ fn refusal(now: &Prop, next: &Prop) -> Option<HeapFault>
                 Some(HeapFault::NotWritable)
             }
         }
-        (Prop::Accessor { get, set, .. }, Prop::Accessor { get: new_get, set: new_set, configurable }) => {
+        (
+            Prop::Accessor { get, set, .. },
+            Prop::Accessor {
+                get: new_get,
+                set: new_set,
+                configurable,
+            },
+        ) => {
             if !*configurable && same_function(*get, *new_get) && same_function(*set, *new_set) {
                 None
             } else {

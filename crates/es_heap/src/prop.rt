@@ -3,6 +3,8 @@ ghost use Rattle.std.specs.Prelude.{◌≡◌};
 
 use es_value::{ObjId, Value};
 use std::alloc::AllocError;
+use std::error::Error;
+use std::fmt;
 
 /// A property (ECMA-262, 6th edition, 6.1.7.1). Nothing enumerates keys, so there is no attribute for that.
 #[derive(Debug, Drop)]
@@ -53,3 +55,17 @@ impl From<AllocError> for HeapFault {
         HeapFault::OutOfMemory
     }
 }
+
+impl fmt::Display for HeapFault {
+    fn fmt<W: fmt::Write>(&self, f: &mut fmt::Formatter<W>) -> fmt::Result {
+        f.write_str(match self {
+            HeapFault::NotWritable => "not writable",
+            HeapFault::NotConfigurable => "not configurable",
+            HeapFault::NotExtensible => "not extensible",
+            HeapFault::BadLength => "bad length",
+            HeapFault::OutOfMemory => "out of memory",
+        })
+    }
+}
+
+impl Error for HeapFault {}

@@ -5,7 +5,7 @@ use Rattle.es_heap.proofs.index.index_of_units.Goals.{then-units-gt10-via-then-u
 
 pub returns-then-units-gt10 : goal.returns-then-units-gt10
 returns-then-units-gt10 c = elim c.then-units-gt10.branch [
-    then-units-gt10-via-then-units-gt10 w ↦ sym (index_of_long c.args.units.now w.if-units-gt10.true)
+  | then-units-gt10-via-then-units-gt10 w ↦ sym (index_of_long c.args.units.now w.if-units-gt10.true)
   | then-units-gt10-via-else-units-gt10+then-not-starts_well w ↦ sym (index_of_badly_started c.args.units.now (sym w.if-not-starts_well.ensures))
 ]
 

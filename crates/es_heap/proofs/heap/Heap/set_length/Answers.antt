@@ -12,9 +12,10 @@ pub returns : goal.returns
 returns c =
     let there : c.args.id.0 < length c.self.inside.objects.items = array_is_made c.self.inside.objects.items c.args.id (rw (← c.self.view_is) at c.requires) in
     let here : c.index_mut-object.result.now ≡ object_at c.self.inside.objects.items c.args.id =
-        c.index_mut-object.ensures.value ∙ get_or_default c.self.inside.objects.items c.args.id.0 _ (new_object None OrdinaryClass) there in
+    c.index_mut-object.ensures.value ∙ get_or_default c.self.inside.objects.items c.args.id.0 _ (new_object None OrdinaryClass) there in
     let whole = to_z-of_z w64 c.args.length c.ranges.length in
-    rw (← c.self.view_is)
-        (c.set_length.ensures.0 ∙ ap (λ z. (object.set_length c.index_mut-object.result.now z).fault) whole ∙ ap (λ (o : Object). (object.set_length o c.args.length).fault) here,
-         ap (λ (o : Object). slice_set c.self.inside.objects.items c.args.id.0 o)
-            (c.set_length.ensures.1 ∙ ap (λ z. (object.set_length c.index_mut-object.result.now z).after) whole ∙ ap (λ (o : Object). (object.set_length o c.args.length).after) here))
+    rw (← c.self.view_is) (
+      c.set_length.ensures.0 ∙ ap (λ z. (object.set_length c.index_mut-object.result.now z).fault) whole ∙ ap (λ (o : Object). (object.set_length o c.args.length).fault) here,
+      ap (λ (o : Object). slice_set c.self.inside.objects.items c.args.id.0 o)
+          (c.set_length.ensures.1 ∙ ap (λ z. (object.set_length c.index_mut-object.result.now z).after) whole ∙ ap (λ (o : Object). (object.set_length o c.args.length).after) here),
+    )

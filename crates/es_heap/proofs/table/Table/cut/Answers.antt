@@ -11,7 +11,7 @@ pub returns-then-length-self-clause-table : goal.returns-then-length-self-clause
 returns-then-length-self-clause-table c = rw (← c.self.view_is) (sym (cut_at-above c.self.inside.top c.args.length c.self.inside.map.entries c.if-length-self.true c.self.invariant))
 
 pub invariant_of-self : goal.invariant_of-self
-invariant_of-self c = 
+invariant_of-self c =
     let kept : c.retain.new.self.entries ≡ cut_at c.end_of_cut-end.result c.self.inside.map.entries = filter-RetainsPairs _ _ _ (λ k v b w g call. search rules) _ _ c.retain.ensures.filtered in
     rw kept (IndicesBelow-cut c.end_of_cut-end.result c.self.inside.map.entries)
 
