@@ -1,10 +1,9 @@
 -- Which texts are array indices.
-use Rattle.std.proofs.Common.{◌≡◌, ◌<◌, ◌≤◌, ◌^◌, ◌+◌, ◌*◌, ◌-◌, ℕ, zero, suc, Bool, true, false, cond, ◌&&◌, not, nat_eq, nat_lt, length, get_or, List, [], ◌∷◌, Option, None, Some, refl, sym, ap, ◌∙◌, subst, arith, rules, true≢false, fold, ltb-true, ltb-false, if◌then◌else◌}
+use Rattle.std.proofs.Common.{◌≡◌, ◌<◌, ◌≤◌, ◌^◌, ◌+◌, ◌*◌, ◌-◌, ℕ, zero, suc, Bool, true, false, cond, ◌&&◌, nat_lt, length, get_or, List, [], ◌∷◌, Option, None, Some, refl, sym, ap, ◌∙◌, subst, arith, rules, true≢false, fold, ltb-true}
 use Rattle.std.proofs.lemmas.Bool.Decides.{nat_tests}
 use Rattle.std.proofs.lemmas.Fmt.{decimal-digits_value, first_decimal, length-decimal-le, decimal_nonempty, decimal_digit}
 use Rattle.std.proofs.lemmas.Slice.Eq.{bytes_eq-Decides}
 use Rattle.std.proofs.lemmas.Str.Parse.{IsNumeralModel, numerals_by_fold}
-use Rattle.std.specs.Cmp.Lexicographic.{pointwise}
 use Rattle.std.specs.Fmt.{decimal}
 use Rattle.std.specs.List.{list_all}
 use Rattle.es_value.specs.Convert.{is_digit, digits_value}

@@ -1,14 +1,10 @@
 -- The heap: a list of objects, where an object is named by its place.
-use Rattle.std.specs.Prelude.{◌≡◌, ℕ, ℤ, ◌<◌, ◌++◌, zero, suc, nat_lt, if◌then◌else◌, Bool, true, false, List, [], ◌∷◌, length, slice_index_or, slice_set, Option, None, Some, IfSome, Result}
-use Rattle.std.specs.List.{list_any}
+use Rattle.std.specs.Prelude.{ℕ, ℤ, ◌<◌, ◌++◌, zero, suc, nat_lt, if◌then◌else◌, List, [], ◌∷◌, length, slice_index_or, slice_set, Option, None, Some}
 use Rattle.es_value.specs.declared.value.ObjId.{ObjId}
 use Rattle.es_heap.specs.declared.class.Class.{Class}
 use Rattle.es_heap.specs.declared.class.Class.TheVariants.{Object as OrdinaryClass}
 use Rattle.es_heap.specs.declared.key.Key.{Key}
 use Rattle.es_heap.specs.declared.prop.Prop.{Prop}
-use Rattle.es_heap.specs.declared.prop.HeapFault.{HeapFault}
-use Rattle.es_heap.specs.Classes.{is_array}
-use Rattle.es_heap.specs.Keys.{same_key}
 use Rattle.es_heap.specs.Objects.{Object, Outcome, own, new_object}
 use Rattle.es_heap.specs.Objects as object
 

@@ -5,7 +5,6 @@ use Rattle.indexmap.specs.IndexMap.{insert_entry}
 use Rattle.indexmap.specs.IndexSet.{insert_key}
 use Rattle.es_value.specs.Equality.{same_value}
 use Rattle.es_value.specs.declared.value.ObjId.{ObjId}
-use Rattle.es_value.specs.declared.value.Value.{Value}
 use Rattle.es_value.specs.declared.value.Value.TheVariants.{Number}
 use Rattle.es_heap.specs.declared.class.Class.{Class}
 use Rattle.es_heap.specs.declared.key.Key.{Key}

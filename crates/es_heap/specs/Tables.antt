@@ -1,5 +1,5 @@
 -- The properties of an object: a list of keys with properties.
-use Rattle.std.specs.Prelude.{ℕ, ◌+◌, ◌<◌, max, Bool, true, false, not, nat_lt, if◌then◌else◌, List, [], ◌∷◌, filter, fold, Option, None, Some}
+use Rattle.std.specs.Prelude.{ℕ, ◌+◌, ◌<◌, max, Bool, true, nat_lt, if◌then◌else◌, List, [], ◌∷◌, filter, fold, Option, None, Some}
 use Rattle.es_heap.specs.declared.key.Key.{Key}
 use Rattle.es_heap.specs.declared.prop.Prop.{Prop}
 use Rattle.es_heap.specs.declared.prop.Prop.TheVariants.{Plain, Accessor}

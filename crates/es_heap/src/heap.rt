@@ -5,7 +5,7 @@ ghost use Rattle.std.specs.Option.{option_copied, option_map};
 ghost use Rattle.es_heap.specs.Classes.{is_array};
 ghost use Rattle.es_heap.specs.Keys.{same_key};
 ghost use Rattle.es_heap.specs.Objects.{Comes, Settles, own, new_object, recorded_after, after_delete, deleted};
-ghost use Rattle.es_heap.specs.Heaps.{IsBelow, next_id, made, object_at, with_object, define_own, set_length, find};
+ghost use Rattle.es_heap.specs.Heaps.{IsBelow, ChainsEnd, next_id, made, object_at, with_object, define_own, set_length, find};
 
 use crate::class::Class;
 use crate::key::Key;
@@ -71,7 +71,8 @@ impl Heap {
 
     /// How many objects were made.
     pub fn len(&self) -> usize
-        ensures { result ≡ length self.now }
+        ensures value { result ≡ length self.now }
+        ensures chains { ChainsEnd self.now }
     {
         self.objects.len()
     }

@@ -1,4 +1,4 @@
-use Rattle.std.proofs.Common.{◌≡◌, ◌<◌, ◌-◌, ◌+◌, ◌∙◌, Some, None, sym, ap, arith, length}
+use Rattle.std.proofs.Common.{◌≡◌, ◌<◌, ◌-◌, ◌+◌, ◌∙◌, sym, ap, arith, length}
 use Rattle.es_heap.specs.Heaps.{find_within}
 use Rattle.es_heap.proofs.HeapLemmas.{find_within_found, find_within_up}
 use Rattle.es_heap.proofs.heap.Heap.find.Goals as goal

@@ -1,6 +1,6 @@
-use Rattle.std.proofs.Common.{◌≡◌, sym, ◌∙◌, ap, rules}
+use Rattle.std.proofs.Common.{◌≡◌, sym, rules}
 use Rattle.indexmap.proofs.CallerLemmas.{filter-RetainsPairs}
-use Rattle.es_heap.specs.Tables.{cut_at, cut_end}
+use Rattle.es_heap.specs.Tables.{cut_at}
 use Rattle.es_heap.proofs.TableLemmas.{cut_end-above, cut_at-above, IndicesBelow-cut}
 use Rattle.es_heap.proofs.table.Table.cut.Goals as goal
 

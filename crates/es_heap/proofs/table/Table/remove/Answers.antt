@@ -1,4 +1,4 @@
-use Rattle.std.proofs.Common.{◌≡◌, None, subst, sym}
+use Rattle.std.proofs.Common.{◌≡◌, None}
 use Rattle.std.specs.Map.{lookup, remove_entry}
 use Rattle.es_heap.specs.Keys.{same_key}
 use Rattle.es_heap.proofs.TableLemmas.{IndicesBelow-lowered}
