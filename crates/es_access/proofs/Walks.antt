@@ -1,5 +1,5 @@
 -- One step of the walk that looks for an object on a chain.
-use Rattle.std.proofs.Common.{◌≡◌, ◌≢◌, ◌<◌, ◌-◌, ℕ, zero, suc, Bool, true, false, ◌||◌, nat_eq, Option, None, Some, refl, sym, ap, ◌∙◌, arith}
+use Rattle.std.proofs.Common.{◌≡◌, ◌≢◌, ◌<◌, ◌-◌, ℕ, zero, suc, true, false, ◌||◌, nat_eq, None, Some, refl, sym, ap, ◌∙◌, arith}
 use Rattle.std.proofs.lemmas.Bool.Decides.{nat_tests}
 use Rattle.es_value.specs.declared.value.ObjId.{ObjId}
 use Rattle.es_heap.specs.Heaps.{Heap, object_at}
