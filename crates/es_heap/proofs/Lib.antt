@@ -1,0 +1,4 @@
+pub mod Indices
+pub mod TableLemmas
+pub mod ObjectLemmas
+pub mod HeapLemmas

@@ -1,0 +1,11 @@
+use Rattle.std.proofs.Common.{◌≡◌, ◌<◌, ◌^◌, true, take}
+use Rattle.std.specs.List.{list_all}
+use Rattle.es_value.specs.Convert.{is_digit, digits_value}
+use Rattle.es_heap.proofs.index.digits_value.Given as goal
+
+abbrev pub invariant-loop-unit : goal.invariant-loop-unit
+invariant-loop-unit l = record {
+  digits : list_all is_digit (take l.unit-index l.units) ≡ true;
+  value : l.value ≡ digits_value (take l.unit-index l.units);
+  bound : l.value < 10 ^ l.unit-index;
+}

@@ -1,0 +1,5 @@
+pub mod Classes
+pub mod Keys
+pub mod Tables
+pub mod Objects
+pub mod Heaps
