@@ -1,0 +1,3 @@
+pub mod Lexical
+pub mod Grammar
+-- pub mod Script
