@@ -1,3 +1,4 @@
 pub mod Lexical
 pub mod Grammar
--- pub mod Script
+pub mod Early
+pub mod Script

@@ -7,5 +7,10 @@
 mod operators;
 mod tree;
 
-pub use operators::{AssignOperator5, BinaryOperator5, Key5, Literal5, UnaryOperator5, UpdateOperator5};
-pub use tree::{Block5, Case5, Catch5, Condition5, Declared5, Element5, Expr5, ForFirst5, Function5, Identifier5, Link5, Operand5, PlacedKey5, Property5, Script, Stat5};
+pub use operators::{
+    AssignOperator5, BinaryOperator5, Key5, Literal5, UnaryOperator5, UpdateOperator5,
+};
+pub use tree::{
+    Block5, Case5, Catch5, Condition5, Declared5, Element5, Expr5, ForFirst5, Function5,
+    Identifier5, Link5, Operand5, PlacedKey5, Property5, Script, Stat5,
+};

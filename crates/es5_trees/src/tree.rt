@@ -1,6 +1,8 @@
 //! The nodes. Each has the span of its text, without parentheses round it, and its children in text order.
 
-use crate::operators::{AssignOperator5, BinaryOperator5, Key5, Literal5, UnaryOperator5, UpdateOperator5};
+use crate::operators::{
+    AssignOperator5, BinaryOperator5, Key5, Literal5, UnaryOperator5, UpdateOperator5,
+};
 use es_outside::Site;
 use es_text::Span;
 use shared_text::Name;
@@ -25,27 +27,81 @@ pub struct Identifier5 {
 #[derive(Drop)]
 pub enum Stat5 {
     /// 12.2, with at least one declaration
-    Var { span: Span, declared: Items<Declared5> },
+    Var {
+        span: Span,
+        declared: Items<Declared5>,
+    },
     /// 13, whose function has a name
     FunctionDeclaration(Boxed<Function5>),
     Block(Block5),
-    Empty { span: Span },
+    Empty {
+        span: Span,
+    },
     /// 12.4, and the directives of 14.1
-    Expression { span: Span, expression: Expr5 },
+    Expression {
+        span: Span,
+        expression: Expr5,
+    },
     /// 12.5: a chain of `else if` is a list, so that `otherwise` is no `if` itself
-    If { span: Span, first: Condition5, more: Items<Condition5>, otherwise: Option<Boxed<Stat5>> },
-    DoWhile { span: Span, body: Boxed<Stat5>, test: Expr5 },
-    While { span: Span, test: Expr5, body: Boxed<Stat5> },
-    For { span: Span, first: ForFirst5, test: Option<Expr5>, update: Option<Expr5>, body: Boxed<Stat5> },
-    Continue { span: Span, label: Option<Identifier5> },
-    Break { span: Span, label: Option<Identifier5> },
-    Return { span: Span, value: Option<Expr5> },
-    Switch { span: Span, subject: Expr5, cases: Items<Case5> },
-    Labelled { span: Span, label: Identifier5, body: Boxed<Stat5> },
-    Throw { span: Span, value: Expr5 },
+    If {
+        span: Span,
+        first: Condition5,
+        more: Items<Condition5>,
+        otherwise: Option<Boxed<Stat5>>,
+    },
+    DoWhile {
+        span: Span,
+        body: Boxed<Stat5>,
+        test: Expr5,
+    },
+    While {
+        span: Span,
+        test: Expr5,
+        body: Boxed<Stat5>,
+    },
+    For {
+        span: Span,
+        first: ForFirst5,
+        test: Option<Expr5>,
+        update: Option<Expr5>,
+        body: Boxed<Stat5>,
+    },
+    Continue {
+        span: Span,
+        label: Option<Identifier5>,
+    },
+    Break {
+        span: Span,
+        label: Option<Identifier5>,
+    },
+    Return {
+        span: Span,
+        value: Option<Expr5>,
+    },
+    Switch {
+        span: Span,
+        subject: Expr5,
+        cases: Items<Case5>,
+    },
+    Labelled {
+        span: Span,
+        label: Identifier5,
+        body: Boxed<Stat5>,
+    },
+    Throw {
+        span: Span,
+        value: Expr5,
+    },
     /// 12.14, with a catch, a finally or both
-    Try { span: Span, block: Block5, catch: Option<Catch5>, finally: Option<Block5> },
-    Debugger { span: Span },
+    Try {
+        span: Span,
+        block: Block5,
+        catch: Option<Catch5>,
+        finally: Option<Block5>,
+    },
+    Debugger {
+        span: Span,
+    },
 }
 
 /// A variable, and what it is initialized with (12.2).
@@ -115,23 +171,71 @@ pub struct Function5 {
 #[cycle(tree)]
 #[derive(Drop)]
 pub enum Expr5 {
-    This { span: Span },
-    Name { span: Span, name: Name },
-    Literal { span: Span, literal: Literal5 },
-    ArrayList { span: Span, elements: Items<Element5> },
-    ObjectList { span: Span, properties: Items<Property5> },
+    This {
+        span: Span,
+    },
+    Name {
+        span: Span,
+        name: Name,
+    },
+    Literal {
+        span: Span,
+        literal: Literal5,
+    },
+    ArrayList {
+        span: Span,
+        elements: Items<Element5>,
+    },
+    ObjectList {
+        span: Span,
+        properties: Items<Property5>,
+    },
     Function(Boxed<Function5>),
     /// 11.2: what accesses and calls begin with, and at least one of these from left to right
-    Chain { span: Span, head: Boxed<Expr5>, links: Items<Link5> },
-    New { span: Span, callee: Boxed<Expr5>, arguments: Items<Expr5> },
-    Update { span: Span, operator: UpdateOperator5, target: Boxed<Expr5> },
-    Unary { span: Span, operator: UnaryOperator5, operand: Boxed<Expr5> },
+    Chain {
+        span: Span,
+        head: Boxed<Expr5>,
+        links: Items<Link5>,
+    },
+    New {
+        span: Span,
+        callee: Boxed<Expr5>,
+        arguments: Items<Expr5>,
+    },
+    Update {
+        span: Span,
+        operator: UpdateOperator5,
+        target: Boxed<Expr5>,
+    },
+    Unary {
+        span: Span,
+        operator: UnaryOperator5,
+        operand: Boxed<Expr5>,
+    },
     /// operands with operators of one precedence between them, from left to right
-    Binary { span: Span, first: Boxed<Expr5>, rest: Items<Operand5> },
-    Conditional { span: Span, test: Boxed<Expr5>, yes: Boxed<Expr5>, no: Boxed<Expr5> },
-    Assign { span: Span, operator: AssignOperator5, target: Boxed<Expr5>, value: Boxed<Expr5> },
+    Binary {
+        span: Span,
+        first: Boxed<Expr5>,
+        rest: Items<Operand5>,
+    },
+    Conditional {
+        span: Span,
+        test: Boxed<Expr5>,
+        yes: Boxed<Expr5>,
+        no: Boxed<Expr5>,
+    },
+    Assign {
+        span: Span,
+        operator: AssignOperator5,
+        target: Boxed<Expr5>,
+        value: Boxed<Expr5>,
+    },
     /// 11.14, with at least two parts
-    Sequence { span: Span, first: Boxed<Expr5>, rest: Items<Expr5> },
+    Sequence {
+        span: Span,
+        first: Boxed<Expr5>,
+        rest: Items<Expr5>,
+    },
 }
 
 /// An element of an array literal, or a hole (11.1.4).
@@ -147,9 +251,21 @@ pub enum Element5 {
 #[cycle(tree)]
 #[derive(Drop)]
 pub enum Property5 {
-    Plain { span: Span, key: PlacedKey5, value: Expr5 },
-    Getter { span: Span, key: PlacedKey5, function: Boxed<Function5> },
-    Setter { span: Span, key: PlacedKey5, function: Boxed<Function5> },
+    Plain {
+        span: Span,
+        key: PlacedKey5,
+        value: Expr5,
+    },
+    Getter {
+        span: Span,
+        key: PlacedKey5,
+        function: Boxed<Function5>,
+    },
+    Setter {
+        span: Span,
+        key: PlacedKey5,
+        function: Boxed<Function5>,
+    },
 }
 
 /// A property name with its place.
@@ -163,10 +279,20 @@ pub struct PlacedKey5 {
 #[cycle(tree)]
 #[derive(Drop)]
 pub enum Link5 {
-    Member { span: Span, name: Name },
-    Index { span: Span, index: Expr5 },
+    Member {
+        span: Span,
+        name: Name,
+    },
+    Index {
+        span: Span,
+        index: Expr5,
+    },
     /// with the place of the source from which the call comes
-    Call { span: Span, arguments: Items<Expr5>, site: Option<Site> },
+    Call {
+        span: Span,
+        arguments: Items<Expr5>,
+        site: Option<Site>,
+    },
 }
 
 /// An operator and what follows it (11.5 to 11.11).
