@@ -1,0 +1,4 @@
+pub mod Lexical
+pub mod Grammar
+pub mod Early
+pub mod Script
