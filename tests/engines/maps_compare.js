@@ -180,7 +180,7 @@ async function main() {
     const segments = randomSegments(200 + below(400), sources, names, wide);
     withPackage = await compare(segments, sources, names, `round ${round}`);
   }
-  await compare(randomSegments(20000, 300, 2000, 30), 300, 2000, "20000 segments");
+  await compare(randomSegments(100000, 300, 2000, 30), 300, 2000, "100,000 segments");
   await compare([[0, 0, 0, MOST, MOST], [0, MOST, 0, 0, 0], [3, 1, 0, MOST, 0, 0]], 1, 1, "the largest numbers");
   refuse();
   const verdict = failures === 0 ? "all maps agree" : `${failures} differences`;
