@@ -1,5 +1,7 @@
 //! The three hosts that the program offers: `print`, `read` and `count`. Building asks none of them.
 
+ghost use Rattle.std.specs.Prelude.{◌≡◌, pos};
+
 use es_outside::{FaultCount, Host, HostAnswer, Prim, Prims, Units};
 use std::alloc::{AllocError, Global};
 use std::io;
@@ -39,7 +41,10 @@ pub struct CountHost {
 }
 
 impl CountHost {
-    pub fn new() -> CountHost {
+    /// The host that answers 0 next.
+    pub fn new() -> CountHost
+        ensures { result.next ≡ pos 0 }
+    {
         CountHost { next: 0 }
     }
 }
@@ -73,7 +78,11 @@ pub struct ReadHost<I: io::Input + Drop> {
 }
 
 impl<I: io::Input + Drop> ReadHost<I> {
-    pub fn new(input: I) -> ReadHost<I> {
+    /// The host that reads this input, without a fault yet.
+    pub fn new(input: I) -> ReadHost<I>
+        ensures input { result.input ≡ input }
+        ensures no_fault { result.faults ≡ 0 }
+    {
         ReadHost {
             input,
             faults: FaultCount::new(),

@@ -1,6 +1,8 @@
 //! The real outside: files and streams. They tell no content, since no contract can say what a system call gives or
 //! takes, and each counts its faults.
 
+ghost use Rattle.std.specs.Prelude.{◌≡◌};
+
 use es_outside::{FaultCount, FileAnswer, Sink, SinkFailed};
 use std::alloc::{AllocError, Global};
 use std::fs;
@@ -42,7 +44,11 @@ impl From<io::Error> for ReadError {
 }
 
 impl<'a, R: Files> RealFiles<'a, R> {
-    pub fn new(rt: &'a R) -> RealFiles<'a, R> {
+    /// The files of this system, without a fault yet.
+    pub fn new(rt: &'a R) -> RealFiles<'a, R>
+        ensures system { result.rt.now ≡ rt.now }
+        ensures no_fault { result.faults ≡ 0 }
+    {
         RealFiles {
             rt,
             faults: FaultCount::new(),
@@ -103,7 +109,11 @@ pub struct StreamSink<P: io::Print + Drop> {
 }
 
 impl<P: io::Print + Drop> StreamSink<P> {
-    pub fn new(stream: P) -> StreamSink<P> {
+    /// A sink that writes to this stream, without a fault yet.
+    pub fn new(stream: P) -> StreamSink<P>
+        ensures stream { result.stream ≡ stream }
+        ensures no_fault { result.faults ≡ 0 }
+    {
         StreamSink {
             stream,
             faults: FaultCount::new(),
