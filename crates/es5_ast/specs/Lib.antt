@@ -1,4 +1,4 @@
-pub mod Names
+pub mod Lexical
 pub mod Grammar
-pub mod State
-pub mod Step
+pub mod Early
+pub mod Script

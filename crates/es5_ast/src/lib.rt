@@ -1,54 +1,16 @@
-//! Scripts of ECMAScript 5.1, as far as the program writes them today: their trees, and in `specs/` their grammar and
-//! their meaning.
+//! Scripts of ECMAScript 5.1: their trees, and in `specs/` their grammar.
 //!
-//! Each node says where its first token begins, as an offset in bytes from 0.
+//! The scripts are strict code of ECMA-262, 5.1 edition, in the profile of `docs/ES5_PROFILE.md`. Offsets are counted in
+//! bytes from 0.
 #![tactic(auto)]
 
-use shared_text::{Name, Units};
-use sqlite_items::Items;
+mod operators;
+mod tree;
 
-/// A script: its statements in text order (ECMA-262, 5.1 edition, 14).
-#[derive(Debug, Drop)]
-pub struct Script {
-    pub statements: Items<Stat5>,
-}
-
-/// A statement.
-#[derive(Debug, Drop)]
-pub enum Stat5 {
-    /// `var NAME = EXPRESSION;` (12.2)
-    Var { name: Name, init: Expr5 },
-    /// An expression as a statement, a directive among them (12.4, 14.1).
-    Expression(Expr5),
-}
-
-/// An expression.
-#[derive(Debug, Drop)]
-pub enum Expr5 {
-    Sum(Sum5),
-    Call(Call5),
-}
-
-/// A call of a function by its name (11.2.3).
-#[derive(Debug, Drop)]
-pub struct Call5 {
-    pub at: u32,
-    pub callee: Name,
-    pub args: Items<Sum5>,
-}
-
-/// An additive expression (11.6): a first operand, and those that are added to it from left to right.
-#[derive(Debug, Drop)]
-pub struct Sum5 {
-    pub at: u32,
-    pub first: Term5,
-    pub rest: Items<Term5>,
-}
-
-/// An operand that is a literal or a name (11.1).
-#[derive(Debug, Drop)]
-pub enum Term5 {
-    Integer(u64),
-    Text(Units),
-    Name(Name),
-}
+pub use operators::{
+    AssignOperator5, BinaryOperator5, Key5, Literal5, UnaryOperator5, UpdateOperator5,
+};
+pub use tree::{
+    Block5, Case5, Catch5, Condition5, Declared5, Element5, Expr5, ForFirst5, Function5,
+    Identifier5, Link5, Operand5, PlacedKey5, Property5, Script, Stat5,
+};

@@ -15,7 +15,7 @@ use Rattle.es5c.specs.declared.status.Status.TheVariants as status
 use Rattle.es5c.specs.declared.fault.Fault.{Fault}
 use Rattle.es5c.specs.declared.fault.Fault.TheVariants.{Missing, ReadFailed, FileTooLong, NotBuilt}
 use Rattle.es_outside.specs.Files.{read_of}
-use Rattle.es6_ast.specs.declared.Module.{Module}
+use Rattle.first_trees.specs.declared.Module.{Module}
 use Rattle.first_forms.specs.Lexing.{tokens_of}
 use Rattle.first_forms.specs.Modules.{Spells, StopsAt}
 use Rattle.first_forms.specs.Faults.{IsFault}

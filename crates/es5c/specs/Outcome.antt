@@ -2,7 +2,7 @@
 use Rattle.std.specs.Prelude.{◌≡◌, ℕ, ◌<◌, ◌≤◌, ◌⊎◌, List, [], Option, Some, None, IfSome, length}
 use Rattle.es_outside.specs.Counts.{CountRose}
 use Rattle.es_outside.specs.Sinks.{Adds, AddsFront}
-use Rattle.es6_ast.specs.declared.Module.{Module}
+use Rattle.first_trees.specs.declared.Module.{Module}
 use Rattle.first_forms.specs.Lexing.{tokens_of}
 use Rattle.first_forms.specs.Modules.{Spells, StopsAt}
 use Rattle.first_script.specs.Script.{IsScriptOf}

@@ -4,17 +4,17 @@ use Rattle.std.specs.Prelude.{codes}
 use Rattle.std.proofs.lemmas.List.{append-nil}
 use Rattle.std.proofs.lemmas.Bool.{lt-ltb, false≢true}
 use Rattle.std.specs.Option.{option_and_then}
-use Rattle.es6_ast.specs.declared.Module.{Module}
-use Rattle.es6_ast.specs.declared.Item.{Item}
-use Rattle.es6_ast.specs.declared.Item.TheVariants as item
-use Rattle.es6_ast.specs.declared.DeclarationKind.{DeclarationKind}
-use Rattle.es6_ast.specs.declared.DeclarationKind.TheVariants.{Let, Const}
-use Rattle.es6_ast.specs.declared.Expression.{Expression}
-use Rattle.es6_ast.specs.declared.Expression.TheVariants as expression
-use Rattle.es6_ast.specs.declared.Call.{Call}
-use Rattle.es6_ast.specs.declared.Sum.{Sum}
-use Rattle.es6_ast.specs.declared.Term.{Term}
-use Rattle.es6_ast.specs.declared.Term.TheVariants as term
+use Rattle.first_trees.specs.declared.Module.{Module}
+use Rattle.first_trees.specs.declared.Item.{Item}
+use Rattle.first_trees.specs.declared.Item.TheVariants as item
+use Rattle.first_trees.specs.declared.DeclarationKind.{DeclarationKind}
+use Rattle.first_trees.specs.declared.DeclarationKind.TheVariants.{Let, Const}
+use Rattle.first_trees.specs.declared.Expression.{Expression}
+use Rattle.first_trees.specs.declared.Expression.TheVariants as expression
+use Rattle.first_trees.specs.declared.Call.{Call}
+use Rattle.first_trees.specs.declared.Sum.{Sum}
+use Rattle.first_trees.specs.declared.Term.{Term}
+use Rattle.first_trees.specs.declared.Term.TheVariants as term
 use Rattle.first_forms.specs.declared.token.Token.{Token}
 use Rattle.first_forms.specs.declared.token.TokenKind.{TokenKind}
 use Rattle.first_forms.specs.declared.token.TokenKind.TheVariants as kind

@@ -5,12 +5,12 @@ use Rattle.std.specs.Option.{option_and_then}
 use Rattle.std.proofs.Math.Seq.{drop-cons}
 use Rattle.std.proofs.lemmas.List.{take-append-drop, take_more, take_all}
 use Rattle.first_forms.specs.Lexing.{token}
-use Rattle.es6_ast.specs.declared.Module.{Module}
-use Rattle.es6_ast.specs.declared.DeclarationKind.{DeclarationKind}
-use Rattle.es6_ast.specs.declared.Expression.TheVariants as expression
-use Rattle.es6_ast.specs.declared.Sum.{Sum}
-use Rattle.es6_ast.specs.declared.Term.{Term}
-use Rattle.es6_ast.specs.declared.Term.TheVariants as term
+use Rattle.first_trees.specs.declared.Module.{Module}
+use Rattle.first_trees.specs.declared.DeclarationKind.{DeclarationKind}
+use Rattle.first_trees.specs.declared.Expression.TheVariants as expression
+use Rattle.first_trees.specs.declared.Sum.{Sum}
+use Rattle.first_trees.specs.declared.Term.{Term}
+use Rattle.first_trees.specs.declared.Term.TheVariants as term
 use Rattle.first_forms.specs.declared.token.Token.{Token}
 use Rattle.first_forms.specs.declared.token.TokenKind.TheVariants as kind
 use Rattle.first_forms.specs.declared.reader.Reader.{Reader}

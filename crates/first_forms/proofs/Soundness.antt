@@ -7,15 +7,15 @@ use Rattle.std.specs.Prelude.{nat_le, nat_lt}
 use Rattle.std.specs.List.{list_all}
 use Rattle.first_forms.specs.Lexing.{token}
 use Rattle.std.specs.Str.{bytes_eq}
-use Rattle.es6_ast.specs.declared.Item.{Item}
-use Rattle.es6_ast.specs.declared.Item.TheVariants as item
-use Rattle.es6_ast.specs.declared.DeclarationKind.{DeclarationKind}
-use Rattle.es6_ast.specs.declared.DeclarationKind.TheVariants.{Let, Const}
-use Rattle.es6_ast.specs.declared.Expression.TheVariants as expression
-use Rattle.es6_ast.specs.declared.Call.{Call}
-use Rattle.es6_ast.specs.declared.Sum.{Sum}
-use Rattle.es6_ast.specs.declared.Term.{Term}
-use Rattle.es6_ast.specs.declared.Term.TheVariants as term
+use Rattle.first_trees.specs.declared.Item.{Item}
+use Rattle.first_trees.specs.declared.Item.TheVariants as item
+use Rattle.first_trees.specs.declared.DeclarationKind.{DeclarationKind}
+use Rattle.first_trees.specs.declared.DeclarationKind.TheVariants.{Let, Const}
+use Rattle.first_trees.specs.declared.Expression.TheVariants as expression
+use Rattle.first_trees.specs.declared.Call.{Call}
+use Rattle.first_trees.specs.declared.Sum.{Sum}
+use Rattle.first_trees.specs.declared.Term.{Term}
+use Rattle.first_trees.specs.declared.Term.TheVariants as term
 use Rattle.first_forms.specs.declared.token.Token.{Token}
 use Rattle.first_forms.specs.declared.token.TokenKind.{TokenKind}
 use Rattle.first_forms.specs.declared.token.TokenKind.TheVariants as kind

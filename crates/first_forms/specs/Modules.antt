@@ -1,6 +1,6 @@
 -- Which tokens spell a module, and where a reader has to stop.
 use Rattle.std.specs.Prelude.{◌≡◌, ℕ, List, [], ◌∷◌, ◌++◌, ◌⊎◌}
-use Rattle.es6_ast.specs.declared.Module.{Module}
+use Rattle.first_trees.specs.declared.Module.{Module}
 use Rattle.first_forms.specs.declared.token.Token.{Token}
 use Rattle.first_forms.specs.declared.token.TokenKind.TheVariants as kind
 use Rattle.first_forms.specs.Spelling.{MatchesAll, module_tokens}

@@ -2,15 +2,15 @@
 -- bounds of this project's profile.
 use Rattle.std.specs.Prelude.{◌≡◌, ℕ, ◌≤◌, Bool, true, false, ◌&&◌, not, ◌==◌, List, [], ◌∷◌, ◌++◌, nat_le}
 use Rattle.std.specs.List.{list_all}
-use Rattle.es6_ast.specs.declared.Module.{Module}
-use Rattle.es6_ast.specs.declared.Item.{Item}
-use Rattle.es6_ast.specs.declared.Item.TheVariants as item
-use Rattle.es6_ast.specs.declared.Expression.{Expression}
-use Rattle.es6_ast.specs.declared.Expression.TheVariants as expression
-use Rattle.es6_ast.specs.declared.Call.{Call}
-use Rattle.es6_ast.specs.declared.Sum.{Sum}
-use Rattle.es6_ast.specs.declared.Term.{Term}
-use Rattle.es6_ast.specs.declared.Term.TheVariants as term
+use Rattle.first_trees.specs.declared.Module.{Module}
+use Rattle.first_trees.specs.declared.Item.{Item}
+use Rattle.first_trees.specs.declared.Item.TheVariants as item
+use Rattle.first_trees.specs.declared.Expression.{Expression}
+use Rattle.first_trees.specs.declared.Expression.TheVariants as expression
+use Rattle.first_trees.specs.declared.Call.{Call}
+use Rattle.first_trees.specs.declared.Sum.{Sum}
+use Rattle.first_trees.specs.declared.Term.{Term}
+use Rattle.first_trees.specs.declared.Term.TheVariants as term
 use Rattle.first_forms.specs.Names.{is_one_of, IsBindable}
 
 -- the names that are imported, and those that are declared so far, both in text order

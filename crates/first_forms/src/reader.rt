@@ -1,6 +1,6 @@
 //! Tokens to a tree, one token at a time: the state says which tokens may come next, so that a fault is known at its first token.
 ghost use Rattle.std.specs.Prelude.{◌≡◌, ℕ, List, codes, nat_le, if◌then◌else◌, IfOk, IfErr, OnOk, MatchResult};
-ghost use Rattle.es6_ast.specs.declared.Module.{Module};
+ghost use Rattle.first_trees.specs.declared.Module.{Module};
 ghost use Rattle.first_forms.specs.declared.token.Token.{Token};
 ghost use Rattle.first_forms.specs.Modules.{IsClosed, Spells};
 ghost use Rattle.first_forms.specs.Faults.{IsFault};
@@ -13,7 +13,7 @@ ghost use Rattle.first_forms.specs.Reading.{after, term_of, first_term, next_ter
 use crate::lexer::{MAX_INTEGER, is_text_unit};
 use crate::names::{NameSet, is_bindable};
 use crate::token::{Token, TokenKind};
-use es6_ast::{Call, DeclarationKind, Expression, Item, Module, Sum, Term};
+use first_trees::{Call, DeclarationKind, Expression, Item, Module, Sum, Term};
 use shared_text::{Name, Units};
 use sqlite_items::Items;
 use std::alloc::{AllocError, Global};

@@ -1,6 +1,6 @@
 //! What the reader makes of texts, with trees and places worked out by hand.
 use crate::{ReadFault, Token, TokenKind, read_module, tokens};
-use es6_ast::{Call, DeclarationKind, Expression, Item, Module, Sum, Term};
+use first_trees::{Call, DeclarationKind, Expression, Item, Module, Sum, Term};
 use shared_text::Name;
 use sqlite_items::Items;
 use std::alloc::{AllocError, Global};

@@ -3,7 +3,7 @@ use Rattle.std.proofs.Common.{◌≡◌, ℕ, zero, suc, ◌+◌, ◌≤◌, ◌
 use Rattle.std.specs.Prelude.{replicate, ◌==◌, if◌then◌else◌}
 use Rattle.std.specs.Str.{bytes_eq}
 use Rattle.std.specs.List.{list_any, list_all}
-use Rattle.es5_ast.specs.Names.{is_identifier_name, is_identifier_part, is_identifier_start, unusable_names, known_globals, IsUsable}
+use Rattle.first_target.specs.Names.{is_identifier_name, is_identifier_part, is_identifier_start, unusable_names, known_globals, IsUsable}
 use Rattle.first_forms.specs.Names.{is_one_of, unbindable_names, IsBindable}
 use Rattle.first_script.specs.Suffix.{trailing_dollars, most_dollars, suffix_for}
 use Rattle.first_script.proofs.Names.{same_names, bytes_eq-refl, bool_cases, true_not_false, or_cases, or_left, or_right}

@@ -1,22 +1,22 @@
 -- What each node of a module becomes in the script: the same node, where each declared name has the suffix.
 use Rattle.std.proofs.Common.{ℕ, List, [], ◌∷◌, ◌++◌}
-use Rattle.es6_ast.specs.declared.Item.{Item}
-use Rattle.es6_ast.specs.declared.Item.TheVariants as item
-use Rattle.es6_ast.specs.declared.DeclarationKind.{DeclarationKind}
-use Rattle.es6_ast.specs.declared.Expression.{Expression}
-use Rattle.es6_ast.specs.declared.Expression.TheVariants as expression
-use Rattle.es6_ast.specs.declared.Call.{Call}
-use Rattle.es6_ast.specs.declared.Sum.{Sum}
-use Rattle.es6_ast.specs.declared.Term.{Term}
-use Rattle.es6_ast.specs.declared.Term.TheVariants as term
-use Rattle.es5_ast.specs.declared.Stat5.{Stat5}
-use Rattle.es5_ast.specs.declared.Stat5.TheVariants as stat
-use Rattle.es5_ast.specs.declared.Expr5.{Expr5}
-use Rattle.es5_ast.specs.declared.Expr5.TheVariants as expr
-use Rattle.es5_ast.specs.declared.Call5.{Call5}
-use Rattle.es5_ast.specs.declared.Sum5.{Sum5}
-use Rattle.es5_ast.specs.declared.Term5.{Term5}
-use Rattle.es5_ast.specs.declared.Term5.TheVariants as term5
+use Rattle.first_trees.specs.declared.Item.{Item}
+use Rattle.first_trees.specs.declared.Item.TheVariants as item
+use Rattle.first_trees.specs.declared.DeclarationKind.{DeclarationKind}
+use Rattle.first_trees.specs.declared.Expression.{Expression}
+use Rattle.first_trees.specs.declared.Expression.TheVariants as expression
+use Rattle.first_trees.specs.declared.Call.{Call}
+use Rattle.first_trees.specs.declared.Sum.{Sum}
+use Rattle.first_trees.specs.declared.Term.{Term}
+use Rattle.first_trees.specs.declared.Term.TheVariants as term
+use Rattle.first_target.specs.declared.Stat5.{Stat5}
+use Rattle.first_target.specs.declared.Stat5.TheVariants as stat
+use Rattle.first_target.specs.declared.Expr5.{Expr5}
+use Rattle.first_target.specs.declared.Expr5.TheVariants as expr
+use Rattle.first_target.specs.declared.Call5.{Call5}
+use Rattle.first_target.specs.declared.Sum5.{Sum5}
+use Rattle.first_target.specs.declared.Term5.{Term5}
+use Rattle.first_target.specs.declared.Term5.TheVariants as term5
 
 pub data LowersTerm (suffix : List ℕ) : Term → Term5 → Type 0 where
   low_integer : {at value : ℕ} → LowersTerm suffix (term.Integer at value) (term5.Integer value)

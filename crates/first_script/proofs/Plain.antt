@@ -1,14 +1,14 @@
 -- The texts of a well-formed module are written as they are.
 use Rattle.std.proofs.Common.{◌≡◌, ℕ, Bool, true, false, ◌&&◌, List, [], ◌∷◌, refl, sym, ◌∙◌, ap}
 use Rattle.std.specs.List.{list_all}
-use Rattle.es6_ast.specs.declared.Module.{Module}
-use Rattle.es6_ast.specs.declared.Item.{Item}
-use Rattle.es6_ast.specs.declared.Item.TheVariants as item
-use Rattle.es6_ast.specs.declared.Expression.{Expression}
-use Rattle.es6_ast.specs.declared.Expression.TheVariants as expression
-use Rattle.es6_ast.specs.declared.Sum.{Sum}
-use Rattle.es6_ast.specs.declared.Term.{Term}
-use Rattle.es6_ast.specs.declared.Term.TheVariants as term
+use Rattle.first_trees.specs.declared.Module.{Module}
+use Rattle.first_trees.specs.declared.Item.{Item}
+use Rattle.first_trees.specs.declared.Item.TheVariants as item
+use Rattle.first_trees.specs.declared.Expression.{Expression}
+use Rattle.first_trees.specs.declared.Expression.TheVariants as expression
+use Rattle.first_trees.specs.declared.Sum.{Sum}
+use Rattle.first_trees.specs.declared.Term.{Term}
+use Rattle.first_trees.specs.declared.Term.TheVariants as term
 use Rattle.first_forms.specs.WellFormed.{Scope, with_declared, IsTerm, AreTerms, IsSum, AreSums, IsInitializer, AreItems, AreModuleItems, IsWellFormed}
 use Rattle.first_script.specs.Pieces.{is_plain_term, is_plain_sum, is_plain_expression, is_plain_item}
 

@@ -12,30 +12,30 @@ use Rattle.es_outside.specs.declared.events.Seen.{Seen}
 use Rattle.es_outside.specs.declared.events.Event.{Event}
 use Rattle.es_outside.specs.declared.host.Reply.{Reply}
 use Rattle.es_outside.specs.declared.host.Reply.TheVariants as reply
-use Rattle.es6_ast.specs.declared.Module.{Module}
-use Rattle.es6_ast.specs.declared.Item.{Item}
-use Rattle.es6_ast.specs.declared.Item.TheVariants as item
-use Rattle.es6_ast.specs.declared.DeclarationKind.{DeclarationKind}
-use Rattle.es6_ast.specs.declared.Expression.{Expression}
-use Rattle.es6_ast.specs.declared.Expression.TheVariants as expression
-use Rattle.es6_ast.specs.declared.Call.{Call}
-use Rattle.es6_ast.specs.declared.Sum.{Sum}
-use Rattle.es6_ast.specs.declared.Term.{Term}
-use Rattle.es6_ast.specs.declared.Term.TheVariants as term
-use Rattle.es5_ast.specs.declared.Script.{Script}
-use Rattle.es5_ast.specs.declared.Stat5.{Stat5}
-use Rattle.es5_ast.specs.declared.Stat5.TheVariants as stat
-use Rattle.es5_ast.specs.declared.Expr5.{Expr5}
-use Rattle.es5_ast.specs.declared.Expr5.TheVariants as expr
-use Rattle.es5_ast.specs.declared.Call5.{Call5}
-use Rattle.es5_ast.specs.declared.Sum5.{Sum5}
-use Rattle.es5_ast.specs.declared.Term5.{Term5}
-use Rattle.es5_ast.specs.declared.Term5.TheVariants as term5
+use Rattle.first_trees.specs.declared.Module.{Module}
+use Rattle.first_trees.specs.declared.Item.{Item}
+use Rattle.first_trees.specs.declared.Item.TheVariants as item
+use Rattle.first_trees.specs.declared.DeclarationKind.{DeclarationKind}
+use Rattle.first_trees.specs.declared.Expression.{Expression}
+use Rattle.first_trees.specs.declared.Expression.TheVariants as expression
+use Rattle.first_trees.specs.declared.Call.{Call}
+use Rattle.first_trees.specs.declared.Sum.{Sum}
+use Rattle.first_trees.specs.declared.Term.{Term}
+use Rattle.first_trees.specs.declared.Term.TheVariants as term
+use Rattle.first_target.specs.declared.Script.{Script}
+use Rattle.first_target.specs.declared.Stat5.{Stat5}
+use Rattle.first_target.specs.declared.Stat5.TheVariants as stat
+use Rattle.first_target.specs.declared.Expr5.{Expr5}
+use Rattle.first_target.specs.declared.Expr5.TheVariants as expr
+use Rattle.first_target.specs.declared.Call5.{Call5}
+use Rattle.first_target.specs.declared.Sum5.{Sum5}
+use Rattle.first_target.specs.declared.Term5.{Term5}
+use Rattle.first_target.specs.declared.Term5.TheVariants as term5
 use Rattle.first_forms.specs.WellFormed.{Scope, with_declared, IsTerm, AreTerms, IsSum, AreSums, IsCall, IsInitializer, CanDeclare, AreItems}
 use Rattle.meaning6.specs.State as six
 use Rattle.meaning6.specs.Step as step6
-use Rattle.es5_ast.specs.State as five
-use Rattle.es5_ast.specs.Step as step5
+use Rattle.first_target.specs.State as five
+use Rattle.first_target.specs.Step as step5
 use Rattle.first_script.proofs.Names.{true_not_false}
 use Rattle.first_script.proofs.Lowered.{LowersTerm, low_integer, low_text, low_name, LowersTerms, no_terms, more_terms, LowersSum, LowersSums, no_sums, more_sums, LowersCall, low_call, LowersExpression, low_sum, low_called, LowersItems, no_items, low_declaration, low_statement}
 use Rattle.first_script.proofs.Scopes.{HasValue, HasHost, IsApart, Agrees, agrees_after}

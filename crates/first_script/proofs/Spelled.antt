@@ -3,27 +3,27 @@ use Rattle.std.proofs.Common.{◌≡◌, ℕ, zero, suc, ◌+◌, ◌≤◌, Boo
 use Rattle.std.specs.Prelude.{codes}
 use Rattle.std.specs.List.{list_all}
 use Rattle.std.specs.Str.{bytes_eq}
-use Rattle.es6_ast.specs.declared.Module.{Module}
-use Rattle.es6_ast.specs.declared.Item.{Item}
-use Rattle.es6_ast.specs.declared.Item.TheVariants as item
-use Rattle.es6_ast.specs.declared.Expression.{Expression}
-use Rattle.es6_ast.specs.declared.Expression.TheVariants as expression
-use Rattle.es6_ast.specs.declared.Call.{Call}
-use Rattle.es6_ast.specs.declared.Sum.{Sum}
-use Rattle.es6_ast.specs.declared.Term.{Term}
-use Rattle.es6_ast.specs.declared.Term.TheVariants as term
-use Rattle.es5_ast.specs.declared.Script.{Script}
-use Rattle.es5_ast.specs.declared.Stat5.{Stat5}
-use Rattle.es5_ast.specs.declared.Stat5.TheVariants as stat
-use Rattle.es5_ast.specs.declared.Expr5.{Expr5}
-use Rattle.es5_ast.specs.declared.Expr5.TheVariants as expr
-use Rattle.es5_ast.specs.declared.Call5.{Call5}
-use Rattle.es5_ast.specs.declared.Sum5.{Sum5}
-use Rattle.es5_ast.specs.declared.Term5.{Term5}
-use Rattle.es5_ast.specs.declared.Term5.TheVariants as term5
-use Rattle.es5_ast.specs.Names.{is_identifier_part, IsUsable}
-use Rattle.es5_ast.specs.Grammar as g
-use Rattle.es5_ast.specs.Grammar.{Kind5, Name, Integer, Text, LeftParen, RightParen, Comma, Semicolon, Plus, Equals, Token5, token_at, spelling, IsKind, is_whole, next_is, is_gap, Tokens5, IsTerm5, AreAdded5, IsSum5, AreArguments5, IsCall5, IsExpr5, IsStat5, AreStats5, Spells5}
+use Rattle.first_trees.specs.declared.Module.{Module}
+use Rattle.first_trees.specs.declared.Item.{Item}
+use Rattle.first_trees.specs.declared.Item.TheVariants as item
+use Rattle.first_trees.specs.declared.Expression.{Expression}
+use Rattle.first_trees.specs.declared.Expression.TheVariants as expression
+use Rattle.first_trees.specs.declared.Call.{Call}
+use Rattle.first_trees.specs.declared.Sum.{Sum}
+use Rattle.first_trees.specs.declared.Term.{Term}
+use Rattle.first_trees.specs.declared.Term.TheVariants as term
+use Rattle.first_target.specs.declared.Script.{Script}
+use Rattle.first_target.specs.declared.Stat5.{Stat5}
+use Rattle.first_target.specs.declared.Stat5.TheVariants as stat
+use Rattle.first_target.specs.declared.Expr5.{Expr5}
+use Rattle.first_target.specs.declared.Expr5.TheVariants as expr
+use Rattle.first_target.specs.declared.Call5.{Call5}
+use Rattle.first_target.specs.declared.Sum5.{Sum5}
+use Rattle.first_target.specs.declared.Term5.{Term5}
+use Rattle.first_target.specs.declared.Term5.TheVariants as term5
+use Rattle.first_target.specs.Names.{is_identifier_part, IsUsable}
+use Rattle.first_target.specs.Grammar as g
+use Rattle.first_target.specs.Grammar.{Kind5, Name, Integer, Text, LeftParen, RightParen, Comma, Semicolon, Plus, Equals, Token5, token_at, spelling, IsKind, is_whole, next_is, is_gap, Tokens5, IsTerm5, AreAdded5, IsSum5, AreArguments5, IsCall5, IsExpr5, IsStat5, AreStats5, Spells5}
 use Rattle.first_forms.specs.Names.{is_one_of, IsBindable}
 use Rattle.first_forms.specs.WellFormed.{Scope, with_declared, IsTerm, AreTerms, IsSum, AreSums, IsCall, IsInitializer, CanDeclare, CanImport, AreImports, AreItems, AreModuleItems, IsWellFormed}
 use Rattle.first_script.specs.Pieces.{Piece, Lexeme, Gap, text_of, term_kind, added_pieces, sum_pieces, more_pieces, argument_pieces, call_pieces, expression_pieces, end_pieces, declaration_pieces, item_pieces, items_pieces, script_pieces}

@@ -4,19 +4,19 @@ use Rattle.std.specs.Str.{bytes_eq}
 use Rattle.std.specs.List.{list_any, position_from}
 use Rattle.shared_meaning.specs.Ending.{DoesTheSame, SameCall}
 use Rattle.es_outside.specs.declared.primitive.Primitive.TheVariants as prim
-use Rattle.es6_ast.specs.declared.Module.{Module}
-use Rattle.es6_ast.specs.declared.Item.{Item}
-use Rattle.es6_ast.specs.declared.Item.TheVariants as item
-use Rattle.es5_ast.specs.declared.Script.{Script}
-use Rattle.es5_ast.specs.declared.Stat5.{Stat5}
-use Rattle.es5_ast.specs.declared.Stat5.TheVariants as stat
-use Rattle.es5_ast.specs.Names.{known_globals}
+use Rattle.first_trees.specs.declared.Module.{Module}
+use Rattle.first_trees.specs.declared.Item.{Item}
+use Rattle.first_trees.specs.declared.Item.TheVariants as item
+use Rattle.first_target.specs.declared.Script.{Script}
+use Rattle.first_target.specs.declared.Stat5.{Stat5}
+use Rattle.first_target.specs.declared.Stat5.TheVariants as stat
+use Rattle.first_target.specs.Names.{known_globals}
 use Rattle.first_forms.specs.Names.{is_one_of}
 use Rattle.first_forms.specs.WellFormed.{Scope, CanImport, AreImports, AreItems, AreModuleItems, IsWellFormed}
 use Rattle.meaning6.specs.State as six
 use Rattle.meaning6.specs.Step as step6
-use Rattle.es5_ast.specs.State as five
-use Rattle.es5_ast.specs.Step as step5
+use Rattle.first_target.specs.State as five
+use Rattle.first_target.specs.Step as step5
 use Rattle.runs.proofs.Simulated.{simulated}
 use Rattle.first_script.proofs.Names.{same_names, bytes_eq-refl, bytes_eq-false, name_cases, bool_cases, true_not_false, or_cases}
 use Rattle.first_script.proofs.Lowered.{LowersItems, no_items, low_declaration, low_statement, LowersModule, low_import, low_plain}

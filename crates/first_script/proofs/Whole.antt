@@ -1,6 +1,6 @@
 -- What is written is the module's script.
 use Rattle.std.proofs.Common.{◌≡◌, ℕ, List, sym, subst}
-use Rattle.es6_ast.specs.declared.Module.{Module}
+use Rattle.first_trees.specs.declared.Module.{Module}
 use Rattle.first_forms.specs.WellFormed.{IsWellFormed}
 use Rattle.first_script.specs.Pieces.{text_of, script_pieces}
 use Rattle.first_script.specs.Suffix.{suffix_for}

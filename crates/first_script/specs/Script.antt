@@ -1,9 +1,9 @@
 -- When bytes are the script of a module.
 use Rattle.std.specs.Prelude.{ℕ, List}
-use Rattle.es6_ast.specs.declared.Module.{Module}
-use Rattle.es5_ast.specs.declared.Script.{Script}
-use Rattle.es5_ast.specs.Grammar.{Spells5}
-use Rattle.es5_ast.specs.Step.{run5}
+use Rattle.first_trees.specs.declared.Module.{Module}
+use Rattle.first_target.specs.declared.Script.{Script}
+use Rattle.first_target.specs.Grammar.{Spells5}
+use Rattle.first_target.specs.Step.{run5}
 use Rattle.meaning6.specs.Step.{run6}
 use Rattle.shared_meaning.specs.Ending.{DoesTheSame}
 

@@ -8,7 +8,7 @@ ghost use Rattle.first_script.specs.Script.{IsScriptOf};
 mod print;
 mod suffix;
 
-use es6_ast::Module;
+use first_trees::Module;
 use shared_text::Name;
 use std::alloc::{AllocError, Global};
 

@@ -3,10 +3,10 @@
 ghost use Rattle.std.specs.Prelude.{◌≡◌, ◌∷◌, ◌++◌, [], List, true, OnOk, IfOk};
 ghost use Rattle.std.specs.List.{list_all};
 ghost use Rattle.std.specs.Fmt.{decimal};
-ghost use Rattle.es5_ast.specs.Grammar.{is_plain_unit, spelling};
+ghost use Rattle.first_target.specs.Grammar.{is_plain_unit, spelling};
 ghost use Rattle.first_script.specs.Pieces.{Piece, text_of, term_kind, added_pieces, sum_pieces, more_pieces, argument_pieces, call_pieces, expression_pieces, declaration_pieces, item_pieces, items_pieces, script_pieces, is_plain_term, is_plain_sum, is_plain_call, is_plain_expression, is_plain_item};
 
-use es6_ast::{Call, Expression, Item, Module, Sum, Term};
+use first_trees::{Call, Expression, Item, Module, Sum, Term};
 use shared_text::{Name, Units};
 use std::alloc::{AllocError, Global};
 

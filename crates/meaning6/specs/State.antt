@@ -4,13 +4,13 @@ use Rattle.std.specs.Prelude.{ℕ, zero, suc, Bool, true, false, if◌then◌els
 use Rattle.std.specs.Str.{bytes_eq}
 use Rattle.es_outside.specs.declared.primitive.Primitive.{Primitive}
 use Rattle.es_outside.specs.declared.events.Seen.{Seen}
-use Rattle.es6_ast.specs.declared.Module.{Module}
-use Rattle.es6_ast.specs.declared.Item.{Item}
-use Rattle.es6_ast.specs.declared.Item.TheVariants as item
-use Rattle.es6_ast.specs.declared.DeclarationKind.{DeclarationKind}
-use Rattle.es6_ast.specs.declared.Call.{Call}
-use Rattle.es6_ast.specs.declared.Sum.{Sum}
-use Rattle.es6_ast.specs.declared.Term.{Term}
+use Rattle.first_trees.specs.declared.Module.{Module}
+use Rattle.first_trees.specs.declared.Item.{Item}
+use Rattle.first_trees.specs.declared.Item.TheVariants as item
+use Rattle.first_trees.specs.declared.DeclarationKind.{DeclarationKind}
+use Rattle.first_trees.specs.declared.Call.{Call}
+use Rattle.first_trees.specs.declared.Sum.{Sum}
+use Rattle.first_trees.specs.declared.Term.{Term}
 
 -- A binding is uninitialized, or a value with a mark whether it can be assigned, or an imported host function.
 pub data Binding : Type 0 where

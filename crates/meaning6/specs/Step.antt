@@ -13,17 +13,17 @@ use Rattle.es_outside.specs.declared.events.Event.{Event}
 use Rattle.es_outside.specs.declared.events.Site.{Site}
 use Rattle.es_outside.specs.declared.host.Reply.{Reply}
 use Rattle.es_outside.specs.declared.host.Reply.TheVariants as reply
-use Rattle.es6_ast.specs.declared.Module.{Module}
-use Rattle.es6_ast.specs.declared.Item.{Item}
-use Rattle.es6_ast.specs.declared.Item.TheVariants as item
-use Rattle.es6_ast.specs.declared.DeclarationKind.{DeclarationKind}
-use Rattle.es6_ast.specs.declared.DeclarationKind.TheVariants as kind
-use Rattle.es6_ast.specs.declared.Expression.{Expression}
-use Rattle.es6_ast.specs.declared.Expression.TheVariants as expression
-use Rattle.es6_ast.specs.declared.Call.{Call}
-use Rattle.es6_ast.specs.declared.Sum.{Sum}
-use Rattle.es6_ast.specs.declared.Term.{Term}
-use Rattle.es6_ast.specs.declared.Term.TheVariants as term
+use Rattle.first_trees.specs.declared.Module.{Module}
+use Rattle.first_trees.specs.declared.Item.{Item}
+use Rattle.first_trees.specs.declared.Item.TheVariants as item
+use Rattle.first_trees.specs.declared.DeclarationKind.{DeclarationKind}
+use Rattle.first_trees.specs.declared.DeclarationKind.TheVariants as kind
+use Rattle.first_trees.specs.declared.Expression.{Expression}
+use Rattle.first_trees.specs.declared.Expression.TheVariants as expression
+use Rattle.first_trees.specs.declared.Call.{Call}
+use Rattle.first_trees.specs.declared.Sum.{Sum}
+use Rattle.first_trees.specs.declared.Term.{Term}
+use Rattle.first_trees.specs.declared.Term.TheVariants as term
 use Rattle.meaning6.specs.State.{Binding, Uninitialized, Initialized, HostFunction, Entry, EnvironmentRecord, binding_in, Node, ItemNode, CallNode, SumNode, TermNode, Completion, Empty, Value, Throw, Control, Begin, Hand, Callee, Host, NotCallable, Frame, ItemsRest, Initialize, OperandsRest, OperandRight, ArgumentsRest, Context, Pending, State, entries_of, with_entry}
 
 abbrev pub Next : Type 0

@@ -1,7 +1,7 @@
 use Rattle.std.proofs.Common.{◌≡◌, Ok, Err, Result, sym, ap, subst, ◌∙◌, arith}
 use Rattle.std.specs.Prelude.{MatchResult}
 use Rattle.std.specs.Result.{IsErrAnd}
-use Rattle.es6_ast.specs.declared.Module.{Module}
+use Rattle.first_trees.specs.declared.Module.{Module}
 use Rattle.first_forms.specs.declared.reader.ReadFault.{ReadFault}
 use Rattle.first_forms.specs.declared.reader.ReadFault.TheVariants.{OutOfMemory}
 use Rattle.first_forms.specs.Modules.{Spells, StopsAt}

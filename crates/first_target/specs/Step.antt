@@ -12,17 +12,17 @@ use Rattle.es_outside.specs.declared.events.Event.{Event}
 use Rattle.es_outside.specs.declared.events.Site.{Site}
 use Rattle.es_outside.specs.declared.host.Reply.{Reply}
 use Rattle.es_outside.specs.declared.host.Reply.TheVariants as reply
-use Rattle.es5_ast.specs.declared.Script.{Script}
-use Rattle.es5_ast.specs.declared.Stat5.{Stat5}
-use Rattle.es5_ast.specs.declared.Stat5.TheVariants as stat
-use Rattle.es5_ast.specs.declared.Expr5.{Expr5}
-use Rattle.es5_ast.specs.declared.Expr5.TheVariants as expr
-use Rattle.es5_ast.specs.declared.Call5.{Call5}
-use Rattle.es5_ast.specs.declared.Sum5.{Sum5}
-use Rattle.es5_ast.specs.declared.Term5.{Term5}
-use Rattle.es5_ast.specs.declared.Term5.TheVariants as term
-use Rattle.es5_ast.specs.Names.{is_one_of, known_globals}
-use Rattle.es5_ast.specs.State.{Value5, PrimitiveValue, HostFunction, Entry5, EnvironmentRecord5, value_in, Node5, StatNode, CallNode, SumNode, TermNode, Completion5, Empty, Normal, Throw, Control5, Begin, Hand, Callee5, Host, NotCallable, Frame5, StatsRest, AssignVar, OperandsRest, OperandRight, ArgumentsRest, Context5, State5, entries_of5, with_entry5}
+use Rattle.first_target.specs.declared.Script.{Script}
+use Rattle.first_target.specs.declared.Stat5.{Stat5}
+use Rattle.first_target.specs.declared.Stat5.TheVariants as stat
+use Rattle.first_target.specs.declared.Expr5.{Expr5}
+use Rattle.first_target.specs.declared.Expr5.TheVariants as expr
+use Rattle.first_target.specs.declared.Call5.{Call5}
+use Rattle.first_target.specs.declared.Sum5.{Sum5}
+use Rattle.first_target.specs.declared.Term5.{Term5}
+use Rattle.first_target.specs.declared.Term5.TheVariants as term
+use Rattle.first_target.specs.Names.{is_one_of, known_globals}
+use Rattle.first_target.specs.State.{Value5, PrimitiveValue, HostFunction, Entry5, EnvironmentRecord5, value_in, Node5, StatNode, CallNode, SumNode, TermNode, Completion5, Empty, Normal, Throw, Control5, Begin, Hand, Callee5, Host, NotCallable, Frame5, StatsRest, AssignVar, OperandsRest, OperandRight, ArgumentsRest, Context5, State5, entries_of5, with_entry5}
 
 abbrev pub Next5 : Type 0
 Next5 = Step State5 Event Reply Finish Exit

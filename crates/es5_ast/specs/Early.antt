@@ -6,15 +6,15 @@ use Rattle.std.specs.List.{list_any}
 use Rattle.std.specs.Fmt.{decimal}
 use Rattle.std.specs.Str.{bytes_eq}
 use Rattle.es_text.specs.declared.Span.{Span}
-use Rattle.es5_trees.specs.declared.operators.UnaryOperator5.{UnaryOperator5}
-use Rattle.es5_trees.specs.declared.operators.UnaryOperator5.TheVariants.{Delete, Void, Typeof, Plus, Minus, BitNot, Not}
-use Rattle.es5_trees.specs.declared.operators.Key5.{Key5}
-use Rattle.es5_trees.specs.declared.operators.Key5.TheVariants.{WordKey, TextKey, IntegerKey}
-use Rattle.es5_trees.specs.declared.tree.Identifier5.{Identifier5}
-use Rattle.es5_trees.specs.declared.tree.Stat5.{Stat5, fold-Stat5}
-use Rattle.es5_trees.specs.declared.tree.Element5.TheOpen as layer
-use Rattle.es5_trees.specs.declared.tree.Element5.TheOpen.{Element5-F, Expr5-F, ForFirst5-F, Link5-F, Property5-F, Stat5-F, Block5-F, Case5-F, Catch5-F, Condition5-F, Declared5-F, Function5-F, Operand5-F}
-use Rattle.es5_trees.specs.Lexical.{is_one_of}
+use Rattle.es5_ast.specs.declared.operators.UnaryOperator5.{UnaryOperator5}
+use Rattle.es5_ast.specs.declared.operators.UnaryOperator5.TheVariants.{Delete, Void, Typeof, Plus, Minus, BitNot, Not}
+use Rattle.es5_ast.specs.declared.operators.Key5.{Key5}
+use Rattle.es5_ast.specs.declared.operators.Key5.TheVariants.{WordKey, TextKey, IntegerKey}
+use Rattle.es5_ast.specs.declared.tree.Identifier5.{Identifier5}
+use Rattle.es5_ast.specs.declared.tree.Stat5.{Stat5, fold-Stat5}
+use Rattle.es5_ast.specs.declared.tree.Element5.TheOpen as layer
+use Rattle.es5_ast.specs.declared.tree.Element5.TheOpen.{Element5-F, Expr5-F, ForFirst5-F, Link5-F, Property5-F, Stat5-F, Block5-F, Case5-F, Catch5-F, Condition5-F, Declared5-F, Function5-F, Operand5-F}
+use Rattle.es5_ast.specs.Lexical.{is_one_of}
 
 -- a rule's number, whether it is an early error (F) or outside the profile (V), and the place
 pub data Rule5 : Type 0 where

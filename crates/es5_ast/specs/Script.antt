@@ -1,11 +1,11 @@
 -- Which bytes spell a script (ECMA-262, 5.1 edition, 7.9, 14).
 use Rattle.std.specs.Prelude.{◌≡◌, ℕ, ◌+◌, true, false, ◌||◌, List, [], ◌∷◌, ◌++◌, codes}
 use Rattle.std.specs.Str.{chars, IsUtf8}
-use Rattle.es5_trees.specs.declared.tree.Script.{Script}
-use Rattle.es5_trees.specs.declared.tree.Stat5.{Stat5}
-use Rattle.es5_trees.specs.Lexical.{Text, Inserted, Token5, Tokens5}
-use Rattle.es5_trees.specs.Grammar.{is_mark, end_of, IsEnd, Spans, Mode5, Exact, Aside, IsProgram}
-use Rattle.es5_trees.specs.Early.{script_pairs}
+use Rattle.es5_ast.specs.declared.tree.Script.{Script}
+use Rattle.es5_ast.specs.declared.tree.Stat5.{Stat5}
+use Rattle.es5_ast.specs.Lexical.{Text, Inserted, Token5, Tokens5}
+use Rattle.es5_ast.specs.Grammar.{is_mark, end_of, IsEnd, Spans, Mode5, Exact, Aside, IsProgram}
+use Rattle.es5_ast.specs.Early.{script_pairs}
 
 -- a program has tokens that begin with these, and the tokens are a program
 abbrev pub Begins : List Token5 → Type 0

@@ -4,11 +4,11 @@ use Rattle.std.specs.Prelude.{ℕ, zero, suc, Bool, true, false, if◌then◌els
 use Rattle.std.specs.Str.{bytes_eq}
 use Rattle.es_outside.specs.declared.primitive.Primitive.{Primitive}
 use Rattle.es_outside.specs.declared.events.Seen.{Seen}
-use Rattle.es5_ast.specs.declared.Stat5.{Stat5}
-use Rattle.es5_ast.specs.declared.Expr5.{Expr5}
-use Rattle.es5_ast.specs.declared.Call5.{Call5}
-use Rattle.es5_ast.specs.declared.Sum5.{Sum5}
-use Rattle.es5_ast.specs.declared.Term5.{Term5}
+use Rattle.first_target.specs.declared.Stat5.{Stat5}
+use Rattle.first_target.specs.declared.Expr5.{Expr5}
+use Rattle.first_target.specs.declared.Call5.{Call5}
+use Rattle.first_target.specs.declared.Sum5.{Sum5}
+use Rattle.first_target.specs.declared.Term5.{Term5}
 
 -- The value of a binding: a primitive, or a host function, which is the one kind of object that there is today.
 pub data Value5 : Type 0 where

@@ -1,4 +1,0 @@
-pub mod Lexical
-pub mod Grammar
-pub mod Early
-pub mod Script
