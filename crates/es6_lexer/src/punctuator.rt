@@ -44,67 +44,26 @@ fn single(c: char) -> Option<Punctuator>
 fn extended(punctuator: Punctuator, c: char) -> Option<Punctuator>
     ensures { result ≡ extended punctuator c }
 {
-    match punctuator {
-        Punctuator::LessThan => match c {
-            '=' => Some(Punctuator::LessOrEqual),
-            '<' => Some(Punctuator::ShiftLeft),
-            _ => None,
-        },
-        Punctuator::GreaterThan => match c {
-            '=' => Some(Punctuator::GreaterOrEqual),
-            '>' => Some(Punctuator::ShiftRight),
-            _ => None,
-        },
-        Punctuator::Assign => match c {
-            '=' => Some(Punctuator::Equals),
-            '>' => Some(Punctuator::Arrow),
-            _ => None,
-        },
-        Punctuator::Plus => match c {
-            '+' => Some(Punctuator::PlusPlus),
-            '=' => Some(Punctuator::PlusAssign),
-            _ => None,
-        },
-        Punctuator::Minus => match c {
-            '-' => Some(Punctuator::MinusMinus),
-            '=' => Some(Punctuator::MinusAssign),
-            _ => None,
-        },
-        Punctuator::Star => match c {
-            '*' => Some(Punctuator::StarStar),
-            '=' => Some(Punctuator::StarAssign),
-            _ => None,
-        },
-        Punctuator::Ampersand => match c {
-            '&' => Some(Punctuator::AmpersandAmpersand),
-            '=' => Some(Punctuator::AmpersandAssign),
-            _ => None,
-        },
-        Punctuator::Bar => match c {
-            '|' => Some(Punctuator::BarBar),
-            '=' => Some(Punctuator::BarAssign),
-            _ => None,
-        },
-        Punctuator::ShiftRight => match c {
-            '>' => Some(Punctuator::ShiftRightUnsigned),
-            '=' => Some(Punctuator::ShiftRightAssign),
-            _ => None,
-        },
-        Punctuator::Slash
-        | Punctuator::Percent
-        | Punctuator::Caret
-        | Punctuator::Exclamation
-        | Punctuator::Equals
-        | Punctuator::NotEquals
-        | Punctuator::StarStar
-        | Punctuator::ShiftLeft
-        | Punctuator::ShiftRightUnsigned => {
-            if c == '=' {
-                with_equals(punctuator)
-            } else {
-                None
-            }
-        }
+    match (punctuator, c) {
+        (Punctuator::LessThan, '=') => Some(Punctuator::LessOrEqual),
+        (Punctuator::LessThan, '<') => Some(Punctuator::ShiftLeft),
+        (Punctuator::GreaterThan, '=') => Some(Punctuator::GreaterOrEqual),
+        (Punctuator::GreaterThan, '>') => Some(Punctuator::ShiftRight),
+        (Punctuator::Assign, '=') => Some(Punctuator::Equals),
+        (Punctuator::Assign, '>') => Some(Punctuator::Arrow),
+        (Punctuator::Plus, '+') => Some(Punctuator::PlusPlus),
+        (Punctuator::Plus, '=') => Some(Punctuator::PlusAssign),
+        (Punctuator::Minus, '-') => Some(Punctuator::MinusMinus),
+        (Punctuator::Minus, '=') => Some(Punctuator::MinusAssign),
+        (Punctuator::Star, '*') => Some(Punctuator::StarStar),
+        (Punctuator::Star, '=') => Some(Punctuator::StarAssign),
+        (Punctuator::Ampersand, '&') => Some(Punctuator::AmpersandAmpersand),
+        (Punctuator::Ampersand, '=') => Some(Punctuator::AmpersandAssign),
+        (Punctuator::Bar, '|') => Some(Punctuator::BarBar),
+        (Punctuator::Bar, '=') => Some(Punctuator::BarAssign),
+        (Punctuator::ShiftRight, '>') => Some(Punctuator::ShiftRightUnsigned),
+        (Punctuator::ShiftRight, '=') => Some(Punctuator::ShiftRightAssign),
+        (_, '=') => with_equals(punctuator),
         _ => None,
     }
 }

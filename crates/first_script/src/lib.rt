@@ -14,11 +14,11 @@ use std::alloc::{AllocError, Global};
 
 /// The bytes of a strict ES5 script that makes the module's host calls and ends as it does, for every list of answers
 /// and as long as the module stays in the profile. Its host functions are globals of these names.
-pub fn script_of(alloc: Global, module: &Module, hosts: &[Name]) -> Result<Vec<u8>, AllocError>
-    requires { IsWellFormed hosts.now module.now }
-    ensures { IfOk result (λ script. IsScriptOf hosts.now module.now script.items) }
+pub fn script_of(alloc: Global, source: &Module, hosts: &[Name]) -> Result<Vec<u8>, AllocError>
+    requires { IsWellFormed hosts.now source.now }
+    ensures { IfOk result (λ script. IsScriptOf hosts.now source.now script.items) }
 {
     let suffix = suffix::suffix_of(alloc, hosts)?;
-    let script = print::print_script(alloc, module, suffix.as_slice())?;
+    let script = print::print_script(alloc, source, suffix.as_slice())?;
     Ok(script)
 }

@@ -13,15 +13,15 @@ use std::alloc::{AllocError, Global};
 /// The text of the module's script, in which this suffix stands after each declared name.
 pub(crate) fn print_script(
     alloc: Global,
-    module: &Module,
+    source: &Module,
     suffix: &[u8],
 ) -> Result<Vec<u8>, AllocError>
-    requires { list_all is_plain_item module.now.items ≡ true }
-    ensures { IfOk result (λ out. out.items ≡ text_of (script_pieces suffix.now module.now)) }
+    requires { list_all is_plain_item source.now.items ≡ true }
+    ensures { IfOk result (λ out. out.items ≡ text_of (script_pieces suffix.now source.now)) }
 {
     let mut out = Vec::new(alloc);
     out.extend_from_slice(b"\"use strict\";\n")?;
-    for item in module.items.as_slice() {
+    for item in source.items.as_slice() {
         print_item(alloc, &mut out, item, suffix)?;
     }
     Ok(out)
