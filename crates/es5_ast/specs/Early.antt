@@ -1,7 +1,7 @@
 -- The pairs of a rule and a place by which a script of the grammar is none of the profile: the early errors of strict code
 -- (ECMA-262, 5.1 edition, 10.2, 11.1.5, 11.3, 11.4, 11.13, 12.2.1, 12.7, 12.8, 12.12, 12.14.1, 13.1 and annex C), and two
 -- references that the profile leaves out. docs/ES5_PROFILE.md has the tables.
-use Rattle.std.specs.Prelude.{ℕ, Bool, true, false, ◌&&◌, ◌||◌, not, cond, List, [], ◌∷◌, ◌++◌, codes, Option, Some, None}
+use Rattle.std.specs.Prelude.{ℕ, Bool, true, false, ◌&&◌, ◌||◌, not, cond, if◌then◌else◌, ◌==◌, nat_lt, List, [], ◌∷◌, ◌++◌, fold, codes, Option, Some, None}
 use Rattle.std.specs.List.{list_any}
 use Rattle.std.specs.Fmt.{decimal}
 use Rattle.std.specs.Str.{bytes_eq}
@@ -24,6 +24,24 @@ pub data Rule5 : Type 0 where
 pub record Pair5 : Type 0 where
   pub rule : Rule5
   pub at : ℕ
+
+-- Which of two pairs comes first: by place, at one place an early error before what is outside the profile, then by number.
+abbrev pub rule_comes_first : Rule5 → Rule5 → Bool
+rule_comes_first (F m) (F n) = nat_lt m n
+rule_comes_first (F m) (V n) = true
+rule_comes_first (V m) (F n) = false
+rule_comes_first (V m) (V n) = nat_lt m n
+
+abbrev pub comes_first : Pair5 → Pair5 → Bool
+comes_first p q = nat_lt p.at q.at || ((p.at == q.at) && rule_comes_first p.rule q.rule)
+
+abbrev pub earlier : Option Pair5 → Pair5 → Option Pair5
+earlier None p = Some p
+earlier (Some q) p = Some (if comes_first p q then p else q)
+
+-- the pair that is reported of these: the one that comes first
+abbrev pub least_pair : List Pair5 → Option Pair5
+least_pair pairs = fold earlier None pairs
 
 abbrev pub when : Bool → Rule5 → ℕ → List Pair5
 when test rule at = cond test (record { rule = rule; at = at } ∷ []) []
@@ -64,11 +82,17 @@ pub data Target5 : Type 0 where
   PropertyTarget : Target5
   NoTarget : Target5
 
+-- an expression: what it is as a target, and its first token's place, parentheses round it aside
 pub record Found5 : Type 0 where
   pub target : Target5
   pub begin : ℕ
   -- the pairs in the expression, by whether a function is round it
   pub pairs : Bool → List Pair5
+
+-- a function: its first token's place, and its pairs, which nothing round it changes
+pub record Whole5 : Type 0 where
+  pub begin : ℕ
+  pub pairs : List Pair5
 
 abbrev pub bare_pairs : Target5 → Span → (Bool → List Pair5) → Found5
 bare_pairs target span pairs = record { target = target; begin = span.begin; pairs = pairs }
@@ -147,9 +171,9 @@ abbrev pub option_pairs : {A : Type 0} → (A → List Pair5) → Option A → L
 option_pairs f None = []
 option_pairs f (Some x) = f x
 
--- What each node gives, by what its children give: an expression a Found5, a property a Held5, a function its pairs, an
--- element, link, variable and operand theirs by whether a function is round them, and a statement and its parts theirs by
--- what is round them.
+-- What each node gives, by what its children give: an expression a Found5, a property a Held5, a function a Whole5, an
+-- element, link, variable and operand their pairs by whether a function is round them, and a statement and its parts theirs
+-- by what is round them.
 abbrev pub Inside : Type 0
 Inside = Bool → List Pair5
 
@@ -162,7 +186,7 @@ link_target (l ∷ []) = cond l.0 PropertyTarget NoTarget
 link_target (l ∷ m ∷ ls) = link_target (m ∷ ls)
 
 abbrev pub Layer : (Type 0 → Type 0 → Type 0 → Type 0 → Type 0 → Type 0 → Type 0 → Type 0 → Type 0 → Type 0 → Type 0 → Type 0 → Type 0 → Type 0) → Type 0
-Layer Of = Of Inside Found5 Around (Bool × Inside) Held5 Around Around Around Around Around Inside (List Pair5) Inside
+Layer Of = Of Inside Found5 Around (Bool × Inside) Held5 Around Around Around Around Around Inside Whole5 Inside
 
 abbrev pub element_step : Layer Element5-F → Inside
 element_step layer.Hole = λ inside. []
@@ -174,7 +198,7 @@ expr_step (layer.Name span name) = bare_pairs (NameTarget name) span (λ inside.
 expr_step (layer.Literal span value) = bare_pairs NoTarget span (λ inside. [])
 expr_step (layer.ArrayList span elements) = bare_pairs NoTarget span (λ inside. joined (λ e. e inside) elements)
 expr_step (layer.ObjectList span properties) = bare_pairs NoTarget span (property_pairs [] properties)
-expr_step (layer.Function f) = record { target = NoTarget; begin = 0; pairs = λ inside. f }
+expr_step (layer.Function f) = record { target = NoTarget; begin = f.begin; pairs = λ inside. f.pairs }
 expr_step (layer.Chain span head links) = bare_pairs (link_target links) span (λ inside. head.pairs inside ++ joined (λ l. l.1 inside) links)
 expr_step (layer.New span callee arguments) = bare_pairs NoTarget span (λ inside. callee.pairs inside ++ joined (λ x. x.pairs inside) arguments)
 expr_step (layer.Update span operator target) = bare_pairs NoTarget span (λ inside. assigned target ++ target.pairs inside)
@@ -196,12 +220,12 @@ link_step (layer.Call span arguments site) = (false, λ inside. joined (λ x. x.
 
 abbrev pub property_step : Layer Property5-F → Held5
 property_step (layer.Plain span key value) = record { name = key_text key.key; sort = Data; at = key.span.begin; pairs = value.pairs }
-property_step (layer.Getter span key function) = record { name = key_text key.key; sort = Get; at = key.span.begin; pairs = λ inside. function }
-property_step (layer.Setter span key function) = record { name = key_text key.key; sort = Set; at = key.span.begin; pairs = λ inside. function }
+property_step (layer.Getter span key function) = record { name = key_text key.key; sort = Get; at = key.span.begin; pairs = λ inside. function.pairs }
+property_step (layer.Setter span key function) = record { name = key_text key.key; sort = Set; at = key.span.begin; pairs = λ inside. function.pairs }
 
 abbrev pub stat_step : Layer Stat5-F → Around
 stat_step (layer.Var span declared) = λ r. joined (λ d. d r.inside) declared
-stat_step (layer.FunctionDeclaration function) = λ r. function
+stat_step (layer.FunctionDeclaration function) = λ r. function.pairs
 stat_step (layer.Block block) = λ r. block (under r)
 stat_step (layer.Empty span) = λ r. []
 stat_step (layer.Expression span x) = λ r. x.pairs r.inside
@@ -233,15 +257,15 @@ condition_step c = λ r. c.test.pairs r.inside ++ c.body r
 abbrev pub declared_step : Layer Declared5-F → Inside
 declared_step d = λ inside. bound d.name ++ option_pairs (λ x. x.pairs inside) d.init
 
-abbrev pub function_step : Layer Function5-F → List Pair5
-function_step f = option_pairs bound f.name ++ parameter_pairs [] f.parameters ++ joined (λ s. s (of_function true)) f.body
+abbrev pub function_step : Layer Function5-F → Whole5
+function_step f = record { begin = f.span.begin; pairs = option_pairs bound f.name ++ parameter_pairs [] f.parameters ++ joined (λ s. s (of_function true)) f.body }
 
 abbrev pub operand_step : Layer Operand5-F → Inside
 operand_step o = o.value.pairs
 
 abbrev pub stat_pairs : Stat5 → Around
 stat_pairs =
-    fold-Stat5 Inside Found5 Around (Bool × Inside) Held5 Around Around Around Around Around Inside (List Pair5) Inside
+    fold-Stat5 Inside Found5 Around (Bool × Inside) Held5 Around Around Around Around Around Inside Whole5 Inside
     element_step expr_step for_first_step link_step property_step stat_step block_step case_step catch_step condition_step declared_step function_step operand_step
 
 -- the pairs of a script's statements, in no order of their own
