@@ -1,7 +1,7 @@
 -- The pairs of a rule and a place by which a script of the grammar is none of the profile: the early errors of strict code
 -- (ECMA-262, 5.1 edition, 10.2, 11.1.5, 11.3, 11.4, 11.13, 12.2.1, 12.7, 12.8, 12.12, 12.14.1, 13.1 and annex C), and two
 -- references that the profile leaves out. docs/ES5_PROFILE.md has the tables.
-use Rattle.std.specs.Prelude.{ℕ, Bool, true, false, ◌&&◌, ◌||◌, not, cond, if◌then◌else◌, ◌==◌, nat_lt, List, [], ◌∷◌, ◌++◌, fold, codes, Option, Some, None}
+use Rattle.std.specs.Prelude.{◌≡◌, ℕ, Bool, true, false, ◌&&◌, ◌||◌, not, cond, if◌then◌else◌, ◌==◌, nat_lt, List, [], ◌∷◌, ◌++◌, fold, codes, Option, Some, None, All, Contains}
 use Rattle.std.specs.List.{list_any}
 use Rattle.std.specs.Fmt.{decimal}
 use Rattle.std.specs.Str.{bytes_eq}
@@ -38,6 +38,10 @@ comes_first p q = nat_lt p.at q.at || ((p.at == q.at) && rule_comes_first p.rule
 abbrev pub earlier : Option Pair5 → Pair5 → Option Pair5
 earlier None p = Some p
 earlier (Some q) p = Some (if comes_first p q then p else q)
+
+-- the pair is one of these, and none of them comes before it
+abbrev pub IsFirst : Pair5 → List Pair5 → Type 0
+IsFirst p pairs = Contains pairs p × All (λ q. comes_first q p ≡ false) pairs
 
 -- the pair that is reported of these: the one that comes first
 abbrev pub least_pair : List Pair5 → Option Pair5
@@ -114,11 +118,14 @@ assigned_target NoTarget at = when true (F 5) at
 abbrev pub assigned : Found5 → List Pair5
 assigned x = assigned_target x.target x.begin
 
+abbrev pub is_name_target : Target5 → Bool
+is_name_target (NameTarget name) = true
+is_name_target PropertyTarget = false
+is_name_target NoTarget = false
+
 -- F3
 abbrev pub deleted : UnaryOperator5 → Target5 → ℕ → List Pair5
-deleted Delete (NameTarget name) at = when true (F 3) at
-deleted Delete PropertyTarget at = []
-deleted Delete NoTarget at = []
+deleted Delete x at = when (is_name_target x) (F 3) at
 deleted Void x at = []
 deleted Typeof x at = []
 deleted Plus x at = []
@@ -160,7 +167,7 @@ key_text (IntegerKey value) = decimal value
 -- F4
 abbrev pub property_pairs : List Held5 → List Held5 → Bool → List Pair5
 property_pairs seen [] inside = []
-property_pairs seen (p ∷ ps) inside = when (list_any (λ q. bytes_eq q.name p.name && clashes q.sort p.sort) seen) (F 4) p.at ++ p.pairs inside ++ property_pairs (p ∷ seen) ps inside
+property_pairs seen (p ∷ ps) inside = when (list_any (λ q. bytes_eq p.name q.name && clashes q.sort p.sort) seen) (F 4) p.at ++ p.pairs inside ++ property_pairs (p ∷ seen) ps inside
 
 -- F7 at a label that is not round the place, or at the word
 abbrev pub jump_pairs : Option Identifier5 → List (List ℕ) → Bool → Span → List Pair5
@@ -180,10 +187,11 @@ Inside = Bool → List Pair5
 abbrev pub Around : Type 0
 Around = Round5 → List Pair5
 
-abbrev pub link_target : List (Bool × Inside) → Target5
-link_target [] = NoTarget
-link_target (l ∷ []) = cond l.0 PropertyTarget NoTarget
-link_target (l ∷ m ∷ ls) = link_target (m ∷ ls)
+-- whether the last link of a chain is an access
+abbrev pub ends_in_access : List (Bool × Inside) → Bool
+ends_in_access [] = false
+ends_in_access (l ∷ []) = l.0
+ends_in_access (l ∷ m ∷ ls) = ends_in_access (m ∷ ls)
 
 abbrev pub Layer : (Type 0 → Type 0 → Type 0 → Type 0 → Type 0 → Type 0 → Type 0 → Type 0 → Type 0 → Type 0 → Type 0 → Type 0 → Type 0 → Type 0) → Type 0
 Layer Of = Of Inside Found5 Around (Bool × Inside) Held5 Around Around Around Around Around Inside Whole5 Inside
@@ -199,7 +207,7 @@ expr_step (layer.Literal span value) = bare_pairs NoTarget span (λ inside. [])
 expr_step (layer.ArrayList span elements) = bare_pairs NoTarget span (λ inside. joined (λ e. e inside) elements)
 expr_step (layer.ObjectList span properties) = bare_pairs NoTarget span (property_pairs [] properties)
 expr_step (layer.Function f) = record { target = NoTarget; begin = f.begin; pairs = λ inside. f.pairs }
-expr_step (layer.Chain span head links) = bare_pairs (link_target links) span (λ inside. head.pairs inside ++ joined (λ l. l.1 inside) links)
+expr_step (layer.Chain span head links) = bare_pairs (cond (ends_in_access links) PropertyTarget NoTarget) span (λ inside. head.pairs inside ++ joined (λ l. l.1 inside) links)
 expr_step (layer.New span callee arguments) = bare_pairs NoTarget span (λ inside. callee.pairs inside ++ joined (λ x. x.pairs inside) arguments)
 expr_step (layer.Update span operator target) = bare_pairs NoTarget span (λ inside. assigned target ++ target.pairs inside)
 expr_step (layer.Unary span operator operand) = bare_pairs NoTarget span (λ inside. deleted operator operand.target span.begin ++ operand.pairs inside)

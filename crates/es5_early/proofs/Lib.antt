@@ -1,0 +1,3 @@
+mod Least
+mod Stacks
+mod Walked
