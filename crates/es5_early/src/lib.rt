@@ -15,6 +15,8 @@ mod pair;
 mod properties;
 mod statements;
 mod targets;
+#[cfg(test)]
+mod tests;
 
 use es5_ast::Script;
 use finder::Finder;

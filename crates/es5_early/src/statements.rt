@@ -14,6 +14,7 @@ use crate::names::{Names, name_units};
 use crate::pair::Rule;
 use es_text::Span;
 use es5_ast::{Block5, Case5, Catch5, Condition5, Declared5, Expr5, ForFirst5, Identifier5, Stat5};
+use sqlite_items::Boxed;
 use std::alloc::AllocError;
 
 impl Finder {
@@ -57,10 +58,7 @@ impl Finder {
             } => {
                 self.condition(first, labels, place.under())?;
                 self.conditions(more.as_slice(), labels, place.under())?;
-                match otherwise {
-                    None => Ok(()),
-                    Some(otherwise) => self.statement(otherwise.get(), labels, place.under()),
-                }
+                self.otherwise(otherwise, labels, place.under())
             }
             Stat5::DoWhile { body, test, .. } => {
                 self.loop_body(body.get(), labels, place)?;
@@ -104,13 +102,8 @@ impl Finder {
                 ..
             } => {
                 self.block(block, labels, place.under())?;
-                if let Some(catch) = catch {
-                    self.catch(catch, labels, place.under())?;
-                }
-                match finally {
-                    None => Ok(()),
-                    Some(finally) => self.block(finally, labels, place.under()),
-                }
+                self.catch(catch, labels, place.under())?;
+                self.finally(finally, labels, place.under())
             }
         }
     }
@@ -245,12 +238,54 @@ impl Finder {
     }
 
     #[cycle(walk)]
-    fn catch(&mut self, catch: &Catch5, labels: &mut Labels, place: Place) -> Result<(), AllocError>
-        ensures pairs { OnOk result (self.new ≡ least_with self.old (catch_pairs catch.now (round labels.old place))) }
+    fn otherwise(
+        &mut self,
+        statement: &Option<Boxed<Stat5>>,
+        labels: &mut Labels,
+        place: Place,
+    ) -> Result<(), AllocError>
+        ensures pairs { OnOk result (self.new ≡ least_with self.old (option_pairs (λ s. s (round labels.old place)) (option_map stat_pairs statement.now))) }
         ensures labels { OnOk result (labels.new ≡ labels.old) }
     {
-        self.bound(&catch.parameter);
-        self.block(&catch.body, labels, place)
+        match statement {
+            None => Ok(()),
+            Some(statement) => self.statement(statement.get(), labels, place),
+        }
+    }
+
+    #[cycle(walk)]
+    fn catch(
+        &mut self,
+        catch: &Option<Catch5>,
+        labels: &mut Labels,
+        place: Place,
+    ) -> Result<(), AllocError>
+        ensures pairs { OnOk result (self.new ≡ least_with self.old (option_pairs (λ c. c (round labels.old place)) (option_map catch_pairs catch.now))) }
+        ensures labels { OnOk result (labels.new ≡ labels.old) }
+    {
+        match catch {
+            None => Ok(()),
+            Some(catch) => {
+                self.bound(&catch.parameter);
+                self.block(&catch.body, labels, place)
+            }
+        }
+    }
+
+    #[cycle(walk)]
+    fn finally(
+        &mut self,
+        block: &Option<Block5>,
+        labels: &mut Labels,
+        place: Place,
+    ) -> Result<(), AllocError>
+        ensures pairs { OnOk result (self.new ≡ least_with self.old (option_pairs (λ b. b (round labels.old place)) (option_map block_pairs block.now))) }
+        ensures labels { OnOk result (labels.new ≡ labels.old) }
+    {
+        match block {
+            None => Ok(()),
+            Some(block) => self.block(block, labels, place),
+        }
     }
 
     #[cycle(walk)]
