@@ -1,0 +1,14 @@
+pub mod Comments
+pub mod Digits
+pub mod Escapes
+pub mod Front
+pub mod Lexing
+pub mod Prefixes
+pub mod Punctuators
+pub mod Read
+pub mod Reading
+pub mod Steps
+pub mod Texts
+pub mod Widths
+pub mod Within
+pub mod Words
