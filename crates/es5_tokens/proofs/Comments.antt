@@ -50,7 +50,7 @@ or_false true = refl
 or_false false = refl
 
 -- the character behind is the same with or without what comes later
-head_same : (body after : List ℕ) → next_is (λ d. eqb d 47) (body ++ (42 ∷ [])) ≡ eqb (slice_index (body ++ (42 ∷ 47 ∷ after)) 0) 47
+pub head_same : (body after : List ℕ) → next_is (λ d. eqb d 47) (body ++ (42 ∷ [])) ≡ eqb (slice_index (body ++ (42 ∷ 47 ∷ after)) 0) 47
 head_same [] after = refl
 head_same (x ∷ body) after = refl
 

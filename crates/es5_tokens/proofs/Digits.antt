@@ -18,10 +18,10 @@ use Rattle.es5_tokens.proofs.Prefixes.{by_cases, run_more, run_within, run_passe
 use Rattle.es5_tokens.proofs.Read.{IsRead}
 
 -- digits and their value, in the words of the library's lemmas
-abbrev AreDigits : List ℕ → Type 0
+abbrev pub AreDigits : List ℕ → Type 0
 AreDigits ds = list_all is_ascii_digit ds ≡ true
 
-in_range : (c : ℕ) → is_ascii_digit c ≡ true → IsInRange 48 57 c
+pub in_range : (c : ℕ) → is_ascii_digit c ≡ true → IsInRange 48 57 c
 in_range c h = (grind (arith, nat_tests), grind (arith, nat_tests))
 
 from_range : (c : ℕ) → IsInRange 48 57 c → is_ascii_digit c ≡ true
@@ -37,7 +37,7 @@ tells = record {
 value_in_range : (c : ℕ) → IsInRange 48 57 c → digit_value c ≡ c - 48
 value_in_range c h = let low = h.0 in let high = h.1 in grind (arith, nat_tests)
 
-abbrev read_on : ℕ → List ℕ → ℕ
+abbrev pub read_on : ℕ → List ℕ → ℕ
 read_on n cs = fold (λ m d. 10 * m + digit_value d) n cs
 
 folds : FoldsDigits read_on
@@ -46,7 +46,7 @@ folds = record {
   more = λ n c cs r. (let step : 10 * n + digit_value c ≡ n * 10 + (c - 48) = omega (arith, value_in_range c r) in ap (λ m. read_on m cs) step);
 }
 
-own : IsNumeralModel AreDigits (digits_value 10)
+pub own : IsNumeralModel AreDigits (digits_value 10)
 own = numerals_by_fold AreDigits tells read_on folds
 
 -- what ends a number, once its characters are known to spell it

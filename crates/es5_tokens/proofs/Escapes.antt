@@ -31,13 +31,13 @@ IsEscape q cs Wrong = Unit {0}
 IsEscape q cs (Stands code n) = (n ≤ length cs) × ((body after us : List ℕ) → drop n cs ≡ body ++ (q ∷ after) → StringCharacters q body us → StringCharacters q (92 ∷ (take n cs ++ body)) (units_of code ++ us))
 IsEscape q cs (Continues n) = (n ≤ length cs) × ((body after us : List ℕ) → drop n cs ≡ body ++ (q ∷ after) → StringCharacters q body us → StringCharacters q (92 ∷ (take n cs ++ body)) us)
 
-one_unit : (code : ℕ) → code ≤ 65535 → units_of code ≡ code ∷ []
+pub one_unit : (code : ℕ) → code ≤ 65535 → units_of code ≡ code ∷ []
 one_unit code h = cond-true (nat_le code 65535) _ _ (le-leb code 65535 h)
 
 with_unit : (q code : ℕ) (text us : List ℕ) → code ≤ 65535 → StringCharacters q text (code ∷ us) → StringCharacters q text (units_of code ++ us)
 with_unit q code text us h s = subst (λ x. StringCharacters q text (x ++ us)) (sym (one_unit code h)) s
 
-hex_small : (c : ℕ) → is_ascii_hexdigit c ≡ true → digit_value c < 16
+pub hex_small : (c : ℕ) → is_ascii_hexdigit c ≡ true → digit_value c < 16
 hex_small c h = grind (arith, nat_tests)
 
 digit_is : (q : ℕ) (cs : List ℕ) → IsEscape q cs (digit_escape cs)
@@ -100,7 +100,7 @@ unicode_is q cs =
     (λ f. tt)
 
 -- a character that is in no row stands for itself, and each row's unit is small
-by_rows : (rows : List (ℕ × ℕ)) (c : ℕ) → list_all (λ e. nat_le e.1 65535) rows ≡ true
+pub by_rows : (rows : List (ℕ × ℕ)) (c : ℕ) → list_all (λ e. nat_le e.1 65535) rows ≡ true
     → ((list_any (λ e. eqb e.0 c && eqb e.1 (escaped_by rows c)) rows ≡ true) × (escaped_by rows c ≤ 65535)) ⊎ ((list_any (λ e. eqb e.0 c) rows ≡ false) × (escaped_by rows c ≡ c))
 by_rows [] c h = inr (refl, refl)
 by_rows (row ∷ rows) c h =

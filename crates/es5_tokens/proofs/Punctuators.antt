@@ -85,7 +85,7 @@ singles_spelled : AreSpelled [] singles
 singles_spelled = (refl, (refl, (refl, (refl, (refl, (refl, (refl, (refl, (refl, (refl, (refl, (refl, (refl, (refl, (refl, (refl, (refl, (refl, (refl, (refl, (refl, (refl, (refl, (refl, tt))))))))))))))))))))))))
 
 -- a result of at least so many characters
-abbrev IsAtLeast : ℕ → Element → Type 0
+abbrev pub IsAtLeast : ℕ → Element → Type 0
 IsAtLeast k (Take kind n) = k ≤ n
 IsAtLeast k (Skip n line) = k ≤ n
 IsAtLeast k Finished = ⊥
@@ -105,7 +105,7 @@ grown_least p n (c ∷ cs) = elim (extended p c) as (λ o. IsAtLeast n (elim o [
 ]
 
 -- where a punctuator is spelled, one of at least its characters is read
-reads_own : (q : Punctuator) (more : List ℕ) → IsAtLeast (length (spelling q)) (punctuator_element (spelling q ++ more))
+pub reads_own : (q : Punctuator) (more : List ℕ) → IsAtLeast (length (spelling q)) (punctuator_element (spelling q ++ more))
 reads_own LeftBrace more = grown_least LeftBrace 1 more
 reads_own RightBrace more = grown_least RightBrace 1 more
 reads_own LeftParenthesis more = grown_least LeftParenthesis 1 more
@@ -156,7 +156,7 @@ reads_own Slash more = grown_least Slash 1 more
 reads_own SlashAssign more = grown_least SlashAssign 2 more
 
 -- what is read is spelled in front, or nothing is read
-abbrev IsSpelled : List ℕ → Element → Type 0
+abbrev pub IsSpelled : List ℕ → Element → Type 0
 IsSpelled rest (Take (kinds.Punctuator p) n) = (after : List ℕ) × (rest ≡ spelling p ++ after) × (n ≡ length (spelling p))
 IsSpelled rest (Take (kinds.Word name) n) = ⊥
 IsSpelled rest (Take (kinds.Integer value) n) = ⊥
@@ -186,19 +186,19 @@ single_spelled c cs (Some p) e =
     let one = beside_spelled [] singles c p singles_spelled e in
     subst (λ x. IsSpelled x (grown p 1 cs)) (ap (λ x. x ++ cs) one) (grown_spelled p 1 cs (sym (ap length one)))
 
-element_spelled : (cs : List ℕ) → IsSpelled cs (punctuator_element cs)
+pub element_spelled : (cs : List ℕ) → IsSpelled cs (punctuator_element cs)
 element_spelled [] = refl
 element_spelled (c ∷ cs) = single_spelled c cs (single c) refl
 
 -- the rows of the definition are those of the punctuators
-all_of : List Punctuator
+unfoldable pub all_of : List Punctuator
 all_of = LeftBrace ∷ RightBrace ∷ LeftParenthesis ∷ RightParenthesis ∷ LeftBracket ∷ RightBracket ∷ Dot ∷ Semicolon ∷ Comma ∷ LessThan ∷ GreaterThan ∷ LessOrEqual ∷ GreaterOrEqual ∷ Equals ∷ NotEquals ∷ StrictEquals ∷ StrictNotEquals ∷ Plus ∷ Minus ∷ Star ∷ Percent ∷ PlusPlus ∷ MinusMinus ∷ ShiftLeft ∷ ShiftRight ∷ ShiftRightUnsigned ∷ Ampersand ∷ Bar ∷ Caret ∷ Exclamation ∷ Tilde ∷ AmpersandAmpersand ∷ BarBar ∷ Question ∷ Colon ∷ Assign ∷ PlusAssign ∷ MinusAssign ∷ StarAssign ∷ PercentAssign ∷ ShiftLeftAssign ∷ ShiftRightAssign ∷ ShiftRightUnsignedAssign ∷ AmpersandAssign ∷ BarAssign ∷ CaretAssign ∷ Slash ∷ SlashAssign ∷ []
 
-punctuators_are : punctuators ≡ map spelling all_of
+pub punctuators_are : punctuators ≡ map spelling all_of
 unfolding punctuators all_of
 punctuators_are = refl
 
-is_known : (p : Punctuator) → is_one_of (spelling p) punctuators ≡ true
+pub is_known : (p : Punctuator) → is_one_of (spelling p) punctuators ≡ true
 unfolding punctuators
 is_known LeftBrace = refl
 is_known RightBrace = refl
@@ -273,7 +273,7 @@ no_longer cs q n h = elim (cases_Bool (starts_with (λ x y. eqb x y) cs q)) [
   | inr f ↦ or_right (nat_le (length q) n) _ (not_from_false _ f)
 ]
 
-begins_by : (cs q : List ℕ) → starts_with (λ x y. eqb x y) cs q ≡ true → cs ≡ q ++ drop (length q) cs
+pub begins_by : (cs q : List ℕ) → starts_with (λ x y. eqb x y) cs q ≡ true → cs ≡ q ++ drop (length q) cs
 begins_by cs q h = sym (take-append-drop (length q) cs) ∙ ap (λ x. x ++ drop (length q) cs) (sym (same_lists q (take (length q) cs) h))
 
 is_longest : (cs p after : List ℕ) → cs ≡ p ++ after → (BeginsComment cs → ⊥) → ((q : Punctuator) (more : List ℕ) → cs ≡ spelling q ++ more → length (spelling q) ≤ length p) → is_longest_punctuator p after ≡ true

@@ -1,0 +1,8 @@
+mod Characters
+mod Escaped
+mod Gaps
+pub mod Lexed
+mod Marks
+mod Numbers
+mod Quoted
+mod Unique
