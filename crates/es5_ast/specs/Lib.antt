@@ -2,3 +2,4 @@ pub mod Lexical
 pub mod Grammar
 pub mod Early
 pub mod Script
+pub mod Depth
