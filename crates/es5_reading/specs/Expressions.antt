@@ -202,7 +202,7 @@ function_expression i at = if_next (next_mark (codes "(")) (rest_of_function i a
   name ← identifier
   rest_of_function i at (Some name))
 
--- ## Object literals (11.1.5)
+-- ## Accessors (11.1.5)
 
 unfoldable pub no_parameter : Parser (List Identifier5)
 no_parameter = do
@@ -236,25 +236,7 @@ accessor i at setter = do
   f ← accessor_function i setter
   made at (λ span. accessor_of setter span k f)
 
-unfoldable pub value_of_key : Inner5 → ℕ → PlacedKey5 → Parser Property5
-value_of_key i at k = do
-  x ← i.assignment false
-  made at (λ span. property.Plain span k x.value)
-
-unfoldable pub plain_property : Inner5 → ℕ → Parser Property5
-plain_property i at = do
-  k ← key
-  _ ← take_as (mark (codes ":"))
-  value_of_key i at k
-
--- after `get` or `set`: a name of its own before a colon, else an accessor
-unfoldable pub after_accessor_word : Inner5 → ℕ → Bool → Parser Property5
-after_accessor_word i at setter = do
-  k ← made at (λ span. record { span = span; key = keys.WordKey (accessor_name setter) })
-  on (mark (codes ":")) (λ _. value_of_key i at k) (accessor i at setter)
-
-unfoldable pub one_property : Inner5 → Parser Property5
-one_property i = from λ at. on accessor_at (λ setter. after_accessor_word i at setter) (plain_property i at)
+-- ## Object literals (11.1.5)
 
 -- the properties after the opening brace or a comma, and the closing brace
 unfoldable pub properties : Inner5 → ℕ → Parser (List Property5)
@@ -467,6 +449,28 @@ unfoldable pub sequence : Inner5 → Bool → Parser Read5
 sequence i no_in = from λ at. do
   x ← assignment i no_in
   on (mark (codes ",")) (λ _. more_parts i no_in at x.value) (returns x)
+
+-- ## Properties of object literals (11.1.5)
+
+unfoldable pub value_of_key : Inner5 → ℕ → PlacedKey5 → Parser Property5
+value_of_key i at k = do
+  x ← assignment i false
+  made at (λ span. property.Plain span k x.value)
+
+unfoldable pub plain_property : Inner5 → ℕ → Parser Property5
+plain_property i at = do
+  k ← key
+  _ ← take_as (mark (codes ":"))
+  value_of_key i at k
+
+-- after `get` or `set`: a name of its own before a colon, else an accessor
+unfoldable pub after_accessor_word : Inner5 → ℕ → Bool → Parser Property5
+after_accessor_word i at setter = do
+  k ← made at (λ span. record { span = span; key = keys.WordKey (accessor_name setter) })
+  on (mark (codes ":")) (λ _. value_of_key i at k) (accessor i at setter)
+
+unfoldable pub one_property : Inner5 → Parser Property5
+one_property i = from λ at. on accessor_at (λ setter. after_accessor_word i at setter) (plain_property i at)
 
 -- ## Where no construct may open any more
 
