@@ -1,15 +1,13 @@
 -- Derivations of the grammar with at most so many constructs open, between two inputs, and what the readers' parts make.
-use Rattle.std.proofs.Common.{◌≡◌, ◌⊎◌, inl, inr, ℕ, zero, suc, ◌+◌, ◌-◌, ◌≤◌, Bool, true, false, ◌&&◌, List, [], ◌∷◌, ◌++◌, Option, Some, None, refl, sym, ap, subst, ◌∙◌, arith}
-use Rattle.std.specs.Prelude.{codes}
-use Rattle.es_text.specs.declared.Span.{Span}
+use Rattle.std.proofs.Common.{◌≡◌, ℕ, zero, suc, ◌≤◌, Bool, true, false, List, [], ◌∷◌, Option, Some, refl, arith}
 use Rattle.es5_ast.specs.declared.tree.Identifier5.{Identifier5}
 use Rattle.es5_ast.specs.declared.tree.Expr5.{Expr5}
 use Rattle.es5_ast.specs.Lexical.{Token5}
-use Rattle.es5_ast.specs.Grammar.{Mode5, Exact, IsExpr, bare, group, IsNode, IsIdentifier, IsMark, IsWord, is_mark, begin_of}
+use Rattle.es5_ast.specs.Grammar.{Exact, IsExpr, bare, group, IsNode, IsIdentifier, IsMark, IsWord}
 use Rattle.es5_ast.specs.Depth.{Opens, ExprWithin, NodeWithin}
-use Rattle.es5_reading.specs.Parser.{Input5, Stop5, Syntax, Depth, Outcome5, Took, Fault, Parser, after, on, choose, next_is, if_next, take_as, mark, word, next_mark, Shape5, Bare, LeftHandSide, Other, Read5, is_left, Inner5, on_group}
+use Rattle.es5_reading.specs.Parser.{Input5, Parser, on, next_is, take_as, mark, word, next_mark, Other, Read5, is_left, Inner5, on_group}
 use Rattle.es5_reading.specs.Statements.{label_of}
-use Rattle.es5_reading.proofs.Posts.{Holds, took, fault, bind, weaken, Taken, taken, Misses, on-holds, take-holds, choose-holds, if-holds}
+use Rattle.es5_reading.proofs.Posts.{Holds, fault, weaken, Taken, taken, Misses, on-holds, take-holds, choose-holds, if-holds}
 use Rattle.es5_reading.proofs.Meanings.{mark-means, mark-misses, word-means}
 use Rattle.es5_reading.proofs.Spans.{Moves}
 

@@ -6,3 +6,6 @@ pub mod SoundParts
 pub mod SoundExpressions
 pub mod SoundOperators
 pub mod SoundLevels
+pub mod SoundStatements
+pub mod SoundCompound
+pub mod Soundness

@@ -1,5 +1,5 @@
 -- What the tests of single tokens mean in the grammar's terms.
-use Rattle.std.proofs.Common.{◌≡◌, ◌⊎◌, inl, inr, ℕ, Bool, true, false, ◌&&◌, ◌||◌, not, cond, List, [], ◌∷◌, Option, Some, None, refl, sym, ap, subst, ◌∙◌}
+use Rattle.std.proofs.Common.{◌≡◌, ◌⊎◌, inl, inr, ℕ, Bool, true, false, ◌&&◌, ◌||◌, not, cond, List, [], ◌∷◌, Option, Some, None, refl, ap, subst}
 use Rattle.std.specs.Prelude.{◌==◌, codes}
 use Rattle.std.specs.Str.{bytes_eq}
 use Rattle.std.proofs.Common.{eqb-true}
@@ -12,7 +12,6 @@ use Rattle.es5_ast.specs.declared.operators.AssignOperator5.{AssignOperator5}
 use Rattle.es5_ast.specs.declared.operators.Literal5.{Literal5}
 use Rattle.es5_ast.specs.declared.operators.Literal5.TheVariants as literals
 use Rattle.es5_ast.specs.declared.operators.Key5.{Key5}
-use Rattle.es5_ast.specs.declared.operators.Key5.TheVariants as keys
 use Rattle.es5_ast.specs.Lexical.{Kind5, Word, Integer, Text, Punctuator, Inserted, Token5}
 use Rattle.es5_ast.specs.Grammar.{IsWord, IsMark, IsEnd, is_word, is_mark, ends, is_identifier, is_in, is_before, unary_kind, update_kind, assign_kind, binary_kind, binary_level, literal_kind, key_kind}
 use Rattle.es5_reading.specs.Parser.{kept_if, mark, word, ending}

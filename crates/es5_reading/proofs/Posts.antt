@@ -1,9 +1,7 @@
 -- What holds of all that a reader takes, put together along its parts.
-use Rattle.std.proofs.Common.{◌≡◌, ℕ, ◌+◌, ◌-◌, Bool, true, false, List, [], ◌∷◌, ◌++◌, Option, Some, None, length, take, refl, sym, ap, subst, ◌∙◌, append_assoc, arith, length-append}
-use Rattle.es_text.specs.declared.Span.{Span}
+use Rattle.std.proofs.Common.{◌≡◌, ℕ, Bool, true, false, List, [], ◌∷◌, Option, Some, None, refl}
 use Rattle.es5_ast.specs.Lexical.{Token5}
-use Rattle.es5_ast.specs.Grammar.{begin_of, end_of, across}
-use Rattle.es5_reading.specs.Parser.{Input5, Stop5, Syntax, Depth, Outcome5, Took, Fault, Parser, returns, fails, after, ◌>>=◌, ◌>>◌, on, on_next, on_taken, choose, next_is, if_next, take_as, mark, next_mark, from, made, Inner5, on_group, group}
+use Rattle.es5_reading.specs.Parser.{Input5, Stop5, Outcome5, Took, Fault, Parser, after, on, on_taken, choose, next_is, if_next, take_as}
 
 -- ## What a reader's value and the input after it are
 
@@ -42,6 +40,7 @@ on-holds {A = A} {B = B} {Q = Q} test p q s f g = at s.tokens s.last f g
         → Holds Q (on_taken o t ts p q (record { tokens = t ∷ ts; last = last }))
     known t ts last (Some x) e f g = f x _ (taken e)
     known t ts last None e f g = g e
+
     at : (ts : List Token5) (last : ℕ) → ((x : B) (c : Input5) → Taken test (record { tokens = ts; last = last }) x c → Holds Q (p x c)) → (Misses test ts → Holds Q (q (record { tokens = ts; last = last })))
         → Holds Q (on test p q (record { tokens = ts; last = last }))
     at [] last f g = g tt

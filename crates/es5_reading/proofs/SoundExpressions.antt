@@ -1,36 +1,23 @@
 -- What the readers of expressions give is derived at their level.
-use Rattle.std.proofs.Common.{◌≡◌, ◌⊎◌, inl, inr, ℕ, zero, suc, ◌+◌, ◌-◌, ◌≤◌, Bool, true, false, ◌&&◌, ◌||◌, List, [], ◌∷◌, ◌++◌, Option, Some, None, refl, sym, ap, subst, ◌∙◌, arith}
+use Rattle.std.proofs.Common.{◌≡◌, ℕ, Bool, true, false, List, [], ◌∷◌, Some, refl, subst, arith}
 use Rattle.std.specs.Prelude.{codes}
 use Rattle.es_text.specs.declared.Span.{Span}
-use Rattle.es_outside.specs.declared.events.Site.{Site}
-use Rattle.es5_ast.specs.declared.operators.UnaryOperator5.{UnaryOperator5}
-use Rattle.es5_ast.specs.declared.operators.UpdateOperator5.{UpdateOperator5}
-use Rattle.es5_ast.specs.declared.operators.BinaryOperator5.{BinaryOperator5}
-use Rattle.es5_ast.specs.declared.operators.AssignOperator5.{AssignOperator5}
 use Rattle.es5_ast.specs.declared.operators.Literal5.{Literal5}
-use Rattle.es5_ast.specs.declared.operators.Key5.TheVariants as keys
 use Rattle.es5_ast.specs.declared.tree.Identifier5.{Identifier5}
-use Rattle.es5_ast.specs.declared.tree.PlacedKey5.{PlacedKey5}
 use Rattle.es5_ast.specs.declared.tree.Expr5 as x5
 use Rattle.es5_ast.specs.declared.tree.Expr5.{Expr5}
 use Rattle.es5_ast.specs.declared.tree.Expr5.TheVariants as expr
-use Rattle.es5_ast.specs.declared.tree.Link5 as l5
-use Rattle.es5_ast.specs.declared.tree.Link5.{Link5}
-use Rattle.es5_ast.specs.declared.tree.Link5.TheVariants as link
-use Rattle.es5_ast.specs.declared.tree.Operand5.{Operand5, roll-Operand5}
 use denote.Hole.Carrier as carrier
-use Rattle.es5_ast.specs.Lexical.{Kind5, Token5, Word}
 use Rattle.es5_ast.specs.Grammar as g
 use Rattle.es5_ast.specs.Grammar.{Mode5, Exact, IsExpr, IsNode, IsNewCallee, IsIdentifier, AreLinks, AreOperands, AreParts, IsMark, IsWord, is_mark, is_identifier, is_before, is_in, unary_kind, update_kind, assign_kind, binary_kind, binary_level, literal_kind, key_kind, begin_of, link_sites, chain_level}
-use Rattle.es5_ast.specs.Depth.{Opens, ExprWithin, NodeWithin, NewCalleeWithin, LinksWithin, OperandsWithin, PartsWithin}
-use Rattle.es5_reading.specs.Parser.{Input5, Stop5, Syntax, Depth, Outcome5, Took, Fault, Parser, after, on, choose, next_is, if_next, mark, word, next_mark, Shape5, Bare, LeftHandSide, Other, Read5, is_left, Inner5, on_group, group}
-use Rattle.es5_reading.specs.Expressions.{any_name, free_name, literal_at, unary_at, before_at, after_at, assign_at, binary_at, accessor_at, accessor_name, left, other, grouped, no_expression, bracketed, primary, after_callee, head, member_link, index_link, call_link, links, chained, chain, postfix, prefixed, updated, unary, operands, operated, binary_from, branches, conditional, assigned, assignment, parts, more_parts, sequence, value_of_key, plain_property, after_accessor_word, one_property, accessor}
+use Rattle.es5_reading.specs.Parser.{Input5, next_is, next_mark, Bare, Read5, Inner5}
+use Rattle.es5_reading.specs.Expressions.{free_name, literal_at, left, grouped, no_expression, bracketed, primary, after_callee, head}
 use Rattle.es5_reading.specs.Statements.{label_of}
-use Rattle.es5_reading.proofs.Posts.{Holds, took, fault, bind, weaken, Taken, taken, Misses, on-holds, take-holds, choose-holds, if-holds}
-use Rattle.es5_reading.proofs.Meanings.{any-name-means, free-name-means, literal-means, unary-means, before-means, after-means, assign-means, binary-means, accessor-means, some_same}
-use Rattle.es5_reading.proofs.Spans.{Moves, Goes, moved, stays, goes, goes-on, then-goes, ◌⟫◌, span-across}
-use Rattle.es5_reading.proofs.Derived.{ExprIn, NodeIn, ExprOpen, ReadIn, ReadOpen, both_open, lower, node, lower_read, other_read, Next, next, on-means, take-means, one, step, on-mark, take-mark, on-word, take-word, group-holds}
-use Rattle.es5_reading.proofs.SoundParts.{Stopped, CalleeOpen, Sound, IsKind, IsFree, identifier-rule, KeyIn, key-rule, sound-key, sound-function, FunctionIn, ElementsOpen, sound-elements, PropertiesOpen, sound-properties, ArgumentsOpen, sound-arguments, PropertyIn, AccessorIn, sound-accessor-function, accessor-property-rule, plain-property-rule}
+use Rattle.es5_reading.proofs.Posts.{Holds, took, fault, bind, weaken, if-holds}
+use Rattle.es5_reading.proofs.Meanings.{free-name-means, literal-means, some_same}
+use Rattle.es5_reading.proofs.Spans.{Moves, ◌⟫◌, span-across}
+use Rattle.es5_reading.proofs.Derived.{ExprIn, NodeIn, ReadOpen, node, Next, next, on-means, one, take-mark, on-word, group-holds}
+use Rattle.es5_reading.proofs.SoundParts.{Stopped, CalleeOpen, Sound, IsKind, IsFree, identifier-rule, sound-function, FunctionIn, ElementsOpen, sound-elements, PropertiesOpen, sound-properties, ArgumentsOpen, sound-arguments}
 
 -- ## Primary expressions
 
@@ -79,18 +66,18 @@ no-expression s = if-holds _ _ _ s (λ h. fault) (λ h. fault)
 sound-bracketed : (i : Inner5) (n : ℕ) (sound : Sound i n) (s : Input5) → Holds (PrimaryIn n s) (bracketed i (begin_of s.tokens) s)
 unfolding bracketed
 sound-bracketed i n sound s = group-holds i _ _ _ s
-  (λ o a h. bind (sound-elements i n sound (sound.opens o) i.fuel a) λ xs c ds. took (array-rule n h ds))
-  (λ m. group-holds i _ _ _ s
+    (λ o a h. bind (sound-elements i n sound (sound.opens o) i.fuel a) λ xs c ds. took (array-rule n h ds))
+    (λ m. group-holds i _ _ _ s
     (λ o a h. bind (sound-properties i n sound (sound.opens o) i.fuel a) λ xs c ds. took (object-rule n h ds))
     (λ m. no-expression s))
 
 sound-primary : (i : Inner5) (n : ℕ) (sound : Sound i n) (s : Input5) → Holds (PrimaryIn n s) (primary i (begin_of s.tokens) s)
 unfolding primary grouped
 sound-primary i n sound s = on-word _ _ _ s (λ t c h. took (this-rule n h)) (λ m.
-  on-means free_name IsFree free-name-means _ _ s (λ name c h. took (name-rule n name h)) (λ m.
-  on-means literal_at (λ v t. IsKind (literal_kind v) t) literal-means _ _ s (λ value c h. took (literal-rule n value h)) (λ m.
-  on-word _ _ _ s (λ t a h. bind (sound-function i n sound s a h) λ f c d. took (function-rule n f d)) (λ m.
-  group-holds i _ _ _ s (λ o a h. bind (sound.sequence false a) λ x b d. bind (take-mark _ b) λ t c q. took (group-rule n x h d q)) (λ m. sound-bracketed i n sound s)))))
+    on-means free_name IsFree free-name-means _ _ s (λ name c h. took (name-rule n name h)) (λ m.
+    on-means literal_at (λ v t. IsKind (literal_kind v) t) literal-means _ _ s (λ value c h. took (literal-rule n value h)) (λ m.
+    on-word _ _ _ s (λ t a h. bind (sound-function i n sound s a h) λ f c d. took (function-rule n f d)) (λ m.
+    group-holds i _ _ _ s (λ o a h. bind (sound.sequence false a) λ x b d. bind (take-mark _ b) λ t c q. took (group-rule n x h d q)) (λ m. sound-bracketed i n sound s)))))
 
 -- ## Left-hand-side expressions
 
@@ -107,12 +94,12 @@ pub record HeadRead (n : ℕ) (s : Input5) (x : Read5) (c : Input5) : Type 0 whe
 new-call-rule : (n : ℕ) {s a b c d : Input5} (x : Read5) {xs : List Expr5} → Next (IsWord (codes "new")) s a → CalleeOpen n a x b → Next (IsMark (codes "(")) b c → ArgumentsOpen n c xs d
     → HeadRead n s (left (expr.New (record { begin = begin_of s.tokens; end = d.last }) x.value xs)) d
 new-call-rule n {d = d} x (next {t = t} {ts = ts} {last = last} w) e (next {t = u} p) (m, ds, v) =
-  let callee = e.member p-is in
-  record {
-    moves = one ⟫ e.moves ⟫ one ⟫ m;
-    derived = primary_head (λ k. node n k 18 18 (record { tokens = t ∷ ts; last = last }) d (omega arith) (g.new_call _ _ _ refl (span-across (one {last = 0} ⟫ e.moves ⟫ one ⟫ m)) w callee.0 p ds, (callee.1, v)));
-    named = λ label e. absurd (cc);
-  }
+    let callee = e.member p-is in
+    record {
+      moves = one ⟫ e.moves ⟫ one ⟫ m;
+      derived = primary_head (λ k. node n k 18 18 (record { tokens = t ∷ ts; last = last }) d (omega arith) (g.new_call _ _ _ refl (span-across (one {last = 0} ⟫ e.moves ⟫ one ⟫ m)) w callee.0 p ds, (callee.1, v)));
+      named = λ label e. absurd (cc);
+    }
   where
     p-is : is_mark (codes "(") u.kind ≡ true
     p-is = rw p refl
@@ -128,7 +115,7 @@ new-bare-rule n x (next w) e m = record {
 pub sound-head : (i : Inner5) (n : ℕ) (sound : Sound i n) (s : Input5) → Holds (HeadRead n s) (head i (begin_of s.tokens) s)
 unfolding head after_callee
 sound-head i n sound s = on-word _ _ _ s
-  (λ t a w. bind (sound.callee a) λ x b e. group-holds i _ _ _ b
+    (λ t a w. bind (sound.callee a) λ x b e. group-holds i _ _ _ b
     (λ o c h. bind (sound-arguments i n sound (sound.opens o) c) λ xs d ds. took (new-call-rule n x w e h ds))
     (λ m. took (new-bare-rule n x w e m)))
-  (λ m. weaken (sound-primary i n sound s) (λ x c p. record { moves = p.moves; derived = primary_head p.derived; named = p.named }))
+    (λ m. weaken (sound-primary i n sound s) (λ x c p. record { moves = p.moves; derived = primary_head p.derived; named = p.named }))

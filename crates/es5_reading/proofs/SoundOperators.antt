@@ -1,36 +1,26 @@
 -- What the readers of chains and operators give is derived at their level.
-use Rattle.std.proofs.Common.{◌≡◌, ◌⊎◌, inl, inr, ℕ, zero, suc, ◌+◌, ◌-◌, ◌≤◌, Bool, true, false, ◌&&◌, ◌||◌, List, [], ◌∷◌, ◌++◌, Option, Some, None, refl, sym, ap, subst, ◌∙◌, arith}
+use Rattle.std.proofs.Common.{◌≡◌, ℕ, zero, suc, ◌≤◌, Bool, true, false, List, [], ◌∷◌, Some, None, refl, sym, subst, ◌∙◌, arith}
 use Rattle.std.specs.Prelude.{codes}
 use Rattle.es_text.specs.declared.Span.{Span}
-use Rattle.es_outside.specs.declared.events.Site.{Site}
-use Rattle.es5_ast.specs.declared.operators.UnaryOperator5.{UnaryOperator5}
-use Rattle.es5_ast.specs.declared.operators.UpdateOperator5.{UpdateOperator5}
-use Rattle.es5_ast.specs.declared.operators.BinaryOperator5.{BinaryOperator5}
-use Rattle.es5_ast.specs.declared.operators.AssignOperator5.{AssignOperator5}
-use Rattle.es5_ast.specs.declared.operators.Literal5.{Literal5}
-use Rattle.es5_ast.specs.declared.operators.Key5.TheVariants as keys
 use Rattle.es5_ast.specs.declared.tree.Identifier5.{Identifier5}
-use Rattle.es5_ast.specs.declared.tree.PlacedKey5.{PlacedKey5}
-use Rattle.es5_ast.specs.declared.tree.Expr5 as x5
 use Rattle.es5_ast.specs.declared.tree.Expr5.{Expr5}
 use Rattle.es5_ast.specs.declared.tree.Expr5.TheVariants as expr
 use Rattle.es5_ast.specs.declared.tree.Link5 as l5
 use Rattle.es5_ast.specs.declared.tree.Link5.{Link5}
 use Rattle.es5_ast.specs.declared.tree.Link5.TheVariants as link
-use Rattle.es5_ast.specs.declared.tree.Operand5.{Operand5, roll-Operand5}
 use denote.Hole.Carrier as carrier
-use Rattle.es5_ast.specs.Lexical.{Kind5, Token5, Word}
+use Rattle.es5_ast.specs.Lexical.{Token5}
 use Rattle.es5_ast.specs.Grammar as g
 use Rattle.es5_ast.specs.Grammar.{Mode5, Exact, IsExpr, IsNode, IsNewCallee, IsIdentifier, AreLinks, AreOperands, AreParts, IsMark, IsWord, is_mark, is_identifier, is_before, is_in, unary_kind, update_kind, assign_kind, binary_kind, binary_level, literal_kind, key_kind, begin_of, link_sites, chain_level}
-use Rattle.es5_ast.specs.Depth.{Opens, ExprWithin, NodeWithin, NewCalleeWithin, LinksWithin, OperandsWithin, PartsWithin}
-use Rattle.es5_reading.specs.Parser.{Input5, Stop5, Syntax, Depth, Outcome5, Took, Fault, Parser, after, on, choose, next_is, if_next, mark, word, next_mark, Shape5, Bare, LeftHandSide, Other, Read5, is_left, Inner5, on_group, group}
-use Rattle.es5_reading.specs.Expressions.{any_name, free_name, literal_at, unary_at, before_at, after_at, assign_at, binary_at, accessor_at, accessor_name, left, other, grouped, no_expression, bracketed, primary, after_callee, head, member_link, index_link, call_link, links, chained, chain, postfix, prefixed, updated, unary, operands, operated, binary_from, branches, conditional, assigned, assignment, parts, more_parts, sequence, value_of_key, plain_property, after_accessor_word, one_property, accessor}
+use Rattle.es5_ast.specs.Depth.{Opens, ExprWithin, NodeWithin, LinksWithin}
+use Rattle.es5_reading.specs.Parser.{Input5, Read5, Inner5}
+use Rattle.es5_reading.specs.Expressions.{any_name, left, member_link, index_link, call_link, links, chained, chain}
 use Rattle.es5_reading.specs.Statements.{label_of}
-use Rattle.es5_reading.proofs.Posts.{Holds, took, fault, bind, weaken, Taken, taken, Misses, on-holds, take-holds, choose-holds, if-holds}
-use Rattle.es5_reading.proofs.Meanings.{any-name-means, free-name-means, literal-means, unary-means, before-means, after-means, assign-means, binary-means, accessor-means, some_same}
-use Rattle.es5_reading.proofs.Spans.{Moves, Goes, moved, stays, goes, goes-on, then-goes, ◌⟫◌, span-across}
-use Rattle.es5_reading.proofs.Derived.{ExprIn, NodeIn, ExprOpen, ReadIn, ReadOpen, both_open, lower, node, lower_read, other_read, Next, next, on-means, take-means, one, step, on-mark, take-mark, on-word, take-word, group-holds}
-use Rattle.es5_reading.proofs.SoundParts.{Stopped, CalleeOpen, Sound, IsKind, IsFree, identifier-rule, KeyIn, key-rule, sound-key, sound-function, FunctionIn, ElementsOpen, sound-elements, PropertiesOpen, sound-properties, ArgumentsOpen, sound-arguments, PropertyIn, AccessorIn, sound-accessor-function, accessor-property-rule, plain-property-rule}
+use Rattle.es5_reading.proofs.Posts.{Holds, took, fault, bind, choose-holds}
+use Rattle.es5_reading.proofs.Meanings.{any-name-means}
+use Rattle.es5_reading.proofs.Spans.{Moves, Goes, stays, goes, goes-on, then-goes, ◌⟫◌, span-across}
+use Rattle.es5_reading.proofs.Derived.{ExprIn, NodeIn, ReadOpen, lower, node, Next, next, take-means, one, on-mark, take-mark, group-holds}
+use Rattle.es5_reading.proofs.SoundParts.{Stopped, Sound, ArgumentsOpen, sound-arguments}
 use Rattle.es5_reading.proofs.SoundExpressions.{HeadIn, primary_head, new_head, HeadRead, sound-head}
 use Rattle.es5_reading.proofs.Meanings.{bytes_eq-refl}
 use Rattle.std.proofs.lemmas.Bool.{false≢true, true≢false}
@@ -120,14 +110,14 @@ sound-links : (i : Inner5) (n : ℕ) (sound : Sound i n) (calls : Bool) (turns :
 unfolding links
 sound-links i n sound calls zero s = fault
 sound-links i n sound calls (suc turns) s = on-mark _ _ _ s
-  (λ t a p. bind (sound-member n calls s a p) λ l b h. bind (sound-links i n sound calls turns b) λ ls c r. took (link-next h r))
-  (λ dot. group-holds i _ _ _ s
+    (λ t a p. bind (sound-member n calls s a p) λ l b h. bind (sound-links i n sound calls turns b) λ ls c r. took (link-next h r))
+    (λ dot. group-holds i _ _ _ s
     (λ o a p. bind (sound-index i n sound calls s a p) λ l b h. bind (sound-links i n sound calls turns b) λ ls c r. took (link-next h r))
     (λ bracket. choose-holds _ _ calls s
-      (λ may. group-holds i _ _ _ s
-        (λ o a p. bind (sound-call i n sound (sound.opens o) calls s a may p) λ l b h. bind (sound-links i n sound calls turns b) λ ls c r. took (link-next h r))
-        (λ paren. took (links-none n calls s (dot, bracket, λ h. paren))))
-      (λ may. took (links-none n calls s (dot, bracket, λ h. absurd (cc))))))
+    (λ may. group-holds i _ _ _ s
+    (λ o a p. bind (sound-call i n sound (sound.opens o) calls s a may p) λ l b h. bind (sound-links i n sound calls turns b) λ ls c r. took (link-next h r))
+    (λ paren. took (links-none n calls s (dot, bracket, λ h. paren))))
+    (λ may. took (links-none n calls s (dot, bracket, λ h. absurd (cc))))))
 
 -- ## Chains
 
@@ -185,7 +175,7 @@ chain-of : (n : ℕ) (calls : Bool) {s b c : Input5} (x : Read5) (l : Link5) (ls
 chain-of n calls {s = s} {b = b} {c = c} x l ls m (primary_head d) r = record {
   moves = then-goes m r.goes_;
   derived = whole_chain (λ k. node n k (chain_level calls) (chain_level r.has_call) s c (level-fits calls r.has_call r.allowed)
-    (g.chain r.has_call _ x.value l ls refl (span-across (then-goes m r.goes_)) r.sites (d false).0 r.derived, ((d false).1, r.within)));
+      (g.chain r.has_call _ x.value l ls refl (span-across (then-goes m r.goes_)) r.sites (d false).0 r.derived, ((d false).1, r.within)));
   named = λ label e. absurd (cc);
   stopped = r.stopped;
 }

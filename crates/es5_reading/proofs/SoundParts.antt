@@ -1,8 +1,7 @@
 -- What the readers of a construct's inside give, if those of one construct deeper give derivations of the grammar: functions,
 -- literals of objects and arrays, arguments.
-use Rattle.std.proofs.Common.{◌≡◌, ◌⊎◌, inl, inr, ℕ, zero, suc, ◌+◌, ◌-◌, ◌≤◌, Bool, true, false, ◌&&◌, List, [], ◌∷◌, ◌++◌, Option, Some, None, refl, sym, ap, subst, ◌∙◌, arith}
+use Rattle.std.proofs.Common.{◌≡◌, ℕ, zero, suc, Bool, true, false, List, [], ◌∷◌, Option, Some, None, refl}
 use Rattle.std.specs.Prelude.{codes}
-use Rattle.es_text.specs.declared.Span.{Span}
 use Rattle.es5_ast.specs.declared.tree.Identifier5.{Identifier5}
 use Rattle.es5_ast.specs.declared.tree.PlacedKey5.{PlacedKey5}
 use Rattle.es5_ast.specs.declared.tree.Stat5.{Stat5}
@@ -14,17 +13,16 @@ use Rattle.es5_ast.specs.declared.tree.Element5.TheVariants as element
 use Rattle.es5_ast.specs.declared.tree.Property5.{Property5}
 use Rattle.es5_ast.specs.declared.tree.Property5.TheVariants as property
 use Rattle.es5_ast.specs.declared.operators.Key5.{Key5}
-use Rattle.es5_ast.specs.declared.operators.Key5.TheVariants as keys
-use Rattle.es5_ast.specs.Lexical.{Kind5, Token5, Word}
+use Rattle.es5_ast.specs.Lexical.{Kind5, Token5}
 use Rattle.es5_ast.specs.Grammar as g
 use Rattle.es5_ast.specs.Grammar.{Mode5, Exact, IsExpr, IsIdentifier, IsKey, AreParameters, IsFunction, AreStats, IsStat, AreElements, AreProperties, IsProperty, IsAccessor, AreArguments, IsNewCallee, IsDeclared, IsMark, IsWord, is_identifier, key_kind, begin_of}
-use Rattle.es5_ast.specs.Depth.{Opens, ExprWithin, NodeWithin, ElementsWithin, PropertiesWithin, PropertyWithin, AccessorWithin, ArgumentsWithin, FunctionWithin, StatsWithin, StatWithin, NewCalleeWithin, DeclaredWithin}
-use Rattle.es5_reading.specs.Parser.{Input5, Stop5, Syntax, Depth, Outcome5, Took, Fault, Parser, after, on, choose, next_is, if_next, mark, word, next_mark, Read5, Inner5, on_group, group}
-use Rattle.es5_reading.specs.Expressions.{free_name, key_at, accessor_at, accessor_name, accessor_of, identifier, key, more_parameters, parameters, statements, body, rest_of_function, function_expression, no_parameter, one_parameter, accessor_parameters, accessor_function, accessor, value_of_key, plain_property, after_accessor_word, one_property, properties, elements, more_arguments, arguments}
-use Rattle.es5_reading.proofs.Posts.{Holds, took, fault, bind, weaken, Taken, taken, Misses, on-holds, take-holds, choose-holds, if-holds}
-use Rattle.es5_reading.proofs.Meanings.{mark-means, word-means, free-name-means, key-means, accessor-means}
-use Rattle.es5_reading.proofs.Spans.{Moves, Goes, moved, stays, goes, goes-on, then-goes, ◌⟫◌, span-across}
-use Rattle.es5_reading.proofs.Derived.{ExprIn, ExprOpen, ReadOpen, both_open, Next, next, on-means, take-means, one, step, on-mark, take-mark, on-word, take-word, group-holds}
+use Rattle.es5_ast.specs.Depth.{Opens, ExprWithin, ElementsWithin, PropertiesWithin, PropertyWithin, AccessorWithin, ArgumentsWithin, FunctionWithin, StatsWithin, StatWithin, NewCalleeWithin, DeclaredWithin}
+use Rattle.es5_reading.specs.Parser.{Input5, next_is, next_mark, Read5, Inner5, group}
+use Rattle.es5_reading.specs.Expressions.{free_name, key_at, accessor_name, accessor_of, identifier, key, more_parameters, parameters, statements, body, rest_of_function, function_expression, no_parameter, one_parameter, accessor_parameters, accessor_function, properties, elements, more_arguments, arguments}
+use Rattle.es5_reading.proofs.Posts.{Holds, took, fault, bind, weaken, if-holds}
+use Rattle.es5_reading.proofs.Meanings.{free-name-means, key-means}
+use Rattle.es5_reading.proofs.Spans.{Moves, ◌⟫◌, span-across}
+use Rattle.es5_reading.proofs.Derived.{ExprOpen, ReadOpen, both_open, Next, next, take-means, one, step, on-mark, take-mark, group-holds}
 
 -- the next token goes on with no access, and with no call where the mark says so
 abbrev pub Stopped : Bool → List Token5 → Type 0
@@ -110,8 +108,8 @@ sound-more-parameters : (turns : ℕ) (s : Input5) → Holds (MoreParameters s) 
 unfolding more_parameters
 sound-more-parameters zero s = fault
 sound-more-parameters (suc turns) s = bind (sound-identifier s) λ x a d. on-mark _ _ _ a
-  (λ t b h. bind (sound-more-parameters turns b) λ xs c ds. took (parameters-next d h ds))
-  (λ m. bind (take-mark _ a) λ t c h. took (parameters-last d h))
+    (λ t b h. bind (sound-more-parameters turns b) λ xs c ds. took (parameters-next d h ds))
+    (λ m. bind (take-mark _ a) λ t c h. took (parameters-last d h))
 
 pub sound-parameters : (i : Inner5) (s : Input5) → Holds (ParametersIn s) (parameters i s)
 unfolding parameters
@@ -132,7 +130,7 @@ pub sound-statements : (i : Inner5) (n : ℕ) (sound : Sound i n) (open_ : Opens
 unfolding statements
 sound-statements i n sound open_ inside top zero s = fault
 sound-statements i n sound open_ inside top (suc turns) s = on-mark _ _ _ s (λ t c h. took (stats-none n open_ h)) (λ m.
-  bind (sound.statement inside top s) λ x a d. bind (sound-statements i n sound open_ inside top turns a) λ xs c ds. took (stats-next n d ds))
+    bind (sound.statement inside top s) λ x a d. bind (sound-statements i n sound open_ inside top turns a) λ xs c ds. took (stats-next n d ds))
 
 -- an opening brace, statements and a closing brace
 pub data BracedOpen (n : ℕ) (inside top : Bool) : Input5 → List Stat5 → Input5 → Type 0 where
@@ -156,25 +154,25 @@ pub data FunctionRest (n : ℕ) (begin : ℕ) (name : Option Identifier5) : Inpu
 pub sound-rest-of-function : (i : Inner5) (n : ℕ) (sound : Sound i n) (at : ℕ) (name : Option Identifier5) (s : Input5) → Holds (FunctionRest n at name s) (rest_of_function i at name s)
 unfolding rest_of_function
 sound-rest-of-function i n sound at name s =
-  bind (group-holds {Q = ParametersOpen n s} i _ _ _ s (λ o c h. weaken (sound-parameters i c) (λ xs d ds. parenthesized (sound.opens o) h ds.0 ds.1)) (λ m. fault)) λ xs a ps.
-  bind (sound-body i n sound a) λ ss c bs. took (rest_of refl ps bs)
+    bind (group-holds {Q = ParametersOpen n s} i _ _ _ s (λ o c h. weaken (sound-parameters i c) (λ xs d ds. parenthesized (sound.opens o) h ds.0 ds.1)) (λ m. fault)) λ xs a ps.
+    bind (sound-body i n sound a) λ ss c bs. took (rest_of refl ps bs)
 
 abbrev pub FunctionIn : ℕ → Input5 → Function5 → Input5 → Type 0
 FunctionIn n s f c = Moves s c × (d : IsFunction Exact s.tokens f c.tokens) × FunctionWithin d n
 
 anonymous-rule : (n : ℕ) {s a c : Input5} {f : Function5} → Next (IsWord (codes "function")) s a → FunctionRest n (begin_of s.tokens) None a f c → FunctionIn n s f c
 anonymous-rule n (next w) (rest_of e (parenthesized o (next p) m ps) (braced (next b) m' ss v)) =
-  (one ⟫ one ⟫ m ⟫ one ⟫ m', g.anonymous _ _ _ e (span-across (one {last = 0} ⟫ one ⟫ m ⟫ one ⟫ m')) w p ps b ss, (o, v))
+    (one ⟫ one ⟫ m ⟫ one ⟫ m', g.anonymous _ _ _ e (span-across (one {last = 0} ⟫ one ⟫ m ⟫ one ⟫ m')) w p ps b ss, (o, v))
 
 named-rule : (n : ℕ) {s a b c : Input5} {x : Identifier5} {f : Function5} → Next (IsWord (codes "function")) s a → IdentifierIn a x b → FunctionRest n (begin_of s.tokens) (Some x) b f c → FunctionIn n s f c
 named-rule n (next w) (m0, d) (rest_of e (parenthesized o (next p) m ps) (braced (next b) m' ss v)) =
-  (one ⟫ m0 ⟫ one ⟫ m ⟫ one ⟫ m', g.named _ _ _ _ e (span-across (one {last = 0} ⟫ m0 ⟫ one ⟫ m ⟫ one ⟫ m')) w d p ps b ss, (o, v))
+    (one ⟫ m0 ⟫ one ⟫ m ⟫ one ⟫ m', g.named _ _ _ _ e (span-across (one {last = 0} ⟫ m0 ⟫ one ⟫ m ⟫ one ⟫ m')) w d p ps b ss, (o, v))
 
 pub sound-function : (i : Inner5) (n : ℕ) (sound : Sound i n) (s a : Input5) → Next (IsWord (codes "function")) s a → Holds (FunctionIn n s) (function_expression i (begin_of s.tokens) a)
 unfolding function_expression
 sound-function i n sound s a w = if-holds _ _ _ a
-  (λ h. weaken (sound-rest-of-function i n sound (begin_of s.tokens) None a) (λ f c d. anonymous-rule n w d))
-  (λ h. bind (sound-identifier a) λ x b d. weaken (sound-rest-of-function i n sound (begin_of s.tokens) (Some x) b) (λ f c r. named-rule n w d r))
+    (λ h. weaken (sound-rest-of-function i n sound (begin_of s.tokens) None a) (λ f c d. anonymous-rule n w d))
+    (λ h. bind (sound-identifier a) λ x b d. weaken (sound-rest-of-function i n sound (begin_of s.tokens) (Some x) b) (λ f c r. named-rule n w d r))
 
 -- ## Object literals
 
@@ -197,15 +195,15 @@ AccessorIn n setter s f c = Moves s c × (d : IsAccessor Exact setter s.tokens f
 accessor-rule : (n : ℕ) {setter : Bool} {s a c : Input5} {xs : List Identifier5} {ss : List Stat5} → AccessorGroup n setter s xs a → BracedOpen n true true a ss c
     → AccessorIn n setter s (roll-Function5 (record { span = record { begin = begin_of s.tokens; end = c.last }; name = None; parameters = xs; body = ss })) c
 accessor-rule n (accessor_group o (next p) (no_value (next q))) (braced (next b) m d w) =
-  (one ⟫ one ⟫ one ⟫ m, g.no_value _ _ refl (span-across (one {last = 0} ⟫ one ⟫ one ⟫ m)) p q b d, (o, w))
+    (one ⟫ one ⟫ one ⟫ m, g.no_value _ _ refl (span-across (one {last = 0} ⟫ one ⟫ one ⟫ m)) p q b d, (o, w))
 accessor-rule n (accessor_group o (next p) (one_value (m0, x) (next q))) (braced (next b) m d w) =
-  (one ⟫ m0 ⟫ one ⟫ one ⟫ m, g.one_value _ _ _ refl (span-across (one {last = 0} ⟫ m0 ⟫ one ⟫ one ⟫ m)) p x q b d, (o, w))
+    (one ⟫ m0 ⟫ one ⟫ one ⟫ m, g.one_value _ _ _ refl (span-across (one {last = 0} ⟫ m0 ⟫ one ⟫ one ⟫ m)) p x q b d, (o, w))
 
 pub sound-accessor-function : (i : Inner5) (n : ℕ) (sound : Sound i n) (setter : Bool) (s : Input5) → Holds (AccessorIn n setter s) (accessor_function i setter s)
 unfolding accessor_function
 sound-accessor-function i n sound setter s =
-  bind (group-holds {Q = AccessorGroup n setter s} i _ _ _ s (λ o c h. weaken (sound-accessor-parameters setter c) (λ xs d ps. accessor_group (sound.opens o) h ps)) (λ m. fault)) λ xs a ps.
-  bind (sound-body i n sound a) λ ss c bs. took (accessor-rule n ps bs)
+    bind (group-holds {Q = AccessorGroup n setter s} i _ _ _ s (λ o c h. weaken (sound-accessor-parameters setter c) (λ xs d ps. accessor_group (sound.opens o) h ps)) (λ m. fault)) λ xs a ps.
+    bind (sound-body i n sound a) λ ss c bs. took (accessor-rule n ps bs)
 
 abbrev pub PropertyIn : ℕ → Input5 → Property5 → Input5 → Type 0
 PropertyIn n s x c = Moves s c × (d : IsProperty Exact s.tokens x c.tokens) × PropertyWithin d n
@@ -235,8 +233,8 @@ pub sound-properties : (i : Inner5) (n : ℕ) (sound : Sound i n) (open_ : Opens
 unfolding properties
 sound-properties i n sound open_ zero s = fault
 sound-properties i n sound open_ (suc turns) s = on-mark _ _ _ s (λ t c h. took (properties-none n open_ h)) (λ m. bind (sound.property s) λ x a d. on-mark _ _ _ a
-  (λ t b h. bind (sound-properties i n sound open_ turns b) λ xs c ds. took (properties-next n d h ds))
-  (λ m. bind (take-mark _ a) λ t c h. took (properties-last n d h)))
+    (λ t b h. bind (sound-properties i n sound open_ turns b) λ xs c ds. took (properties-next n d h ds))
+    (λ m. bind (take-mark _ a) λ t c h. took (properties-last n d h)))
 
 -- ## Array literals and arguments
 
@@ -259,8 +257,8 @@ pub sound-elements : (i : Inner5) (n : ℕ) (sound : Sound i n) (open_ : Opens n
 unfolding elements
 sound-elements i n sound open_ zero s = fault
 sound-elements i n sound open_ (suc turns) s = on-mark _ _ _ s (λ t c h. took (elements-none n open_ h)) (λ m. on-mark _ _ _ s
-  (λ t a h. bind (sound-elements i n sound open_ turns a) λ xs c ds. took (elements-hole n h ds))
-  (λ m. bind (sound.assignment false s) λ x a d. on-mark _ _ _ a
+    (λ t a h. bind (sound-elements i n sound open_ turns a) λ xs c ds. took (elements-hole n h ds))
+    (λ m. bind (sound.assignment false s) λ x a d. on-mark _ _ _ a
     (λ t b h. bind (sound-elements i n sound open_ turns b) λ xs c ds. took (elements-next n x d h ds))
     (λ m. bind (take-mark _ a) λ t c h. took (elements-last n x d h))))
 
@@ -286,8 +284,8 @@ sound-more-arguments : (i : Inner5) (n : ℕ) (sound : Sound i n) (turns : ℕ) 
 unfolding more_arguments
 sound-more-arguments i n sound zero s = fault
 sound-more-arguments i n sound (suc turns) s = bind (sound.assignment false s) λ x a d. on-mark _ _ _ a
-  (λ t b h. bind (sound-more-arguments i n sound turns b) λ xs c ds. took (arguments-next n x d h ds))
-  (λ m. bind (take-mark _ a) λ t c h. took (arguments-last n x d h))
+    (λ t b h. bind (sound-more-arguments i n sound turns b) λ xs c ds. took (arguments-next n x d h ds))
+    (λ m. bind (take-mark _ a) λ t c h. took (arguments-last n x d h))
 
 pub sound-arguments : (i : Inner5) (n : ℕ) (sound : Sound i n) (open_ : Opens n (λ m. Unit {0})) (s : Input5) → Holds (ArgumentsOpen n s) (arguments i s)
 unfolding arguments

@@ -1,5 +1,5 @@
 -- Which tokens a reader took, and the span that they have.
-use Rattle.std.proofs.Common.{◌≡◌, ℕ, ◌+◌, ◌-◌, Bool, true, false, List, [], ◌∷◌, ◌++◌, Option, Some, None, length, take, refl, sym, ap, subst, ◌∙◌, append_assoc, arith}
+use Rattle.std.proofs.Common.{◌≡◌, ℕ, ◌+◌, ◌-◌, List, [], ◌∷◌, ◌++◌, Option, length, take, refl, sym, ap, ◌∙◌, append_assoc, arith}
 use Rattle.std.proofs.lemmas.List.{length-append}
 use Rattle.std.proofs.Math.Seq.{take-append_seam}
 use Rattle.es_text.specs.declared.Span.{Span}
@@ -50,7 +50,6 @@ then-goes {s = s} {c = c} {d = d} a b = record {
 }
 
 infixl 60 ◌⟫◌
-
 pub ◌⟫◌ : {s c d : Input5} → Moves s c → Moves c d → Moves s d
 a ⟫ b = then-goes a (goes b)
 

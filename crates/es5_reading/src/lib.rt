@@ -1,5 +1,12 @@
-//! How scripts of ECMAScript 5.1 are read: a model of the parser over lists of tokens.
+//! How scripts of ECMAScript 5.1 are read: a model of the parser over lists of tokens, and its laws.
 //!
-//! `specs/` has the model, one reader for each that the parser has. Nobody has to believe it: what is read is spelled by
-//! the grammar of `es5_ast`.
+//! `specs/` has the model, one reader for each that the parser has. Nobody has to believe it: the laws say what is read in the
+//! terms of the grammar of `es5_ast`. The functions here carry the laws as their contracts; they do nothing when they run.
 #![tactic(auto)]
+
+ghost use Rattle.es5_reading.specs.Laws.{IsSound};
+
+/// What is read without inserted semicolons is derived, with exact spans and with no more constructs open than may open.
+pub fn what_is_read_is_derived()
+    ensures { IsSound }
+{}
