@@ -24,8 +24,8 @@ inserted before = record { begin = end_of 0 before; end = end_of 0 before; after
 pub data Fills : List Token5 → List Token5 → List Token5 → Type 0 where
   at_end : {before : List Token5} → Fills before [] []
   keeps : {before filled : List Token5} {t : Token5} {ts : List Token5} → Fills (before ++ t ∷ []) ts filled → Fills before (t ∷ ts) (t ∷ filled)
-  inserts : {before filled : List Token5} {t : Token5} {ts : List Token5} → (Begins (before ++ t ∷ []) → ⊥) → (t.after_line || is_mark (codes "}") t.kind) ≡ true → Fills (before ++ inserted before ∷ t ∷ []) ts filled → Fills before (t ∷ ts) (inserted before ∷ t ∷ filled)
-  inserts_at_end : {before : List Token5} → (IsWhole before → ⊥) → Fills before [] (inserted before ∷ [])
+  inserts : {before filled : List Token5} {t : Token5} {ts : List Token5} → (Begins (before ++ t ∷ []) → ⊥) → (t.after_line || is_mark (codes "}") t.kind) ≡ true → Fills (before ++ inserted before ∷ []) (t ∷ ts) filled → Fills before (t ∷ ts) (inserted before ∷ filled)
+  inserts_at_end : {before filled : List Token5} → (IsWhole before → ⊥) → Fills (before ++ inserted before ∷ []) [] filled → Fills before [] (inserted before ∷ filled)
 
 -- Tokens that begin with the directive of strict code (14.1). Its literal has no escape: each would make it longer than
 -- its twelve characters.

@@ -9,3 +9,4 @@ pub mod SoundLevels
 pub mod SoundStatements
 pub mod SoundCompound
 pub mod Soundness
+pub mod Follows

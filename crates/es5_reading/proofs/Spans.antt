@@ -21,7 +21,7 @@ pub record Moves (s c : Input5) : Type 0 where
   pub all : s.tokens ≡ first ∷ tokens ++ c.tokens
   pub end : c.last ≡ end_of first.end tokens
 
-end-append : (at : ℕ) (ts us : List Token5) → end_of at (ts ++ us) ≡ end_of (end_of at ts) us
+pub end-append : (at : ℕ) (ts us : List Token5) → end_of at (ts ++ us) ≡ end_of (end_of at ts) us
 end-append at [] us = refl
 end-append at (t ∷ ts) us = end-append t.end ts us
 

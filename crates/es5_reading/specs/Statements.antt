@@ -211,8 +211,16 @@ throw_statement i at = if_next begins_line (fails Syntax) (do
 
 -- ## Switch (12.11)
 
+abbrev pub is_inserted : Kind5 → Bool
+is_inserted (Word name) = false
+is_inserted (Integer value) = false
+is_inserted (Text units) = false
+is_inserted (Punctuator p) = false
+is_inserted Inserted = true
+
+-- no statement begins with an inserted semicolon
 abbrev pub ends_case : Token5 → Bool
-ends_case t = is_word (codes "case") t.kind || is_word (codes "default") t.kind || is_mark (codes "}") t.kind
+ends_case t = is_word (codes "case") t.kind || is_word (codes "default") t.kind || is_mark (codes "}") t.kind || is_inserted t.kind
 
 -- the statements of a clause
 unfoldable pub in_case : Inner5 → Bool → ℕ → Parser (List Stat5)
