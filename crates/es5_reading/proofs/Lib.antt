@@ -10,3 +10,4 @@ pub mod SoundStatements
 pub mod SoundCompound
 pub mod Soundness
 pub mod Follows
+pub mod FollowChoices
