@@ -150,8 +150,9 @@ from-near p free l last (near_semi {ts = ts} {us = us} b e a) = free l b (begin_
 pub from-follows : {A : Type 0} (p : ℕ → Parser A) (p' : ℕ → ℕ → Parser A) (s : Input5) → PlaceFree p' → Holds (Followed (λ l. p' l (begin_of s.tokens)) s) (p (begin_of s.tokens) s) → Holds (Followed (λ l. from (p' l)) s) (from p s)
 from-follows p p' s free h = weaken h (λ y d r. same-followed _ _ s d y (λ l us n. from-near p' free l s.last n) r)
 
-pub made-follows : {A : Type 0} (at : ℕ) (make : Span → A) (s : Input5) → Holds (Followed (λ l. made at make) s) (made at make s)
-made-follows at make s = took (record { filled = []; ends = refl; gaps = stop; run = λ l rest h. refl })
+-- a value that hangs on the end of the last token alone
+pub made-follows : {A : Type 0} (v : Input5 → A) (s : Input5) → ((ts us : List Token5) (last : ℕ) → v (record { tokens = ts; last = last }) ≡ v (record { tokens = us; last = last })) → Holds (Followed (λ l c. Took (v c) c) s) (Took (v s) s)
+made-follows v s h = took (record { filled = []; ends = refl; gaps = stop; run = λ l rest k. ap (λ x. Took x (record { tokens = rest; last = s.last })) (h rest s.tokens s.last) })
 
 pub returns-follows : {A : Type 0} (x : A) (s : Input5) → Holds (Followed (λ l. returns x) s) (returns x s)
 returns-follows x s = took (returns-followed x s)

@@ -11,3 +11,4 @@ pub mod SoundCompound
 pub mod Soundness
 pub mod Follows
 pub mod FollowChoices
+pub mod FollowExpressions
