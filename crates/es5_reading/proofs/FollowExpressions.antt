@@ -15,10 +15,10 @@ use Rattle.es5_reading.proofs.Posts.{Holds, took, fault, if-holds}
 use Rattle.es5_reading.proofs.Follows.{plus, semi, Never, Followed, bind-follows}
 use Rattle.es5_reading.proofs.FollowChoices.{on-follows, take-follows, choose-follows, StopsAtSemi, if-follows, group-follows, PlaceFree, from-follows, made-follows, returns-follows, spelled-follows, Follows}
 
-abbrev Runs : {A : Type 0} → (ℕ → Parser A) → Parser A → Input5 → Type 0
+abbrev pub Runs : {A : Type 0} → (ℕ → Parser A) → Parser A → Input5 → Type 0
 Runs p' p s = Holds (Followed p' s) (p s)
 
-mark-follows : (p : List ℕ) (s : Input5) → Runs (λ l. take_as (mark p)) (take_as (mark p)) s
+pub mark-follows : (p : List ℕ) (s : Input5) → Runs (λ l. take_as (mark p)) (take_as (mark p)) s
 mark-follows p s = take-follows (mark p) (λ b e a. refl) s
 
 -- ## Identifiers, parameters
@@ -41,7 +41,7 @@ pub follow-identifier : (s : Input5) → Runs (λ l. identifier) identifier s
 unfolding identifier
 follow-identifier s = from-follows identifier_from (λ l. identifier_from) s (λ l at at' b e a us last. refl) (bind-follows _ _ _ _ s (take-follows free_name (λ b e a. refl) s) (λ name c. made-follows _ c (λ _ _ _. refl)))
 
-follow-key : (s : Input5) → Runs (λ l. key) key s
+pub follow-key : (s : Input5) → Runs (λ l. key) key s
 unfolding key
 follow-key s = from-follows key_from (λ l. key_from) s (λ l at at' b e a us last. refl) (bind-follows _ _ _ _ s (take-follows key_at (λ b e a. refl) s) (λ k c. made-follows _ c (λ _ _ _. refl)))
 
@@ -60,7 +60,7 @@ module _ (i : Inner5) (i' : ℕ → Inner5) (f : Follows i i') where
 
   -- ## Functions
 
-  follow-statements : (inside top : Bool) (turns : ℕ) (s : Input5) → Runs (λ l. statements (i' l) inside top (plus turns l)) (statements i inside top turns) s
+  pub follow-statements : (inside top : Bool) (turns : ℕ) (s : Input5) → Runs (λ l. statements (i' l) inside top (plus turns l)) (statements i inside top turns) s
   unfolding statements
   follow-statements inside top zero s = fault
   follow-statements inside top (suc turns) s = on-follows (mark (codes "}")) (λ b e a. refl) _ _ _ _ s (λ t c h. returns-follows _ c)
@@ -82,7 +82,7 @@ module _ (i : Inner5) (i' : ℕ → Inner5) (f : Follows i i') where
   unfolding rest_of_function
   rest-stops at name l b e a us last = fault
 
-  follow-function : (at : ℕ) (s : Input5) → Runs (λ l. function_expression (i' l) at) (function_expression i at) s
+  pub follow-function : (at : ℕ) (s : Input5) → Runs (λ l. function_expression (i' l) at) (function_expression i at) s
   unfolding function_expression
   follow-function at s = if-follows _ (λ b e a. refl) _ _ _ _ s (rest-stops at None) (λ h. follow-rest at None s)
     (λ h. bind-follows _ _ _ _ s (follow-identifier s) (λ x c. follow-rest at (Some x) c))
@@ -99,7 +99,7 @@ module _ (i : Inner5) (i' : ℕ → Inner5) (f : Follows i i') where
   follow-accessor-function setter s = from-follows (accessor_function_from i setter) (λ l. accessor_function_from (i' l) setter) s (λ l at at' b e a us last. refl)
     (bind-follows _ _ _ _ s (group-follows i i' _ _ _ _ _ s f.opens (λ o c. follow-accessor-parameters setter c) (λ m. fault)) (λ xs c. bind-follows _ _ _ _ c (follow-body c) (λ ss d. made-follows _ d (λ _ _ _. refl))))
 
-  follow-accessor : (at : ℕ) (setter : Bool) (s : Input5) → Runs (λ l. accessor (i' l) at setter) (accessor i at setter) s
+  pub follow-accessor : (at : ℕ) (setter : Bool) (s : Input5) → Runs (λ l. accessor (i' l) at setter) (accessor i at setter) s
   unfolding accessor
   follow-accessor at setter s = bind-follows _ _ _ _ s (follow-key s) (λ k c. bind-follows _ _ _ _ c (follow-accessor-function setter c) (λ g d. made-follows _ d (λ _ _ _. refl)))
 
@@ -160,7 +160,7 @@ module _ (i : Inner5) (i' : ℕ → Inner5) (f : Follows i i') where
   unfolding after_callee
   follow-after-callee at callee s = group-follows i i' _ _ _ _ _ s f.opens (λ o c. bind-follows _ _ _ _ c (follow-arguments c) (λ xs d. made-follows _ d (λ _ _ _. refl))) (λ m. made-follows _ s (λ _ _ _. refl))
 
-  follow-head : (at : ℕ) (s : Input5) → Runs (λ l. head (i' l) at) (head i at) s
+  pub follow-head : (at : ℕ) (s : Input5) → Runs (λ l. head (i' l) at) (head i at) s
   unfolding head
   follow-head at s = on-follows (word (codes "new")) (λ b e a. refl) _ _ _ _ s (λ t c h. bind-follows _ _ _ _ c (f.callee c) (λ x d. follow-after-callee at x.value d)) (λ m. follow-primary at s)
 
@@ -176,7 +176,7 @@ module _ (i : Inner5) (i' : ℕ → Inner5) (f : Follows i i') where
   unfolding call_link
   follow-call at s = bind-follows _ _ _ _ s (follow-arguments s) (λ xs c. made-follows _ c (λ _ _ _. refl))
 
-  follow-links : (calls : Bool) (turns : ℕ) (s : Input5) → Runs (λ l. links (i' l) calls (plus turns l)) (links i calls turns) s
+  pub follow-links : (calls : Bool) (turns : ℕ) (s : Input5) → Runs (λ l. links (i' l) calls (plus turns l)) (links i calls turns) s
   unfolding links
   follow-links calls zero s = fault
   follow-links true (suc turns) s = from-follows (links_from i true (links i true turns)) (λ l. links_from (i' l) true (links (i' l) true (plus turns l))) s (λ l at at' b e a us last. refl) (on-follows (mark (codes ".")) (λ b e a. refl) _ _ _ _ s

@@ -55,11 +55,15 @@ pub data Gaps (dead : List Token5 → List Token5 → Type 0) (last : ℕ) : Lis
   keep : {before ts us filled : List Token5} {t : Token5} → Gaps dead last (before ++ t ∷ []) ts us filled → Gaps dead last before (t ∷ ts) us (t ∷ filled)
   insert : {before ts us filled : List Token5} (at : ℕ) → at ≡ end_of last before → dead before ts → is_insertable ts ≡ true → Gaps dead last (before ++ semi at at false ∷ []) ts us filled → Gaps dead last before ts us (semi at at false ∷ filled)
 
-pub record Followed {A : Type 0} (p : ℕ → Parser A) (s : Input5) (x : A) (c : Input5) : Type 0 where
+-- The run with insertion is one without over the filled tokens, with any rest that stands so to the tokens left.
+pub record FollowedBy {A : Type 0} (stands : List Token5 → List Token5 → Type 0) (p : ℕ → Parser A) (s : Input5) (x : A) (c : Input5) : Type 0 where
   pub filled : List Token5
   pub ends : c.last ≡ end_of s.last filled
   pub gaps : Gaps (Dead p s.last) s.last [] s.tokens c.tokens filled
-  pub run : (l : ℕ) (rest : List Token5) → Near c.tokens rest → p l (record { tokens = filled ++ rest; last = s.last }) ≡ Took x (record { tokens = rest; last = c.last })
+  pub run : (l : ℕ) (rest : List Token5) → stands c.tokens rest → p l (record { tokens = filled ++ rest; last = s.last }) ≡ Took x (record { tokens = rest; last = c.last })
+
+abbrev pub Followed : {A : Type 0} → (ℕ → Parser A) → Input5 → A → Input5 → Type 0
+Followed p s x c = FollowedBy Near p s x c
 
 -- what tokens after those before are, seen from the begin
 abbrev Seen : List Token5 → List Token5 → List Token5 → Type 0
@@ -104,8 +108,9 @@ near-through rest (insert at is m n g) h = near_semi at at false
 
 -- ## One reader after another
 
-bind-followed : {A B : Type 0} (p : ℕ → Parser A) (q : ℕ → A → Parser B) (s b c : Input5) (x : A) (y : B) → Followed p s x b → Followed (λ l. q l x) b y c → Followed (λ l. ◌>>=◌ (p l) (q l)) s y c
-bind-followed p q s b c x y r r' = record {
+pub bind-followed : {A B : Type 0} (stands : List Token5 → List Token5 → Type 0) (nears : (ts us : List Token5) → stands ts us → Near ts us) (p : ℕ → Parser A) (q : ℕ → A → Parser B) (s b c : Input5) (x : A) (y : B)
+    → Followed p s x b → FollowedBy stands (λ l. q l x) b y c → FollowedBy stands (λ l. ◌>>=◌ (p l) (q l)) s y c
+bind-followed stands nears p q s b c x y r r' = record {
   filled = r.filled ++ r'.filled;
   ends = r'.ends ∙ ap (λ n. end_of n r'.filled) r.ends ∙ sym (end-append s.last r.filled r'.filled);
   gaps = gaps-append (Dead (λ l. ◌>>=◌ (p l) (q l)) s.last) s.last
@@ -113,7 +118,7 @@ bind-followed p q s b c x y r r' = record {
     (subst (λ front. Gaps (Dead (λ l. ◌>>=◌ (p l) (q l)) s.last) s.last front b.tokens c.tokens r'.filled) (append-nil r.filled)
       (gaps-shift (SeenDead) (Dead (λ l. ◌>>=◌ (p l) (q l)) s.last) b.last s.last r.filled r.ends later (gaps-map b.tokens (Dead (λ l. q l x) b.last) SeenDead b.last (λ before ts seen dead. (seen, dead)) r'.gaps (seen-start b.tokens))));
   run = λ l rest h. ap (λ ts. after (p l (record { tokens = ts; last = s.last })) (q l)) (append_assoc r.filled r'.filled rest)
-    ∙ ap (λ o. after o (q l)) (r.run l (r'.filled ++ rest) (near-through rest r'.gaps h)) ∙ r'.run l rest h;
+    ∙ ap (λ o. after o (q l)) (r.run l (r'.filled ++ rest) (near-through rest r'.gaps (nears c.tokens rest h))) ∙ r'.run l rest h;
 }
   where
     append-nil : (xs : List Token5) → xs ++ [] ≡ xs
@@ -127,7 +132,7 @@ bind-followed p q s b c x y r r' = record {
 
 pub bind-follows : {A B : Type 0} (p : Outcome5 A) (p' : ℕ → Parser A) (q : A → Parser B) (q' : ℕ → A → Parser B) (s : Input5)
     → Holds (Followed p' s) p → ((x : A) (c : Input5) → Holds (Followed (λ l. q' l x) c) (q x c)) → Holds (Followed (λ l. ◌>>=◌ (p' l) (q' l)) s) (after p q)
-bind-follows p p' q q' s h f = bind h (λ x b r. weaken (f x b) (λ y c r'. bind-followed p' q' s b c x y r r'))
+bind-follows p p' q q' s h f = bind h (λ x b r. weaken (f x b) (λ y c r'. bind-followed Near (λ ts us k. k) p' q' s b c x y r r'))
 
 pub returns-followed : {A : Type 0} (x : A) (s : Input5) → Followed (λ l. λ c. Took x c) s x s
 returns-followed x s = record { filled = []; ends = refl; gaps = stop; run = λ l rest h. refl }
@@ -135,16 +140,20 @@ returns-followed x s = record { filled = []; ends = refl; gaps = stop; run = λ 
 -- ## Choices
 
 -- readers that do the same wherever the next token is the same or a semicolon
-pub same-followed : {A : Type 0} (p q : ℕ → Parser A) (s c : Input5) (x : A) → ((l : ℕ) (ts : List Token5) → Near s.tokens ts → p l (record { tokens = ts; last = s.last }) ≡ q l (record { tokens = ts; last = s.last })) → Followed q s x c → Followed p s x c
-same-followed p q s c x h r = record {
+pub same-followed-by : {A : Type 0} (stands : List Token5 → List Token5 → Type 0) (nears : (ts us : List Token5) → stands ts us → Near ts us) (p q : ℕ → Parser A) (s c : Input5) (x : A)
+    → ((l : ℕ) (ts : List Token5) → Near s.tokens ts → p l (record { tokens = ts; last = s.last }) ≡ q l (record { tokens = ts; last = s.last })) → FollowedBy stands q s x c → FollowedBy stands p s x c
+same-followed-by stands nears p q s c x h r = record {
   filled = r.filled;
   ends = r.ends;
   gaps = gaps-map s.tokens (Dead q s.last) (Dead p s.last) s.last (λ before ts seen dead. moved-dead before ts seen dead) r.gaps (seen-start s.tokens);
-  run = λ l rest k. h l (r.filled ++ rest) (near-through rest r.gaps k) ∙ r.run l rest k;
+  run = λ l rest k. h l (r.filled ++ rest) (near-through rest r.gaps (nears c.tokens rest k)) ∙ r.run l rest k;
 }
   where
     moved-dead : (before ts : List Token5) → Seen s.tokens before ts → Dead q s.last before ts → Dead p s.last before ts
     moved-dead before ts seen dead l rest k = subst (λ o. Never o) (sym (h l (before ++ rest) (seen rest k))) (dead l rest k)
+
+pub same-followed : {A : Type 0} (p q : ℕ → Parser A) (s c : Input5) (x : A) → ((l : ℕ) (ts : List Token5) → Near s.tokens ts → p l (record { tokens = ts; last = s.last }) ≡ q l (record { tokens = ts; last = s.last })) → Followed q s x c → Followed p s x c
+same-followed p q s c x h r = same-followed-by Near (λ ts us k. k) p q s c x h r
 
 -- a token, and then a reader
 pub taken-followed : {A : Type 0} (p q : ℕ → Parser A) (t : Token5) (ts : List Token5) (last : ℕ) (c : Input5) (x : A) → ((l : ℕ) (us : List Token5) → p l (record { tokens = t ∷ us; last = last }) ≡ q l (record { tokens = us; last = t.end }))

@@ -12,3 +12,4 @@ pub mod Soundness
 pub mod Follows
 pub mod FollowChoices
 pub mod FollowExpressions
+pub mod FollowOperators
