@@ -203,3 +203,7 @@ semicolon-follows i i' f s = on-holds ending _ _ s
   (λ m. choose-holds inserts (fails Syntax) i.inserting s
     (λ h. choose-holds (returns tt) (fails Syntax) (is_insertable s.tokens) s (λ n. took (semicolon-put i' s f.plain m n)) (λ n. fault))
     (λ h. fault))
+
+-- a test before which nothing is read, and else a reader that begins with no semicolon
+pub unless-follows : {A : Type 0} (test : Token5 → Bool) (stop_ : Stop5) (q : Parser A) (q' : ℕ → Parser A) (s : Input5) → StopsAtSemi q' → (next_is test s.tokens ≡ false → Holds (Followed q' s) (q s)) → Holds (Followed (λ l. if_next test (fails stop_) (q' l)) s) (if_next test (fails stop_) q s)
+unless-follows test stop_ q q' s stops g = if-holds test (fails stop_) q s (λ h. fault) (λ h. weaken (g h) (λ y d r. false-firm test (λ l. fails stop_) q' s d y stops h r))

@@ -13,3 +13,4 @@ pub mod Follows
 pub mod FollowChoices
 pub mod FollowExpressions
 pub mod FollowOperators
+pub mod FollowStatements
