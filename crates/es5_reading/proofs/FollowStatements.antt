@@ -79,7 +79,7 @@ cases_from i inside may more last at = on (mark (codes "}")) (λ _. returns []) 
   (choose may (on (word (codes "default")) (λ _. ◌>>=◌ (default_clause i inside at) (λ c. ◌>>=◌ last (λ cs. returns (c ∷ cs)))) (fails Syntax)) (fails Syntax)))
 
 module _ (i : Inner5) (i' : ℕ → Inner5) (f : Follows i i') where
-  follow-block : (inside : Bool) (s : Input5) → Runs (λ l. block (i' l) inside) (block i inside) s
+  pub follow-block : (inside : Bool) (s : Input5) → Runs (λ l. block (i' l) inside) (block i inside) s
   unfolding block
   follow-block inside s = from-follows (block_from i inside) (λ l. block_from (i' l) inside) s (λ l at at' b e a us last. refl)
     (group-follows i i' _ _ _ _ _ s f.opens (λ o c. bind-follows _ _ _ _ c (follow-braced i i' f inside false c) (λ ss d. made-follows _ d (λ _ _ _. refl))) (λ m. fault))
@@ -93,7 +93,7 @@ module _ (i : Inner5) (i' : ℕ → Inner5) (f : Follows i i') where
   follow-semicolon : (s : Input5) → Runs (λ l. semicolon (i' l)) (semicolon i) s
   follow-semicolon s = semicolon-follows i i' f s
 
-  follow-var : (at : ℕ) (s : Input5) → Runs (λ l. var_statement (i' l) at) (var_statement i at) s
+  pub follow-var : (at : ℕ) (s : Input5) → Runs (λ l. var_statement (i' l) at) (var_statement i at) s
   unfolding var_statement
   follow-var at s = bind-follows _ _ _ _ s
     (spelled-follows _ (λ l. declared_list (one_declared (i' l) false) (plus i.fuel l)) s (λ l. ap (λ n. declared_list (one_declared (i' l) false) n) (f.fuel l)) (follow-list (one_declared i false) (λ l. one_declared (i' l) false) (λ c. follow-declared false c) i.fuel s))
@@ -123,7 +123,7 @@ module _ (i : Inner5) (i' : ℕ → Inner5) (f : Follows i i') where
       (λ h. bind-follows _ _ _ _ c (f.statement inside false c) (λ x d. returns-follows _ d)))
     (λ m. returns-follows _ s)
 
-  follow-if : (inside : Bool) (at : ℕ) (s : Input5) → Runs (λ l. if_statement (i' l) inside at) (if_statement i inside at) s
+  pub follow-if : (inside : Bool) (at : ℕ) (s : Input5) → Runs (λ l. if_statement (i' l) inside at) (if_statement i inside at) s
   unfolding if_statement
   follow-if inside at s = bind-follows _ _ _ _ s (follow-condition inside s) (λ x c. bind-follows _ _ _ _ c
     (spelled-follows _ (λ l. otherwise (i' l) inside (plus i.fuel l)) c (λ l. ap (λ n. otherwise (i' l) inside n) (f.fuel l)) (follow-otherwise inside i.fuel c)) (λ r d. made-follows _ d (λ _ _ _. refl)))
@@ -313,7 +313,7 @@ module _ (i : Inner5) (i' : ℕ → Inner5) (f : Follows i i') where
       (λ h. on-follows (word (codes "return")) (λ b e a. refl) _ _ _ _ s (λ t c k. follow-return at c) (λ m. follow-plain inside top at s))
       (λ h. follow-plain inside top at s)))))
 
-  follow-compound : (inside top : Bool) (at : ℕ) (s : Input5) → Runs (λ l. compound_statement (i' l) inside top at) (compound_statement i inside top at) s
+  pub follow-compound : (inside top : Bool) (at : ℕ) (s : Input5) → Runs (λ l. compound_statement (i' l) inside top at) (compound_statement i inside top at) s
   unfolding compound_statement
   follow-compound inside top at s = on-follows (word (codes "do")) (λ b e a. refl) _ _ _ _ s (λ t c h. follow-do inside at c) (λ m.
     on-follows (word (codes "while")) (λ b e a. refl) _ _ _ _ s (λ t c h. follow-while inside at c) (λ m.

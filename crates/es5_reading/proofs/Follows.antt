@@ -80,6 +80,11 @@ gaps-map all d e last {before = before} f (keep {t = t} g) h = keep (gaps-map al
 gaps-map all d e last {before = before} {ts = ts} f (insert at is k m g) h = insert at is (f before ts h k) m
   (gaps-map all d e last f g (λ rest k. subst (λ us. Near all us) (sym (append_assoc before (semi at at false ∷ []) rest)) (seen-semi all before ts at at false h rest)))
 
+pub gaps-each : {d e : List Token5 → List Token5 → Type 0} {last : ℕ} {before ts us filled : List Token5} → ((before ts : List Token5) → d before ts → e before ts) → Gaps d last before ts us filled → Gaps e last before ts us filled
+gaps-each f stop = stop
+gaps-each f (keep g) = keep (gaps-each f g)
+gaps-each f (insert at is m n g) = insert at is (f _ _ m) n (gaps-each f g)
+
 seen-start : (ts : List Token5) → Seen ts [] ts
 seen-start ts rest h = near h
 

@@ -14,3 +14,4 @@ pub mod FollowChoices
 pub mod FollowExpressions
 pub mod FollowOperators
 pub mod FollowStatements
+pub mod Insertion
