@@ -15,3 +15,4 @@ pub mod FollowExpressions
 pub mod FollowOperators
 pub mod FollowStatements
 pub mod Insertion
+pub mod Reading
