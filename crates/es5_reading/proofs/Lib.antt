@@ -16,3 +16,4 @@ pub mod FollowOperators
 pub mod FollowStatements
 pub mod Insertion
 pub mod Reading
+pub mod CompleteTokens
