@@ -83,7 +83,7 @@ unfolding readers
 readers-inserting mode fuel zero = refl
 readers-inserting mode fuel (suc room) = refl
 
-readers-fuel : (mode : Bool) (fuel room : ℕ) → (readers mode fuel room).fuel ≡ fuel
+pub readers-fuel : (mode : Bool) (fuel room : ℕ) → (readers mode fuel room).fuel ≡ fuel
 unfolding readers
 readers-fuel mode fuel zero = refl
 readers-fuel mode fuel (suc room) = refl

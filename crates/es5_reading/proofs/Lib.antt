@@ -17,3 +17,4 @@ pub mod FollowStatements
 pub mod Insertion
 pub mod Reading
 pub mod CompleteTokens
+pub mod CompleteLevels
