@@ -18,3 +18,4 @@ pub mod Insertion
 pub mod Reading
 pub mod CompleteTokens
 pub mod CompleteLevels
+pub mod CompleteParts

@@ -86,6 +86,9 @@ both d e h = record {
   reads = λ t f r a b c. h t f r (d.reads t f r (low-left d.bound e.bound t a) (low-left d.bound e.bound f b) (low-left d.bound e.bound r c)) (e.reads t f r (low-right d.bound e.bound t a) (low-right d.bound e.bound f b) (low-right d.bound e.bound r c));
 }
 
+pub pair : {P Q : ℕ → ℕ → ℕ → Type 0} → Eventually P → Eventually Q → Eventually (λ t f r. P t f r × Q t f r)
+pair d e = both d e (λ t f r a b. (a, b))
+
 -- one construct more
 pub deeper : {P Q : ℕ → ℕ → ℕ → Type 0} → Eventually P → ((t f r : ℕ) → P t f r → Q t f (suc r)) → Eventually Q
 deeper {P = P} {Q = Q} e h = record { bound = suc e.bound; reads = λ t f r a b c. at t f r (less e.bound t a) (less e.bound f b) c }
