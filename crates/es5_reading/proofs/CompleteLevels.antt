@@ -104,13 +104,11 @@ lift-binaries (suc n) above high above' level k Q ts us e s s' h c =
 pub data Level : ℕ → Type 0 where
   sequence_level : Level 0
   assignment_level : Level 1
-  conditional_level : Level 2
   binary_level_ : (above : ℕ) {level : ℕ} → above + level ≡ 13 → 3 ≤ level → Level level
 
 abbrev pub level_reader : Inner5 → Bool → {least : ℕ} → Level least → Parser Read5
 level_reader i k sequence_level = sequence i k
 level_reader i k assignment_level = assignment i k
-level_reader i k conditional_level = conditional i k
 level_reader i k (binary_level_ above {level = level} e h) = binary_from i k above level
 
 abbrev pub LevelReads : Bool → (Read5 → Type 0) → List Token5 → List Token5 → {least : ℕ} → Level least → Type 0
@@ -150,7 +148,6 @@ to-three above high k Q ts us e h r c = let d = difference high 3 h in lift-bina
 pub from-binary : (above high : ℕ) (k : Bool) (Q : Read5 → Type 0) (ts us : List Token5) → above + high ≡ 13 → 3 ≤ high → BinaryReads k above high Q ts us → (least : ℕ) (v : Level least) → least ≤ high → Closes k least us → LevelReads k Q ts us v
 from-binary above high k Q ts us e h r least sequence_level l c = to-sequence k Q ts us (to-assignment k Q ts us (to-conditional k Q ts us (to-three above high k Q ts us e h r (up k 0 3 us (omega arith) c)) (up k 0 2 us (omega arith) c)) (up k 0 1 us (omega arith) c)) c
 from-binary above high k Q ts us e h r least assignment_level l c = to-assignment k Q ts us (to-conditional k Q ts us (to-three above high k Q ts us e h r (up k 1 3 us (omega arith) c)) (up k 1 2 us (omega arith) c)) c
-from-binary above high k Q ts us e h r least conditional_level l c = to-conditional k Q ts us (to-three above high k Q ts us e h r (up k 2 3 us (omega arith) c)) c
 from-binary above high k Q ts us e h r least (binary_level_ above' {level = level} e' h') l c = let d = difference high level l in lift-binaries d.0 above high above' level k Q ts us d.1 e e' r c
 
 too-low : (level : ℕ) → level ≤ 2 → 3 ≤ level → ⊥
@@ -168,19 +165,16 @@ le-two' a h = omega arith
 pub from-conditional : (k : Bool) (Q : Read5 → Type 0) (ts us : List Token5) → Eventually (λ t f r. Reads (conditional (R f r) k) Q ts us) → (least : ℕ) (v : Level least) → least ≤ 2 → Closes k least us → LevelReads k Q ts us v
 from-conditional k Q ts us r least sequence_level l c = to-sequence k Q ts us (to-assignment k Q ts us r (up k 0 1 us (omega arith) c)) c
 from-conditional k Q ts us r least assignment_level l c = to-assignment k Q ts us r c
-from-conditional k Q ts us r least conditional_level l c = r
 from-conditional k Q ts us r least (binary_level_ above {level = level} e h) l c = absurd (too-low level l h)
 
 pub from-assignment : (k : Bool) (Q : Read5 → Type 0) (ts us : List Token5) → Eventually (λ t f r. Reads (assignment (R f r) k) Q ts us) → (least : ℕ) (v : Level least) → least ≤ 1 → Closes k least us → LevelReads k Q ts us v
 from-assignment k Q ts us r least sequence_level l c = to-sequence k Q ts us r c
 from-assignment k Q ts us r least assignment_level l c = r
-from-assignment k Q ts us r least conditional_level l c = absurd (no-low 2 1 (omega arith) l)
 from-assignment k Q ts us r least (binary_level_ above {level = level} e h) l c = absurd (too-low level (le-two level l) h)
 
 pub from-sequence : (k : Bool) (Q : Read5 → Type 0) (ts us : List Token5) → Eventually (λ t f r. Reads (sequence (R f r) k) Q ts us) → (least : ℕ) (v : Level least) → least ≤ 0 → LevelReads k Q ts us v
 from-sequence k Q ts us r least sequence_level l = r
 from-sequence k Q ts us r least assignment_level l = absurd (no-low 1 0 (omega arith) l)
-from-sequence k Q ts us r least conditional_level l = absurd (no-low 2 0 (omega arith) l)
 from-sequence k Q ts us r least (binary_level_ above {level = level} e h) l = absurd (too-low level (le-two' level l) h)
 
 -- ## What is claimed of an expression of a level
@@ -216,10 +210,14 @@ claim-down k a b ts us h c = record {
   levels = λ least v l cl. weak-levels k (LeftFrom b) (LeftFrom a) ts us v (λ x q. weak-left a b h x q) (c.levels least v (le-trans least a b l h) cl);
 }
 
-level-thirteen : {least : ℕ} (v : Level least) → least ≤ 13
+pub low-level : {least : ℕ} (v : Level least) → least ≤ 2 → least ≤ 1
+low-level sequence_level l = omega arith
+low-level assignment_level l = omega arith
+low-level (binary_level_ above {level = level} e h) l = absurd (too-low level l h)
+
+pub level-thirteen : {least : ℕ} (v : Level least) → least ≤ 13
 level-thirteen sequence_level = omega arith
 level-thirteen assignment_level = omega arith
-level-thirteen conditional_level = omega arith
 level-thirteen (binary_level_ above {level = level} e h) = sum above level e
   where
     sum : (above level : ℕ) → above + level ≡ 13 → level ≤ 13
@@ -231,6 +229,12 @@ left-levels : (k : Bool) (level : ℕ) (ts us : List Token5) → BeginsOperand t
 unfolding binary_from
 left-levels k level ts us o h least v c =
   from-binary 0 13 k (LeftFrom level) ts us refl (omega arith) (chain-unary k (LeftFrom level) ts us (then_ (h c.dot c.bracket (c.paren (le-trans least 13 16 (level-thirteen v) (omega arith)))) (λ t f r x last. reads-weak (λ y q l. q) (x last))) o (c.after (le-trans least 13 14 (level-thirteen v) (omega arith)))) least v (level-thirteen v) c
+
+-- as a target it is read before an assignment operator
+pub left-conditional : (k : Bool) (ts us : List Token5) → BeginsOperand ts → ChainReads true ts us → Closes k 2 us → Eventually (λ t f r. Reads (conditional (R f r) k) Left ts us)
+unfolding binary_from
+left-conditional k ts us o h c =
+  to-conditional k Left ts us (to-three 0 13 k Left ts us refl (omega arith) (chain-unary k Left ts us h o (c.after (omega arith))) (up k 2 3 us (omega arith) c)) c
 
 -- a primary expression
 pub claim-primary : (k : Bool) (ts us : List Token5) → BeginsOperand ts → HeadReads ts us → Claim k 18 ts us

@@ -26,7 +26,7 @@ use Rattle.es5_reading.proofs.Posts.{Misses}
 use Rattle.es5_reading.proofs.Meanings.{bytes_eq-refl}
 use Rattle.es5_reading.proofs.Reading.{ReadsOf, reads_, Reads, Any, reads-as, reads-weak, bind-reads, on-hit, on-miss, if-true, if-false, choose-either, group-hit, group-miss, Eventually, always, then_, both, pair, deeper, turn, begin}
 use Rattle.es5_reading.proofs.CompleteTokens.{at-kind, is-false, not-reserved, operand_words, operand_marks, prefix_words, prefix_marks, Operand, operand_name, operand_word, operand_integer, operand_text, operand_mark, First, first_operand, BeginsOperand, begins_operand_at, BeginsFirst, begins_first_at, begins-first, first-no-word, first-no-mark, Closes, closes-up, closes-any, mark-miss, word-miss, assign-hit, unary-hit, unary-first, before-hit, before-first, after-hit, update-stops, closes-assign, closes-operator, closes-question, closes-colon, closes-close, closes-square, closes-brace, closes-comma, binary-hit, level-high}
-use Rattle.es5_reading.proofs.CompleteLevels.{R, at-fuel, Left, mark-missed, HeadReads, ChainReads, head-chain, chain-unary, BinaryReads, Level, sequence_level, assignment_level, conditional_level, binary_level_, LevelReads, from-binary, from-conditional, from-assignment, from-sequence, Claim, claim-primary, claim-left, claim-other}
+use Rattle.es5_reading.proofs.CompleteLevels.{R, at-fuel, Left, mark-missed, HeadReads, ChainReads, head-chain, chain-unary, BinaryReads, Level, sequence_level, assignment_level, binary_level_, LevelReads, from-binary, from-conditional, from-assignment, from-sequence, Claim, claim-primary, claim-left, claim-other}
 
 -- ## Tokens
 

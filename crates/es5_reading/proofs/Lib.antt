@@ -19,3 +19,4 @@ pub mod Reading
 pub mod CompleteTokens
 pub mod CompleteLevels
 pub mod CompleteParts
+pub mod CompleteExpressions
