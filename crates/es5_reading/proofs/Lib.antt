@@ -20,3 +20,4 @@ pub mod CompleteTokens
 pub mod CompleteLevels
 pub mod CompleteParts
 pub mod CompleteExpressions
+pub mod CompleteStatements
