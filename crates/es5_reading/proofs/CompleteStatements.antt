@@ -58,29 +58,29 @@ pub open-statement : (inside top : Bool) (ts us : List Token5) → StatClaim ins
 unfolding readers
 open-statement inside top ts us c q = deeper (c.reads q) (λ n f r x. x)
 
-ending-hit : (t : Token5) → IsEnd t → ending t ≡ Some t
+pub ending-hit : (t : Token5) → IsEnd t → ending t ≡ Some t
 ending-hit t h = kept (ends t.kind) h
   where
     kept : (b : Bool) → b ≡ true → kept_if b t ≡ Some t
     kept true h = refl
     kept false h = absurd (false≢true h)
 
-semicolon-reads : (i : Inner5) (t : Token5) (us : List Token5) (last : ℕ) → IsEnd t → ReadsOf Any us (semicolon i (record { tokens = t ∷ us; last = last }))
+pub semicolon-reads : (i : Inner5) (t : Token5) (us : List Token5) (last : ℕ) → IsEnd t → ReadsOf Any us (semicolon i (record { tokens = t ∷ us; last = last }))
 unfolding semicolon
 semicolon-reads i t us last h = on-hit ending _ _ t t us last (ending-hit t h) (reads_ tt)
 
-take-word : (w : List ℕ) (t : Token5) (ts : List Token5) (last : ℕ) → IsWord w t → ReadsOf Any ts (take_as (word w) (record { tokens = t ∷ ts; last = last }))
+pub take-word : (w : List ℕ) (t : Token5) (ts : List Token5) (last : ℕ) → IsWord w t → ReadsOf Any ts (take_as (word w) (record { tokens = t ∷ ts; last = last }))
 take-word w t ts last e = take-hit (word w) t t ts last (word-hit w t e)
 
 -- a token of an inserted or written semicolon
-end-none : {A : Type 0} (test : Kind5 → Option A) (k : Kind5) → ends k ≡ true → test (Punctuator (codes ";")) ≡ None → test Inserted ≡ None → test k ≡ None
+pub end-none : {A : Type 0} (test : Kind5 → Option A) (k : Kind5) → ends k ≡ true → test (Punctuator (codes ";")) ≡ None → test Inserted ≡ None → test k ≡ None
 end-none test (Word w) h a b = absurd (false≢true h)
 end-none test (Integer n) h a b = absurd (false≢true h)
 end-none test (Text us) h a b = absurd (false≢true h)
 end-none test (Punctuator p) h a b = subst (λ q. test (Punctuator q) ≡ None) (sym (same_bytes p (codes ";") h)) a
 end-none test Inserted h a b = b
 
-end-false : (test : Kind5 → Bool) (k : Kind5) → ends k ≡ true → test (Punctuator (codes ";")) ≡ false → test Inserted ≡ false → test k ≡ false
+pub end-false : (test : Kind5 → Bool) (k : Kind5) → ends k ≡ true → test (Punctuator (codes ";")) ≡ false → test Inserted ≡ false → test k ≡ false
 end-false test (Word w) h a b = absurd (false≢true h)
 end-false test (Integer n) h a b = absurd (false≢true h)
 end-false test (Text us) h a b = absurd (false≢true h)
@@ -187,7 +187,7 @@ pub stats-none : (inside top : Bool) (c : Token5) (us : List Token5) → IsMark 
 unfolding statements
 stats-none inside top c us p = turn (always {P = λ n f r. Unit {0}} (λ n f r. tt)) (λ n f r _ last. on-hit (mark (codes "}")) _ _ c c us last (mark-hit (codes "}") c p) (reads_ tt))
 
-case-no-brace : (ts : List Token5) → next_is ends_case ts ≡ false → Misses (mark (codes "}")) ts
+pub case-no-brace : (ts : List Token5) → next_is ends_case ts ≡ false → Misses (mark (codes "}")) ts
 case-no-brace [] h = tt
 case-no-brace (t ∷ ts) h = mark-miss (codes "}") t (or_false (is_word (codes "case") t.kind || is_word (codes "default") t.kind) (is_mark (codes "}") t.kind)
   (or_false ((is_word (codes "case") t.kind || is_word (codes "default") t.kind) || is_mark (codes "}") t.kind) (is_inserted t.kind) h).0).1
@@ -224,7 +224,7 @@ pub data DeclaredItems (k : Bool) : List Token5 → List Token5 → Type 0 where
   item_last : {ts us : List Token5} → DeclaredClaim k ts us → DeclaredItems k ts us
   item_next : {c : Token5} {ts us vs : List Token5} → DeclaredClaim k ts (c ∷ us) → IsMark (codes ",") c → DeclaredItems k us vs → DeclaredItems k ts vs
 
-list-reads : (k : Bool) (q : ℕ → ℕ → Parser Declared5) → ((ts us : List Token5) → Eventually (λ n f r. Reads (one_declared (R f r) k) Any ts us) → Eventually (λ n f r. Reads (q f r) Any ts us)) → {ts us : List Token5} → DeclaredItems k ts us → Closes k 1 us → Misses (mark (codes ",")) us
+pub list-reads : (k : Bool) (q : ℕ → ℕ → Parser Declared5) → ((ts us : List Token5) → Eventually (λ n f r. Reads (one_declared (R f r) k) Any ts us) → Eventually (λ n f r. Reads (q f r) Any ts us)) → {ts us : List Token5} → DeclaredItems k ts us → Closes k 1 us → Misses (mark (codes ",")) us
     → Eventually (λ n f r. Reads (declared_list (q f r) n) Any ts us)
 unfolding declared_list
 list-reads k q g (item_last {ts = ts} {us = us} d) c m = turn (g ts us (d c)) (λ n f r x last. bind-reads _ (x last) (λ y j _. on-miss (mark (codes ",")) _ _ us j m (reads_ tt)))
@@ -240,7 +240,7 @@ var-reads ts e us d h = begin (list-reads false (λ f r. one_declared (R f r) fa
 
 -- ## If
 
-paren-reads : (o : Token5) (ts : List Token5) (c : Token5) (us : List Token5) → IsMark (codes "(") o → Claim false 0 ts (c ∷ us) → IsMark (codes ")") c → Eventually (λ n f r. Reads (parenthesized (R f r)) Any (o ∷ ts) us)
+pub paren-reads : (o : Token5) (ts : List Token5) (c : Token5) (us : List Token5) → IsMark (codes "(") o → Claim false 0 ts (c ∷ us) → IsMark (codes ")") c → Eventually (λ n f r. Reads (parenthesized (R f r)) Any (o ∷ ts) us)
 unfolding parenthesized
 paren-reads o ts c us p x q = both opened (open-sequence false ts (c ∷ us) x (closes-close false us c q)) (λ n f r a y last. group-hit (R f r) _ _ _ o ts last (is-mark-true (codes "(") o p) a
   (bind-reads _ (y o.end) (λ z m _. bind-reads _ (take-mark (codes ")") c us m q) (λ w j _. reads_ tt))))

@@ -21,3 +21,4 @@ pub mod CompleteLevels
 pub mod CompleteParts
 pub mod CompleteExpressions
 pub mod CompleteStatements
+pub mod CompleteCompound
