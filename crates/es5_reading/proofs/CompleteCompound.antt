@@ -444,6 +444,7 @@ pub program-none : Eventually (λ n f r. Reads (program (R f r) n) Any [] [])
 unfolding program
 program-none = turn (always {P = λ n f r. Unit {0}} (λ n f r. tt)) (λ n f r _ last. reads_ tt)
 
-pub program-next : (ts us : List Token5) → ((t : Token5) × (vs : List Token5) × (ts ≡ t ∷ vs)) → StatClaim false true ts us → Quiet us → Eventually (λ n f r. Reads (program (R f r) n) Any us []) → Eventually (λ n f r. Reads (program (R f r) n) Any ts [])
+pub program-next : (ts us : List Token5) → StatClaim false true ts us → Quiet us → Eventually (λ n f r. Reads (program (R f r) n) Any us []) → Eventually (λ n f r. Reads (program (R f r) n) Any ts [])
 unfolding program
-program-next ts us e x q h = turn (pair (x.reads q) h) (λ n f r y last. if-true _ _ _ ts last (subst (λ zs. next_is (λ t. true) zs ≡ true) (sym e.2) refl) (bind-reads _ (y.0 last) (λ z m _. bind-reads _ (y.1 m) (λ w j _. reads_ tt))))
+program-next [] us x q h = program-none
+program-next (t ∷ ts) us x q h = turn (pair (x.reads q) h) (λ n f r y last. bind-reads _ (y.0 last) (λ z m _. bind-reads _ (y.1 m) (λ w j _. reads_ tt)))

@@ -22,3 +22,4 @@ pub mod CompleteParts
 pub mod CompleteExpressions
 pub mod CompleteStatements
 pub mod CompleteCompound
+pub mod Completeness
