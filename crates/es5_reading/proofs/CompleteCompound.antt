@@ -1,58 +1,43 @@
 -- Loops, jumps, switches, tries, labels and expressions are read, if their parts are.
-use Rattle.std.proofs.Common.{◌≡◌, ◌⊎◌, inl, inr, ℕ, zero, suc, ◌+◌, ◌≤◌, Bool, true, false, ◌&&◌, ◌||◌, cond, not, List, [], ◌∷◌, Option, Some, None, refl, sym, ap, subst, ◌∙◌, arith}
+use Rattle.std.proofs.Common.{◌≡◌, ℕ, Bool, true, false, ◌&&◌, ◌||◌, not, List, [], ◌∷◌, Option, Some, None, refl, sym, ap, subst, ◌∙◌, arith}
 use Rattle.std.proofs.lemmas.Bool.{false≢true, true≢false}
 use Rattle.std.specs.Prelude.{codes}
 use Rattle.es_text.specs.declared.Span.{Span}
-use Rattle.es5_ast.specs.declared.operators.UnaryOperator5.{UnaryOperator5}
-use Rattle.es5_ast.specs.declared.operators.UpdateOperator5.{UpdateOperator5}
-use Rattle.es5_ast.specs.declared.operators.BinaryOperator5.{BinaryOperator5}
-use Rattle.es5_ast.specs.declared.operators.AssignOperator5.{AssignOperator5}
-use Rattle.es5_ast.specs.declared.operators.Literal5.{Literal5}
-use Rattle.es5_ast.specs.declared.operators.Literal5.TheVariants as literals
-use Rattle.es5_ast.specs.declared.operators.Key5.{Key5}
-use Rattle.es5_ast.specs.declared.operators.Key5.TheVariants as keys
 use Rattle.es5_ast.specs.declared.tree.Identifier5.{Identifier5}
-use Rattle.es5_ast.specs.declared.tree.PlacedKey5.{PlacedKey5}
 use Rattle.es5_ast.specs.declared.tree.Expr5.{Expr5}
 use Rattle.es5_ast.specs.declared.tree.Link5.{Link5}
 use Rattle.es5_ast.specs.Lexical.{Token5, Kind5, Word, Integer, Text, Punctuator, Inserted, is_one_of, reserved_words}
 use Rattle.es5_ast.specs.Grammar as g
 use Rattle.es5_ast.specs.Grammar.{Mode5, IsIdentifier, IsKey, AreParameters, IsMark, IsWord, is_mark, is_word, is_identifier, is_in, is_before, unary_kind, update_kind, assign_kind, binary_kind, binary_level, literal_kind, key_kind, begin_of}
-use Rattle.es5_reading.specs.Parser.{Input5, Outcome5, Took, Fault, Parser, after, ◌>>=◌, on, choose, next_is, if_next, returns, kept_if, take_as, mark, word, next_mark, from, made, Read5, is_left, Inner5, on_group, group}
-use Rattle.es5_reading.specs.Expressions.{name_if, any_name, free_name, literal_at, key_at, accessor_at, accessor_name, identifier, key, more_parameters, parameters, statements, body, rest_of_function, function_expression, no_parameter, one_parameter, accessor_parameters, accessor_function, accessor, value_of_key, plain_property, after_accessor_word, one_property, properties, elements, more_arguments, arguments, left, grouped, bracketed, primary, after_callee, head, member_link, index_link, call_link, links, chained, chain, postfix, prefixed, updated, unary, operands, operated, binary_from, branches, conditional, assigned, assignment, parts, more_parts, sequence, unary_at, before_at, after_at, assign_at, binary_at}
+use Rattle.es5_reading.specs.Parser.{◌>>=◌, next_is, returns, take_as, mark, word, next_mark, Read5, is_left, Inner5}
+use Rattle.es5_reading.specs.Expressions.{name_if, free_name, primary, head, links, chained, chain, binary_from, sequence}
 use Rattle.es5_reading.specs.Statements.{label_of}
 use Rattle.es5_reading.specs.Programs.{readers}
 use Rattle.es5_reading.proofs.Posts.{Misses}
-use Rattle.es5_reading.proofs.Meanings.{bytes_eq-refl, same_bytes, or_false}
-use Rattle.es5_reading.proofs.Reading.{ReadsOf, reads_, Reads, Any, reads-as, reads-weak, bind-reads, on-hit, on-miss, if-true, if-false, choose-either, group-hit, group-miss, Eventually, always, then_, both, pair, deeper, turn, begin}
-use Rattle.es5_reading.proofs.CompleteTokens.{at-kind, is-false, not-reserved, operand_words, operand_marks, prefix_words, prefix_marks, Operand, operand_name, operand_word, operand_integer, operand_text, operand_mark, First, first_operand, BeginsOperand, begins_operand_at, BeginsFirst, begins_first_at, begins-first, first-no-word, first-no-mark, Closes, closes-up, closes-any, mark-miss, word-miss, assign-hit, unary-hit, unary-first, before-hit, before-first, after-hit, update-stops, closes-assign, closes-operator, closes-question, closes-colon, closes-close, closes-square, closes-brace, closes-comma, closes-end, closes-semicolon, binary-hit, level-high}
-use Rattle.es5_reading.proofs.CompleteLevels.{R, at-fuel, Left, mark-missed, links-none, HeadReads, ChainReads, head-chain, chain-unary, BinaryReads, Level, sequence_level, assignment_level, binary_level_, LevelReads, from-binary, from-conditional, from-assignment, from-sequence, Claim, low-level, level-thirteen, left-conditional, claim-primary, claim-left, claim-other}
-
-use Rattle.es5_reading.proofs.CompleteParts.{is-mark-true, is-word-true, mark-hit, word-hit, mark-other, take-hit, take-mark, first-misses, identifier-reads, opened, open-assignment, open-sequence, StatsRead, RestRead, FunctionClaim, anonymous_claim, named_claim}
+use Rattle.es5_reading.proofs.Meanings.{same_bytes}
+use Rattle.es5_reading.proofs.Reading.{ReadsOf, reads_, Reads, Any, bind-reads, on-hit, on-miss, if-true, if-false, choose-either, group-hit, Eventually, always, then_, both, pair, deeper, turn, begin}
+use Rattle.es5_reading.proofs.CompleteTokens.{at-kind, is-false, not-reserved, operand_words, operand_marks, prefix_words, prefix_marks, Operand, operand_name, First, first_operand, begins_operand_at, BeginsFirst, begins_first_at, first-no-word, first-no-mark, Closes, closes-up, mark-miss, word-miss, closes-colon, closes-close, closes-comma, closes-end, closes-semicolon}
+use Rattle.es5_reading.proofs.CompleteLevels.{R, at-fuel, links-none, chain-unary, sequence_level, from-binary, Claim}
+use Rattle.es5_reading.proofs.CompleteParts.{is-mark-true, is-word-true, mark-hit, word-hit, mark-other, take-mark, first-misses, identifier-reads, opened, open-sequence}
 use Rattle.es5_reading.proofs.CompleteLevels.{links-none}
 use Rattle.es5_ast.specs.declared.tree.Expr5 as x5
 use Rattle.es5_ast.specs.declared.tree.Expr5.TheVariants as expr
 use denote.Hole.Carrier as carrier
-use Rattle.es5_ast.specs.declared.tree.Stat5.{Stat5}
-use Rattle.es5_ast.specs.declared.tree.Declared5.{Declared5}
-use Rattle.es5_ast.specs.declared.tree.Stat5.TheVariants as stat
 use Rattle.es5_ast.specs.Grammar.{IsEnd, IsOnLine, AreCases, begins, ends}
 use Rattle.es5_ast.specs.declared.tree.ForFirst5.TheVariants as for_first
-use Rattle.es5_reading.specs.Parser.{Outside, Syntax, fails, next_word, ending, semicolon, Bare}
+use Rattle.es5_reading.specs.Parser.{Outside, fails, next_word, Bare}
 use Rattle.es5_reading.specs.Expressions.{free_name_in}
 use Rattle.std.specs.Str.{bytes_eq}
-use Rattle.es5_reading.specs.Statements.{block, initialized, one_declared, declared_list, var_statement, parenthesized, condition, Otherwise5, with_condition, otherwise, if_statement, do_statement, while_statement, after_first_declared, for_var, for_expression, for_first_part, optional, for_header, for_statement, label_if, label_at, optional_label, continue_statement, break_statement, goes_on, returned, return_statement, begins_line, throw_statement, is_inserted, ends_case, in_case, case_clause, default_clause, cases, switch_statement, catch_parameter, handler, after_handler, only_finally, try_statement, debugger_statement, declaration, expression_end, labelled, label_or_end, expression_statement, plain_statement, jump_statement, compound_statement, block_statement, statement}
+use Rattle.es5_reading.specs.Statements.{one_declared, declared_list, do_statement, while_statement, after_first_declared, for_var, for_expression, for_first_part, optional, for_header, for_statement, label_if, label_at, optional_label, continue_statement, break_statement, goes_on, returned, return_statement, begins_line, throw_statement, is_inserted, ends_case, in_case, case_clause, default_clause, cases, switch_statement, catch_parameter, handler, after_handler, only_finally, try_statement, debugger_statement, expression_end, labelled, label_or_end, expression_statement, plain_statement, jump_statement, compound_statement, statement}
 use Rattle.es5_reading.specs.Programs.{program}
-use Rattle.es5_reading.specs.Expressions.{assign_operators}
-
-use Rattle.es5_reading.proofs.CompleteStatements.{Quiet, StatClaim, quiet-kind, open-statement, semicolon-reads, ending-hit, take-word, end-none, end-false, AfterWord, BlockClaim, case-no-brace, DeclaredClaim, DeclaredItems, item_last, item_next, list-reads, paren-reads}
+use Rattle.es5_reading.proofs.CompleteStatements.{Quiet, StatClaim, quiet-kind, open-statement, semicolon-reads, take-word, end-none, end-false, AfterWord, BlockClaim, DeclaredClaim, DeclaredItems, item_last, item_next, list-reads, paren-reads}
 
 -- ## Loops
 
 pub do-reads : (inside : Bool) (ts : List Token5) (w o : Token5) (us : List Token5) (c e : Token5) (vs : List Token5) → StatClaim inside false ts (w ∷ o ∷ us) → IsWord (codes "while") w → IsMark (codes "(") o → Claim false 0 us (c ∷ e ∷ vs) → IsMark (codes ")") c → IsEnd e → AfterWord (λ i at. do_statement i inside at) ts vs
 unfolding do_statement
 do-reads inside ts w o us c e vs s u p x q h = both (open-statement inside false ts (w ∷ o ∷ us) s (quiet-kind w (o ∷ us) (Word (codes "while")) u refl)) (paren-reads o us c (e ∷ vs) p x q) (λ n f r y z at last.
-  bind-reads _ (y last) (λ b m _. bind-reads _ (take-word (codes "while") w (o ∷ us) m u) (λ v j _. bind-reads _ (z j) (λ d i _. bind-reads _ (semicolon-reads (R f r) e vs i h) (λ g l _. reads_ tt)))))
+    bind-reads _ (y last) (λ b m _. bind-reads _ (take-word (codes "while") w (o ∷ us) m u) (λ v j _. bind-reads _ (z j) (λ d i _. bind-reads _ (semicolon-reads (R f r) e vs i h) (λ g l _. reads_ tt)))))
 
 pub while-reads : (inside : Bool) (o : Token5) (ts : List Token5) (c : Token5) (us vs : List Token5) → IsMark (codes "(") o → Claim false 0 ts (c ∷ us) → IsMark (codes ")") c → StatClaim inside false us vs → Quiet vs → AfterWord (λ i at. while_statement i inside at) (o ∷ ts) vs
 unfolding while_statement
@@ -81,18 +66,18 @@ var-no-semi v w = mark-miss (codes ";") v (subst (λ k. is_mark (codes ";") k �
 first-var-last : (v : Token5) (ts : List Token5) (e : Token5) (us : List Token5) → IsWord (codes "var") v → DeclaredClaim true ts (e ∷ us) → IsMark (codes ";") e → FirstRead (v ∷ ts) us
 unfolding for_first_part for_var after_first_declared
 first-var-last v ts e us w x p = then_ (open-declared true ts (e ∷ us) (x (semicolon-one e us p))) (λ n f r y last.
-  on-miss (mark (codes ";")) _ _ (v ∷ ts) last (var-no-semi v w) (on-hit (word (codes "var")) _ _ v v ts last (word-hit (codes "var") v w)
+    on-miss (mark (codes ";")) _ _ (v ∷ ts) last (var-no-semi v w) (on-hit (word (codes "var")) _ _ v v ts last (word-hit (codes "var") v w)
     (bind-reads _ (y v.end) (λ z m _. if-false (next_word (codes "in")) (fails (Outside 3)) (after_first_declared (R f r) z) (e ∷ us) m (mark-no-word (codes "in") (codes ";") e p)
-      (on-miss (mark (codes ",")) _ _ (e ∷ us) m (mark-other (codes ",") (codes ";") e refl p) (bind-reads _ (take-mark (codes ";") e us m p) (λ u j _. reads_ tt)))))))
+    (on-miss (mark (codes ",")) _ _ (e ∷ us) m (mark-other (codes ",") (codes ";") e refl p) (bind-reads _ (take-mark (codes ";") e us m p) (λ u j _. reads_ tt)))))))
 
 first-var-more : (v : Token5) (ts : List Token5) (c : Token5) (cs : List Token5) (e : Token5) (us : List Token5) → IsWord (codes "var") v → DeclaredClaim true ts (c ∷ cs) → IsMark (codes ",") c → DeclaredItems true cs (e ∷ us) → IsMark (codes ";") e → FirstRead (v ∷ ts) us
 unfolding for_first_part for_var after_first_declared
 first-var-more v ts c cs e us w x k ds p = both (open-declared true ts (c ∷ cs) (x (closes-comma true cs c k)))
-  (begin (list-reads true (λ f r. (R f r).declared true) (λ zs ws h. open-declared true zs ws h) ds (semicolon-one e us p) (mark-other (codes ",") (codes ";") e refl p))
+    (begin (list-reads true (λ f r. (R f r).declared true) (λ zs ws h. open-declared true zs ws h) ds (semicolon-one e us p) (mark-other (codes ",") (codes ";") e refl p))
     (λ n f r y. at-fuel (λ m. declared_list ((R f r).declared true) m) Any cs (e ∷ us) f r y)) (λ n f r y y' last.
-  on-miss (mark (codes ";")) _ _ (v ∷ ts) last (var-no-semi v w) (on-hit (word (codes "var")) _ _ v v ts last (word-hit (codes "var") v w)
+    on-miss (mark (codes ";")) _ _ (v ∷ ts) last (var-no-semi v w) (on-hit (word (codes "var")) _ _ v v ts last (word-hit (codes "var") v w)
     (bind-reads _ (y v.end) (λ z m _. if-false (next_word (codes "in")) (fails (Outside 3)) (after_first_declared (R f r) z) (c ∷ cs) m (mark-no-word (codes "in") (codes ",") c k)
-      (on-hit (mark (codes ",")) _ _ c c cs m (mark-hit (codes ",") c k) (bind-reads _ (y' c.end) (λ z' m' _. bind-reads _ (take-mark (codes ";") e us m' p) (λ u j _. reads_ tt))))))))
+    (on-hit (mark (codes ",")) _ _ c c cs m (mark-hit (codes ",") c k) (bind-reads _ (y' c.end) (λ z' m' _. bind-reads _ (take-mark (codes ";") e us m' p) (λ u j _. reads_ tt))))))))
 
 first-items : (v : Token5) (ts bs : List Token5) (e : Token5) (us : List Token5) → IsWord (codes "var") v → DeclaredItems true ts bs → bs ≡ e ∷ us → IsMark (codes ";") e → FirstRead (v ∷ ts) us
 first-items v ts bs e us w (item_last x) q p = first-var-last v ts e us w (subst (λ zs. DeclaredClaim true ts zs) q x) p
@@ -112,7 +97,7 @@ first-no-var ts (begins_first_at {t = t} h) = word-miss (codes "var") t (first-n
 pub first-expression : (ts : List Token5) (e : Token5) (us : List Token5) → Claim true 0 ts (e ∷ us) → IsMark (codes ";") e → FirstRead ts us
 unfolding for_first_part for_expression operand_marks prefix_marks
 first-expression ts e us x p = then_ (open-sequence true ts (e ∷ us) x (closes-semicolon true us e p)) (λ n f r y last.
-  on-miss (mark (codes ";")) _ _ ts last (first-misses (codes ";") ts refl refl x.first) (on-miss (word (codes "var")) _ _ ts last (first-no-var ts x.first)
+    on-miss (mark (codes ";")) _ _ ts last (first-misses (codes ";") ts refl refl x.first) (on-miss (word (codes "var")) _ _ ts last (first-no-var ts x.first)
     (bind-reads _ (y last) (λ z m _. if-false (λ u. is_left z.shape && is_word (codes "in") u.kind) (fails (Outside 3)) (◌>>=◌ (take_as (mark (codes ";"))) (λ u. returns (for_first.FirstExpression z.value))) (e ∷ us) m (and-false (is_left z.shape) (is_word (codes "in") e.kind) (mark-no-word (codes "in") (codes ";") e p)) (bind-reads _ (take-mark (codes ";") e us m p) (λ u j _. reads_ tt))))))
 
 pub data OptionalClaim : List Token5 → List Token5 → Type 0 where
@@ -123,14 +108,14 @@ optional-reads : (p : List ℕ) (ts vs : List Token5) (t : Token5) (us : List To
 unfolding optional
 optional-reads p ts vs t us a b absent_claim e q c = subst (λ zs. Eventually (λ n f r. Reads (optional (R f r) p) Any zs us)) (sym e) (always (λ n f r last. on-hit (mark p) _ _ t t us last (mark-hit p t q) (reads_ tt)))
 optional-reads p ts vs t us a b (present_claim x) e q c = then_ (open-sequence false ts (t ∷ us) (subst (λ zs. Claim false 0 ts zs) e x) c) (λ n f r y last.
-  on-miss (mark p) _ _ ts last (first-misses p ts a b x.first) (bind-reads _ (y last) (λ z m _. bind-reads _ (take-mark p t us m q) (λ u j _. reads_ tt))))
+    on-miss (mark p) _ _ ts last (first-misses p ts a b x.first) (bind-reads _ (y last) (λ z m _. bind-reads _ (take-mark p t us m q) (λ u j _. reads_ tt))))
 
 pub for-reads : (inside : Bool) (o : Token5) (ts us : List Token5) (e : Token5) (vs : List Token5) (c : Token5) (ws xs : List Token5) → IsMark (codes "(") o → FirstRead ts us → OptionalClaim us (e ∷ vs) → IsMark (codes ";") e → OptionalClaim vs (c ∷ ws) → IsMark (codes ")") c → StatClaim inside false ws xs → Quiet xs
     → AfterWord (λ i at. for_statement i inside at) (o ∷ ts) xs
 unfolding for_statement for_header operand_marks prefix_marks
 for-reads inside o ts us e vs c ws xs p h test q update s b k = both (pair opened (pair h (pair (optional-reads (codes ";") us (e ∷ vs) e vs refl refl test refl q (closes-semicolon false vs e q)) (optional-reads (codes ")") vs (c ∷ ws) c ws refl refl update refl s (closes-close false ws c s)))))
-  (open-statement inside false ws xs b k) (λ n f r x y at last.
-  bind-reads {P = Any} _ (group-hit (R f r) _ _ _ o ts last (is-mark-true (codes "(") o p) x.0 (bind-reads _ (x.1.0 o.end) (λ z m _. bind-reads _ (x.1.1.0 m) (λ z' m' _. bind-reads _ (x.1.1.1 m') (λ z'' m'' _. reads_ tt))))) (λ z m _. bind-reads _ (y m) (λ w j _. reads_ tt)))
+    (open-statement inside false ws xs b k) (λ n f r x y at last.
+    bind-reads {P = Any} _ (group-hit (R f r) _ _ _ o ts last (is-mark-true (codes "(") o p) x.0 (bind-reads _ (x.1.0 o.end) (λ z m _. bind-reads _ (x.1.1.0 m) (λ z' m' _. bind-reads _ (x.1.1.1 m') (λ z'' m'' _. reads_ tt))))) (λ z m _. bind-reads _ (y m) (λ w j _. reads_ tt)))
 
 -- ## Jumps
 
@@ -155,7 +140,7 @@ label-token t name a e h = label-if-false t.after_line (free_name t) a ∙ at-ki
 pub label-reads : {mode : Mode5} {ts us : List Token5} {x : Identifier5} → IsOnLine ts → IsIdentifier mode ts x us → LabelRead ts us
 unfolding optional_label
 label-reads {us = us} {x = x} a d last = subst (λ vs. ReadsOf Any us (optional_label (record { tokens = vs; last = last }))) (sym d.first)
-  (on-hit label_at _ _ d.token x.name us last (label-token d.token x.name (subst (λ vs. IsOnLine vs) d.first a) d.word d.free) (reads_ tt))
+    (on-hit label_at _ _ d.token x.name us last (label-token d.token x.name (subst (λ vs. IsOnLine vs) d.first a) d.word d.free) (reads_ tt))
 
 pub continue-reads : (ts : List Token5) (e : Token5) (us : List Token5) → LabelRead ts (e ∷ us) → IsEnd e → AfterWord (λ i at. continue_statement i at) ts us
 unfolding continue_statement
@@ -191,9 +176,9 @@ pub data ReturnedClaim : List Token5 → List Token5 → Type 0 where
 returned-reads : (ts vs : List Token5) (e : Token5) (us : List Token5) → ReturnedClaim ts vs → vs ≡ e ∷ us → IsEnd e → Eventually (λ n f r. Reads (returned (R f r)) Any ts (e ∷ us))
 unfolding returned
 returned-reads ts vs e us nothing_returned q h = subst (λ zs. Eventually (λ n f r. Reads (returned (R f r)) Any zs (e ∷ us))) (sym q)
-  (always (λ n f r last. if-false goes_on _ _ (e ∷ us) last (goes-not e.after_line (ends e.kind) (is_mark (codes "}") e.kind) h) (reads_ tt)))
+    (always (λ n f r last. if-false goes_on _ _ (e ∷ us) last (goes-not e.after_line (ends e.kind) (is_mark (codes "}") e.kind) h) (reads_ tt)))
 returned-reads ts vs e us (value_returned_ a x) q h = then_ ((subst (λ zs. Claim false 0 ts zs) q x).levels 0 sequence_level (omega arith) (closes-end false us e h)) (λ n f r y last.
-  if-true goes_on _ _ ts last (goes-first ts a x.first) (bind-reads _ (y last) (λ z m _. reads_ tt)))
+    if-true goes_on _ _ ts last (goes-first ts a x.first) (bind-reads _ (y last) (λ z m _. reads_ tt)))
 
 pub return-reads : (ts : List Token5) (e : Token5) (us : List Token5) → ReturnedClaim ts (e ∷ us) → IsEnd e → AfterWord (λ i at. return_statement i at) ts us
 unfolding return_statement
@@ -206,7 +191,7 @@ no-line (t ∷ ts) a = a
 pub throw-reads : (ts : List Token5) (e : Token5) (us : List Token5) → IsOnLine ts → Claim false 0 ts (e ∷ us) → IsEnd e → AfterWord (λ i at. throw_statement i at) ts us
 unfolding throw_statement
 throw-reads ts e us a x h = then_ (x.levels 0 sequence_level (omega arith) (closes-end false us e h)) (λ n f r y at last. if-false _ _ _ ts last (no-line ts a)
-  (bind-reads _ (y last) (λ z m _. bind-reads _ (semicolon-reads (R f r) e us m h) (λ u j _. reads_ tt))))
+    (bind-reads _ (y last) (λ z m _. bind-reads _ (semicolon-reads (R f r) e us m h) (λ u j _. reads_ tt))))
 
 pub debugger-reads : (e : Token5) (us : List Token5) → IsEnd e → AfterWord (λ i at. debugger_statement i at) (e ∷ us) us
 unfolding debugger_statement
@@ -249,15 +234,15 @@ cases-none inside may c us p = turn (always {P = λ n f r. Unit {0}} (λ n f r. 
 pub case-reads : (inside may : Bool) (w : Token5) (ts : List Token5) (c : Token5) (us vs xs : List Token5) → IsWord (codes "case") w → Claim false 0 ts (c ∷ us) → IsMark (codes ":") c → InCaseRead inside us vs → next_is ends_case vs ≡ true → CasesRead inside may vs xs → CasesRead inside may (w ∷ ts) xs
 unfolding cases case_clause
 case-reads inside may w ts c us vs xs u x p h e k = turn (pair (pair (open-sequence false ts (c ∷ us) x (closes-colon false us c p)) (begin {Q = λ n f r. Reads (in_case (R f r) inside (R f r).fuel) Any us vs} (h e) (λ n f r y. at-fuel (λ m. in_case (R f r) inside m) Any us vs f r y))) k) (λ n f r y last.
-  on-miss (mark (codes "}")) _ _ (w ∷ ts) last (mark-miss (codes "}") w (subst (λ j. is_mark (codes "}") j ≡ false) (sym u) refl)) (on-hit (word (codes "case")) _ _ w w ts last (word-hit (codes "case") w u)
+    on-miss (mark (codes "}")) _ _ (w ∷ ts) last (mark-miss (codes "}") w (subst (λ j. is_mark (codes "}") j ≡ false) (sym u) refl)) (on-hit (word (codes "case")) _ _ w w ts last (word-hit (codes "case") w u)
     (bind-reads {P = Any} _ (bind-reads _ (y.0.0 w.end) (λ z m _. bind-reads _ (take-mark (codes ":") c us m p) (λ z' m' _. bind-reads _ (y.0.1 m') (λ z'' m'' _. reads_ tt)))) (λ z m _. bind-reads _ (y.1 m) (λ z' m' _. reads_ tt)))))
 
 pub default-reads : (inside : Bool) (w c : Token5) (us vs xs : List Token5) → IsWord (codes "default") w → IsMark (codes ":") c → InCaseRead inside us vs → next_is ends_case vs ≡ true → CasesRead inside false vs xs → CasesRead inside true (w ∷ c ∷ us) xs
 unfolding cases default_clause
 default-reads inside w c us vs xs u p h e k = turn (pair (begin {Q = λ n f r. Reads (in_case (R f r) inside (R f r).fuel) Any us vs} (h e) (λ n f r y. at-fuel (λ m. in_case (R f r) inside m) Any us vs f r y)) k) (λ n f r y last.
-  on-miss (mark (codes "}")) _ _ (w ∷ c ∷ us) last (mark-miss (codes "}") w (subst (λ j. is_mark (codes "}") j ≡ false) (sym u) refl)) (on-miss (word (codes "case")) _ _ (w ∷ c ∷ us) last (word-miss (codes "case") w (subst (λ j. is_word (codes "case") j ≡ false) (sym u) refl))
+    on-miss (mark (codes "}")) _ _ (w ∷ c ∷ us) last (mark-miss (codes "}") w (subst (λ j. is_mark (codes "}") j ≡ false) (sym u) refl)) (on-miss (word (codes "case")) _ _ (w ∷ c ∷ us) last (word-miss (codes "case") w (subst (λ j. is_word (codes "case") j ≡ false) (sym u) refl))
     (on-hit (word (codes "default")) _ _ w w (c ∷ us) last (word-hit (codes "default") w u)
-      (bind-reads {P = Any} _ (bind-reads _ (take-mark (codes ":") c us w.end p) (λ z' m' _. bind-reads _ (y.0 m') (λ z'' m'' _. reads_ tt))) (λ z m _. bind-reads _ (y.1 m) (λ z' m' _. reads_ tt))))))
+    (bind-reads {P = Any} _ (bind-reads _ (take-mark (codes ":") c us w.end p) (λ z' m' _. bind-reads _ (y.0 m') (λ z'' m'' _. reads_ tt))) (λ z m _. bind-reads _ (y.1 m) (λ z' m' _. reads_ tt))))))
 
 pub cases-begin : {mode : Mode5} {inside may : Bool} {ts us : List Token5} {xs : _} → AreCases mode inside may ts xs us → next_is ends_case ts ≡ true
 cases-begin (g.no_case {close = t} {ts = ts} p) = at-kind (λ u. next_is ends_case (u ∷ ts) ≡ true) t (Punctuator (codes "}")) p refl
@@ -267,7 +252,7 @@ cases-begin (g.default_clause {t = t} {colon = c} {ts = ts} _ _ _ _ w _ _ _) = a
 pub switch-reads : (inside : Bool) (o : Token5) (ts : List Token5) (c b : Token5) (us vs : List Token5) → IsMark (codes "(") o → Claim false 0 ts (c ∷ b ∷ us) → IsMark (codes ")") c → IsMark (codes "{") b → CasesRead inside true us vs → AfterWord (λ i at. switch_statement i inside at) (o ∷ ts) vs
 unfolding switch_statement
 switch-reads inside o ts c b us vs p x q s k = both (pair opened (paren-reads o ts c (b ∷ us) p x q)) (begin k (λ n f r y. at-fuel (λ m. cases (R f r) inside true m) Any us vs f r y)) (λ n f r y z at last.
-  bind-reads _ (y.1 last) (λ w m _. bind-reads {P = Any} _ (group-hit (R f r) _ _ _ b us m (is-mark-true (codes "{") b s) y.0 (z b.end)) (λ w' m' _. reads_ tt)))
+    bind-reads _ (y.1 last) (λ w m _. bind-reads {P = Any} _ (group-hit (R f r) _ _ _ b us m (is-mark-true (codes "{") b s) y.0 (z b.end)) (λ w' m' _. reads_ tt)))
 
 -- ## Try
 
@@ -282,7 +267,7 @@ catch-claim inside t o ts c us vs x w p d q b = record {
   begins_catch = is-word-true (codes "catch") t w;
   quiet = quiet-kind t (o ∷ ts) (Word (codes "catch")) w refl;
   reads = both opened b.reads (λ n f r a y last. bind-reads _ (take-word (codes "catch") t (o ∷ ts) last w) (λ z m _. bind-reads {P = Any} _ (group-hit (R f r) _ _ _ o ts m (is-mark-true (codes "(") o p) a
-    (bind-reads _ (identifier-reads d o.end) (λ z' m' _. bind-reads _ (take-mark (codes ")") c us m' q) (λ z'' m'' _. reads_ tt)))) (λ z' m' _. bind-reads _ (y m') (λ z'' m'' _. reads_ tt))));
+      (bind-reads _ (identifier-reads d o.end) (λ z' m' _. bind-reads _ (take-mark (codes ")") c us m' q) (λ z'' m'' _. reads_ tt)))) (λ z' m' _. bind-reads _ (y m') (λ z'' m'' _. reads_ tt))));
 }
 
 pub try-catch-reads : (inside : Bool) (ts us vs : List Token5) → BlockClaim inside ts us → CatchClaim inside us vs → Quiet vs → AfterWord (λ i at. try_statement i inside at) ts vs
@@ -292,12 +277,12 @@ try-catch-reads inside ts us vs b c q = both b.reads c.reads (λ n f r x y at la
 pub try-finally-reads : (inside : Bool) (ts : List Token5) (w : Token5) (us vs : List Token5) → BlockClaim inside ts (w ∷ us) → IsWord (codes "finally") w → BlockClaim inside us vs → AfterWord (λ i at. try_statement i inside at) ts vs
 unfolding try_statement only_finally
 try-finally-reads inside ts w us vs b u d = both b.reads d.reads (λ n f r x y at last. bind-reads _ (x last) (λ z m _. if-false (next_word (codes "catch")) (◌>>=◌ (handler (R f r) inside) (λ h. after_handler (R f r) inside at z h)) (only_finally (R f r) inside at z) (w ∷ us) m (subst (λ k. is_word (codes "catch") k ≡ false) (sym u) refl)
-  (bind-reads _ (take-word (codes "finally") w us m u) (λ z' m' _. bind-reads _ (y m') (λ z'' m'' _. reads_ tt)))))
+    (bind-reads _ (take-word (codes "finally") w us m u) (λ z' m' _. bind-reads _ (y m') (λ z'' m'' _. reads_ tt)))))
 
 pub try-both-reads : (inside : Bool) (ts us : List Token5) (w : Token5) (vs xs : List Token5) → BlockClaim inside ts us → CatchClaim inside us (w ∷ vs) → IsWord (codes "finally") w → BlockClaim inside vs xs → AfterWord (λ i at. try_statement i inside at) ts xs
 unfolding try_statement after_handler
 try-both-reads inside ts us w vs xs b c u d = both b.reads (pair c.reads d.reads) (λ n f r x y at last. bind-reads _ (x last) (λ z m _. if-true _ _ _ us m c.begins_catch (bind-reads _ (y.0 m) (λ z' m' _.
-  on-hit (word (codes "finally")) _ _ w w vs m' (word-hit (codes "finally") w u) (bind-reads _ (y.1 w.end) (λ z'' m'' _. reads_ tt))))))
+    on-hit (word (codes "finally")) _ _ w w vs m' (word-hit (codes "finally") w u) (bind-reads _ (y.1 w.end) (λ z'' m'' _. reads_ tt))))))
 
 -- ## Empty statements, expressions and labels
 
@@ -345,25 +330,25 @@ jump-first : (inside top : Bool) (us : List Token5) (i : Inner5) (at : ℕ) (ts 
     → ReadsOf Any us (expression_statement i inside at (record { tokens = ts; last = last })) → ReadsOf Any us (jump_statement i inside top at (record { tokens = ts; last = last }))
 unfolding jump_statement operand_words prefix_words reserved_words
 jump-first inside top us i at ts last h f x =
-  on-miss (word (codes "continue")) _ _ ts last (misses-keyword (codes "continue") ts (refl, refl, refl) h) (on-miss (word (codes "break")) _ _ ts last (misses-keyword (codes "break") ts (refl, refl, refl) h)
-  (on-miss (word (codes "throw")) _ _ ts last (misses-keyword (codes "throw") ts (refl, refl, refl) h) (on-miss (word (codes "debugger")) _ _ ts last (misses-keyword (codes "debugger") ts (refl, refl, refl) h)
-  (choose-either inside _ _ (record { tokens = ts; last = last }) (λ e. on-miss (word (codes "return")) _ _ ts last (misses-keyword (codes "return") ts (refl, refl, refl) h) (plain-first inside top us i at ts last h f x)) (λ e. plain-first inside top us i at ts last h f x)))))
+    on-miss (word (codes "continue")) _ _ ts last (misses-keyword (codes "continue") ts (refl, refl, refl) h) (on-miss (word (codes "break")) _ _ ts last (misses-keyword (codes "break") ts (refl, refl, refl) h)
+    (on-miss (word (codes "throw")) _ _ ts last (misses-keyword (codes "throw") ts (refl, refl, refl) h) (on-miss (word (codes "debugger")) _ _ ts last (misses-keyword (codes "debugger") ts (refl, refl, refl) h)
+    (choose-either inside _ _ (record { tokens = ts; last = last }) (λ e. on-miss (word (codes "return")) _ _ ts last (misses-keyword (codes "return") ts (refl, refl, refl) h) (plain-first inside top us i at ts last h f x)) (λ e. plain-first inside top us i at ts last h f x)))))
 
 compound-first : (inside top : Bool) (us : List Token5) (i : Inner5) (at : ℕ) (ts : List Token5) (last : ℕ) → BeginsFirst ts → next_is (next_word (codes "function")) ts ≡ false
     → ReadsOf Any us (expression_statement i inside at (record { tokens = ts; last = last })) → ReadsOf Any us (compound_statement i inside top at (record { tokens = ts; last = last }))
 unfolding compound_statement operand_words prefix_words reserved_words
 compound-first inside top us i at ts last h f x =
-  on-miss (word (codes "do")) _ _ ts last (misses-keyword (codes "do") ts (refl, refl, refl) h) (on-miss (word (codes "while")) _ _ ts last (misses-keyword (codes "while") ts (refl, refl, refl) h)
-  (on-miss (word (codes "for")) _ _ ts last (misses-keyword (codes "for") ts (refl, refl, refl) h) (on-miss (word (codes "switch")) _ _ ts last (misses-keyword (codes "switch") ts (refl, refl, refl) h)
-  (on-miss (word (codes "try")) _ _ ts last (misses-keyword (codes "try") ts (refl, refl, refl) h) (jump-first inside top us i at ts last h f x)))))
+    on-miss (word (codes "do")) _ _ ts last (misses-keyword (codes "do") ts (refl, refl, refl) h) (on-miss (word (codes "while")) _ _ ts last (misses-keyword (codes "while") ts (refl, refl, refl) h)
+    (on-miss (word (codes "for")) _ _ ts last (misses-keyword (codes "for") ts (refl, refl, refl) h) (on-miss (word (codes "switch")) _ _ ts last (misses-keyword (codes "switch") ts (refl, refl, refl) h)
+    (on-miss (word (codes "try")) _ _ ts last (misses-keyword (codes "try") ts (refl, refl, refl) h) (jump-first inside top us i at ts last h f x)))))
 
 -- a statement that begins with the first token of an expression is read as one
 first-statement : (inside top : Bool) (us : List Token5) (i : Inner5) (ts : List Token5) (last : ℕ) → BeginsFirst ts → next_is (next_mark (codes "{")) ts ≡ false → next_is (next_word (codes "function")) ts ≡ false
     → ReadsOf Any us (expression_statement i inside (begin_of ts) (record { tokens = ts; last = last })) → ReadsOf Any us (statement i inside top (record { tokens = ts; last = last }))
 unfolding statement operand_words prefix_words operand_marks prefix_marks reserved_words
 first-statement inside top us i ts last h brace function x =
-  if-false _ _ _ ts last brace (if-false _ _ _ ts last (no-keyword (codes "if") ts (refl, refl, refl) h) (on-miss (mark (codes ";")) _ _ ts last (first-misses (codes ";") ts refl refl h)
-  (on-miss (word (codes "var")) _ _ ts last (misses-keyword (codes "var") ts (refl, refl, refl) h) (compound-first inside top us i (begin_of ts) ts last h function x))))
+    if-false _ _ _ ts last brace (if-false _ _ _ ts last (no-keyword (codes "if") ts (refl, refl, refl) h) (on-miss (mark (codes ";")) _ _ ts last (first-misses (codes ";") ts refl refl h)
+    (on-miss (word (codes "var")) _ _ ts last (misses-keyword (codes "var") ts (refl, refl, refl) h) (compound-first inside top us i (begin_of ts) ts last h function x))))
 
 end-or-label : (i : Inner5) (inside : Bool) (at : ℕ) (o : Option Identifier5) (x : Expr5) (e : Token5) (us : List Token5) (last : ℕ) → IsEnd e → ReadsOf Any us (label_or_end i inside at o x (record { tokens = e ∷ us; last = last }))
 unfolding expression_end
@@ -384,7 +369,7 @@ expression-claim inside top ts e us b f x h = record {
   first = first-no-case ts x.first;
   quiet = first-no-finally ts x.first;
   reads = λ q. then_ (x.levels 0 sequence_level (omega arith) (closes-end false us e h)) (λ n f' r y last. first-statement inside top us (R f' r) ts last x.first (next-mark-of (codes "{") ts b) (next-word-of (codes "function") ts f)
-    (bind-reads _ (y last) (λ z m _. end-or-label (R f' r) inside (begin_of ts) (label_of z.shape z.value) z.value e us m h)));
+      (bind-reads _ (y last) (λ z m _. end-or-label (R f' r) inside (begin_of ts) (label_of z.shape z.value) z.value e us m h)));
 }
 
 -- an identifier is read as one that may be a label
@@ -401,7 +386,7 @@ chained-labelled x ls span e h = subst (λ l. IsLabelled (chained x l span)) (sy
 label-head : (name : List ℕ) (t : Token5) (ts : List Token5) → IsWord name t → is_identifier name ≡ true → Eventually (λ n f r. (at : ℕ) → Reads (head (R f r) at) IsLabelled (t ∷ ts) ts)
 unfolding head primary reserved_words
 label-head name t ts e h = always (λ n f r at last. on-miss (word (codes "new")) _ _ (t ∷ ts) last (miss (codes "new") refl) (on-miss (word (codes "this")) _ _ (t ∷ ts) last (miss (codes "this") refl)
-  (on-hit free_name _ _ t name ts last (at-kind (λ u. free_name u ≡ Some name) t (Word name) e (ap (λ b. name_if b name) h)) (reads_ (name-labelled _ name)))))
+    (on-hit free_name _ _ t name ts last (at-kind (λ u. free_name u ≡ Some name) t (Word name) e (ap (λ b. name_if b name) h)) (reads_ (name-labelled _ name)))))
   where
     miss : (w : List ℕ) → is_one_of w reserved_words ≡ true → word w t ≡ None
     miss w r = word-miss w t (subst (λ j. is_word w j ≡ false) (sym e) (not-reserved name w h r))
@@ -409,7 +394,7 @@ label-head name t ts e h = always (λ n f r at last. on-miss (word (codes "new")
 label-chain : (name : List ℕ) (t c : Token5) (us : List Token5) → IsWord name t → is_identifier name ≡ true → IsMark (codes ":") c → Eventually (λ n f r. Reads (chain (R f r) true) IsLabelled (t ∷ c ∷ us) (c ∷ us))
 unfolding chain
 label-chain name t c us e h p = both (label-head name t (c ∷ us) e h) (begin (links-none true (c ∷ us) (no (codes ".") refl) (no (codes "[") refl) (λ x. no (codes "(") refl)) (λ n f r k. at-fuel (λ m. links (R f r) true m) (λ ls. ls ≡ []) (c ∷ us) (c ∷ us) f r k))
-  (λ n f r x y last. bind-reads _ (x t.begin last) (λ v m l. bind-reads _ (y m) (λ ls j q. reads_ (chained-labelled v ls _ q l))))
+    (λ n f r x y last. bind-reads _ (x t.begin last) (λ v m l. bind-reads _ (y m) (λ ls j q. reads_ (chained-labelled v ls _ q l))))
   where
     no : (q : List ℕ) → is_mark q (Punctuator (codes ":")) ≡ false → is_mark q c.kind ≡ false
     no q a = subst (λ k. is_mark q k ≡ false) (sym p) a
@@ -417,8 +402,8 @@ label-chain name t c us e h p = both (label-head name t (c ∷ us) e h) (begin (
 label-sequence : (name : List ℕ) (t c : Token5) (us : List Token5) → IsWord name t → is_identifier name ≡ true → IsMark (codes ":") c → Eventually (λ n f r. Reads (sequence (R f r) false) IsLabelled (t ∷ c ∷ us) (c ∷ us))
 unfolding binary_from
 label-sequence name t c us e h p =
-  let k = closes-colon false us c p in
-  from-binary 0 13 false IsLabelled (t ∷ c ∷ us) (c ∷ us) refl (omega arith) (chain-unary false IsLabelled (t ∷ c ∷ us) (c ∷ us) (label-chain name t c us e h p) (begins_operand_at (subst (λ j. Operand j) (sym e) (operand_name h))) (k.after (omega arith))) 0 sequence_level (omega arith) k
+    let k = closes-colon false us c p in
+    from-binary 0 13 false IsLabelled (t ∷ c ∷ us) (c ∷ us) refl (omega arith) (chain-unary false IsLabelled (t ∷ c ∷ us) (c ∷ us) (label-chain name t c us e h p) (begins_operand_at (subst (λ j. Operand j) (sym e) (operand_name h))) (k.after (omega arith))) 0 sequence_level (omega arith) k
 
 label-then : (i : Inner5) (inside : Bool) (at : ℕ) (o : Option Identifier5) (label : Identifier5) (x : Expr5) (c : Token5) (us vs : List Token5) (last : ℕ) → o ≡ Some label → IsMark (codes ":") c → Reads (i.statement inside false) Any us vs → ReadsOf Any vs (label_or_end i inside at o x (record { tokens = c ∷ us; last = last }))
 unfolding labelled
@@ -431,8 +416,8 @@ labelled-claim inside top ts c us vs x d p s = subst (λ zs. StatClaim inside to
   first = first-no-case (d.token ∷ c ∷ us) begins_;
   quiet = first-no-finally (d.token ∷ c ∷ us) begins_;
   reads = λ q. both (label-sequence x.name d.token c us d.word d.free p) (open-statement inside false us vs s q) (λ n f r y z last. first-statement inside top vs (R f r) (d.token ∷ c ∷ us) last begins_
-    (subst (λ k. is_mark (codes "{") k ≡ false) (sym d.word) refl) (subst (λ k. is_word (codes "function") k ≡ false) (sym d.word) (not-reserved x.name (codes "function") d.free refl))
-    (bind-reads _ (y last) (λ v m l. label-then (R f r) inside d.token.begin (label_of v.shape v.value) l.0 v.value c us vs m l.1 p z)));
+      (subst (λ k. is_mark (codes "{") k ≡ false) (sym d.word) refl) (subst (λ k. is_word (codes "function") k ≡ false) (sym d.word) (not-reserved x.name (codes "function") d.free refl))
+      (bind-reads _ (y last) (λ v m l. label-then (R f r) inside d.token.begin (label_of v.shape v.value) l.0 v.value c us vs m l.1 p z)));
 })
   where
     begins_ : BeginsFirst (d.token ∷ c ∷ us)

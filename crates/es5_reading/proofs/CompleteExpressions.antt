@@ -1,6 +1,6 @@
 -- Each production of expressions gives what is claimed of its level, if its parts do.
-use Rattle.std.proofs.Common.{◌≡◌, ◌⊎◌, inl, inr, ℕ, zero, suc, ◌+◌, ◌≤◌, Bool, true, false, ◌&&◌, List, [], ◌∷◌, Option, Some, None, refl, sym, ap, subst, ◌∙◌, arith}
-use Rattle.std.proofs.lemmas.Bool.{false≢true, true≢false}
+use Rattle.std.proofs.Common.{◌≡◌, ℕ, suc, ◌+◌, ◌≤◌, Bool, true, false, ◌&&◌, List, [], ◌∷◌, Option, Some, None, refl, sym, ap, subst, ◌∙◌, arith}
+use Rattle.std.proofs.lemmas.Bool.{true≢false}
 use Rattle.std.specs.Prelude.{codes}
 use Rattle.es_text.specs.declared.Span.{Span}
 use Rattle.es5_ast.specs.declared.operators.UnaryOperator5.{UnaryOperator5}
@@ -13,22 +13,17 @@ use Rattle.es5_ast.specs.declared.operators.Key5.{Key5}
 use Rattle.es5_ast.specs.declared.operators.Key5.TheVariants as keys
 use Rattle.es5_ast.specs.declared.tree.Identifier5.{Identifier5}
 use Rattle.es5_ast.specs.declared.tree.PlacedKey5.{PlacedKey5}
-use Rattle.es5_ast.specs.declared.tree.Expr5.{Expr5}
 use Rattle.es5_ast.specs.declared.tree.Link5.{Link5}
-use Rattle.es5_ast.specs.Lexical.{Token5, Kind5, Word, Integer, Text, Punctuator, Inserted, is_one_of, reserved_words}
+use Rattle.es5_ast.specs.Lexical.{Token5, Kind5, Word, Integer, Text, Punctuator, is_one_of, reserved_words}
 use Rattle.es5_ast.specs.Grammar as g
 use Rattle.es5_ast.specs.Grammar.{Mode5, IsIdentifier, IsKey, AreParameters, IsMark, IsWord, is_mark, is_word, is_identifier, is_in, is_before, unary_kind, update_kind, assign_kind, binary_kind, binary_level, literal_kind, key_kind, begin_of}
-use Rattle.es5_reading.specs.Parser.{Input5, Outcome5, Took, Fault, Parser, after, ◌>>=◌, on, choose, next_is, if_next, returns, kept_if, take_as, mark, word, next_mark, from, made, Read5, is_left, Inner5, on_group, group}
-use Rattle.es5_reading.specs.Expressions.{name_if, any_name, free_name, literal_at, key_at, accessor_at, accessor_name, identifier, key, more_parameters, parameters, statements, body, rest_of_function, function_expression, no_parameter, one_parameter, accessor_parameters, accessor_function, accessor, value_of_key, plain_property, after_accessor_word, one_property, properties, elements, more_arguments, arguments, left, grouped, bracketed, primary, after_callee, head, member_link, index_link, call_link, links, chained, chain, postfix, prefixed, updated, unary, operands, operated, binary_from, branches, conditional, assigned, assignment, parts, more_parts, sequence, unary_at, before_at, after_at, assign_at, binary_at}
-use Rattle.es5_reading.specs.Statements.{label_of}
-use Rattle.es5_reading.specs.Programs.{readers}
+use Rattle.es5_reading.specs.Parser.{◌>>=◌, next_is, returns, mark, word, next_mark, Read5, is_left, Inner5, on_group}
+use Rattle.es5_reading.specs.Expressions.{name_if, any_name, free_name, accessor_at, accessor_name, key, function_expression, accessor, value_of_key, plain_property, after_accessor_word, one_property, properties, elements, left, grouped, bracketed, primary, after_callee, head, member_link, index_link, call_link, links, chained, chain, postfix, prefixed, updated, unary, operands, binary_from, branches, conditional, assigned, assignment, parts, more_parts, sequence, unary_at, before_at, after_at, assign_at, binary_at}
 use Rattle.es5_reading.proofs.Posts.{Misses}
-use Rattle.es5_reading.proofs.Meanings.{bytes_eq-refl}
-use Rattle.es5_reading.proofs.Reading.{ReadsOf, reads_, Reads, Any, reads-as, reads-weak, bind-reads, on-hit, on-miss, if-true, if-false, choose-either, group-hit, group-miss, Eventually, always, then_, both, pair, deeper, turn, begin}
-use Rattle.es5_reading.proofs.CompleteTokens.{at-kind, is-false, not-reserved, operand_words, operand_marks, prefix_words, prefix_marks, Operand, operand_name, operand_word, operand_integer, operand_text, operand_mark, First, first_operand, BeginsOperand, begins_operand_at, BeginsFirst, begins_first_at, begins-first, first-no-word, first-no-mark, Closes, closes-up, closes-any, mark-miss, word-miss, assign-hit, unary-hit, unary-first, before-hit, before-first, after-hit, update-stops, closes-assign, closes-operator, closes-question, closes-colon, closes-close, closes-square, closes-brace, closes-comma, binary-hit, level-high}
-use Rattle.es5_reading.proofs.CompleteLevels.{R, at-fuel, Left, mark-missed, links-none, HeadReads, ChainReads, head-chain, chain-unary, BinaryReads, Level, sequence_level, assignment_level, binary_level_, LevelReads, from-binary, from-conditional, from-assignment, from-sequence, Claim, low-level, level-thirteen, left-conditional, claim-primary, claim-left, claim-other}
-
-use Rattle.es5_reading.proofs.CompleteParts.{is-mark-true, is-word-true, mark-hit, word-hit, mark-other, take-hit, take-mark, first-misses, identifier-reads, key-reads, opened, open-assignment, open-sequence, open-unary, open-callee, ElementsRead, ArgumentsClaim, no_arguments_claim, arguments_claim, arguments-reads, PropertyRead, PropertiesRead, PropertyClaim, AccessorRead, RestRead, FunctionClaim, anonymous_claim, named_claim}
+use Rattle.es5_reading.proofs.Reading.{ReadsOf, reads_, Reads, Any, reads-as, reads-weak, bind-reads, on-hit, on-miss, if-true, if-false, choose-either, group-hit, group-miss, Eventually, always, then_, both, pair, turn, begin}
+use Rattle.es5_reading.proofs.CompleteTokens.{at-kind, not-reserved, operand_words, operand_marks, Operand, operand_name, operand_word, operand_integer, operand_text, operand_mark, First, BeginsOperand, begins_operand_at, BeginsFirst, begins_first_at, Closes, closes-up, closes-any, mark-miss, word-miss, assign-hit, unary-hit, unary-first, before-hit, before-first, after-hit, update-stops, closes-assign, closes-operator, closes-question, closes-colon, closes-close, closes-square, closes-comma, binary-hit, level-high}
+use Rattle.es5_reading.proofs.CompleteLevels.{R, at-fuel, Left, links-none, HeadReads, ChainReads, head-chain, assignment_level, binary_level_, from-binary, from-conditional, from-assignment, from-sequence, Claim, low-level, level-thirteen, left-conditional, claim-primary, claim-left, claim-other}
+use Rattle.es5_reading.proofs.CompleteParts.{is-mark-true, mark-hit, mark-other, take-hit, take-mark, key-reads, opened, open-assignment, open-sequence, open-unary, open-callee, ElementsRead, ArgumentsClaim, arguments-reads, PropertiesRead, PropertyClaim, AccessorRead, FunctionClaim, anonymous_claim, named_claim}
 use Rattle.es5_ast.specs.declared.tree.Expr5.TheVariants as expr
 use Rattle.es5_ast.specs.Grammar.{AreOperands, chain_level}
 use Rattle.es5_ast.specs.declared.operators.BinaryOperator5.TheVariants as binary
@@ -69,7 +64,7 @@ unfolding one_property after_accessor_word accessor
 accessor-claim setter t ts us vs k w d h = record {
   first = mark-miss (codes "}") t (subst (λ j. is_mark (codes "}") j ≡ false) (sym w) refl);
   reads = then_ h (λ n f r y last. on-hit accessor_at _ _ t setter ts last (accessor-hit setter t w) (on-miss (mark (codes ":")) _ _ ts t.end (key-misses (codes ":") d)
-    (bind-reads _ (key-reads d t.end) (λ j m q. bind-reads _ (y m) (λ z o q'. reads_ tt)))));
+      (bind-reads _ (key-reads d t.end) (λ j m q. bind-reads _ (y m) (λ z o q'. reads_ tt)))));
 }
 
 -- ## Primary expressions
@@ -77,7 +72,7 @@ accessor-claim setter t ts us vs k w d h = record {
 pub this-claim : (k : Bool) (t : Token5) (ts : List Token5) → IsWord (codes "this") t → Claim k 18 (t ∷ ts) ts
 unfolding head primary operand_words
 this-claim k t ts e = claim-primary k (t ∷ ts) ts (begins_operand_at (subst (λ j. Operand j) (sym e) (operand_word refl)))
-  (always (λ n f r at last. at-kind (λ u. ReadsOf Left ts (head (R f r) at (record { tokens = u ∷ ts; last = last }))) t (Word (codes "this")) e (reads_ refl)))
+    (always (λ n f r at last. at-kind (λ u. ReadsOf Left ts (head (R f r) at (record { tokens = u ∷ ts; last = last }))) t (Word (codes "this")) e (reads_ refl)))
 
 is-free : (name : List ℕ) (t : Token5) → IsWord name t → is_identifier name ≡ true → free_name t ≡ Some name
 is-free name t e h = at-kind (λ u. free_name u ≡ Some name) t (Word name) e (ap (λ b. name_if b name) h)
@@ -85,7 +80,7 @@ is-free name t e h = at-kind (λ u. free_name u ≡ Some name) t (Word name) e (
 pub name-claim : (k : Bool) (name : List ℕ) (t : Token5) (ts : List Token5) → IsWord name t → is_identifier name ≡ true → Claim k 18 (t ∷ ts) ts
 unfolding head primary reserved_words
 name-claim k name t ts e h = claim-primary k (t ∷ ts) ts (begins_operand_at (subst (λ j. Operand j) (sym e) (operand_name h)))
-  (always (λ n f r at last. on-miss (word (codes "new")) _ _ (t ∷ ts) last (miss (codes "new") refl) (on-miss (word (codes "this")) _ _ (t ∷ ts) last (miss (codes "this") refl) (on-hit free_name _ _ t name ts last (is-free name t e h) (reads_ refl)))))
+    (always (λ n f r at last. on-miss (word (codes "new")) _ _ (t ∷ ts) last (miss (codes "new") refl) (on-miss (word (codes "this")) _ _ (t ∷ ts) last (miss (codes "this") refl) (on-hit free_name _ _ t name ts last (is-free name t e h) (reads_ refl)))))
   where
     miss : (w : List ℕ) → is_one_of w reserved_words ≡ true → word w t ≡ None
     miss w r = word-miss w t (subst (λ j. is_word w j ≡ false) (sym e) (not-reserved name w h r))
@@ -127,19 +122,19 @@ mark-operand p t e h = subst (λ j. Operand j) (sym e) (operand_mark h)
 pub array-claim : (k : Bool) (t : Token5) (ts us : List Token5) → IsMark (codes "[") t → ElementsRead ts us → Claim k 18 (t ∷ ts) us
 unfolding bracketed operand_marks
 array-claim k t ts us e h = claim-primary k (t ∷ ts) us (begins_operand_at (mark-operand (codes "[") t e refl))
-  (both opened (begin h (λ n f r x. at-fuel (λ m. elements (R f r) m) Any ts us f r x)) (λ n f r o x at last. reads-as (square-head (R f r) at t ts last e)
+    (both opened (begin h (λ n f r x. at-fuel (λ m. elements (R f r) m) Any ts us f r x)) (λ n f r o x at last. reads-as (square-head (R f r) at t ts last e)
     (group-hit (R f r) _ _ _ t ts last (is-mark-true (codes "[") t e) o (bind-reads _ (x t.end) (λ y m q. reads_ refl)))))
 
 pub object-claim : (k : Bool) (t : Token5) (ts us : List Token5) → IsMark (codes "{") t → PropertiesRead ts us → Claim k 18 (t ∷ ts) us
 unfolding bracketed operand_marks
 object-claim k t ts us e h = claim-primary k (t ∷ ts) us (begins_operand_at (mark-operand (codes "{") t e refl))
-  (both opened (begin h (λ n f r x. at-fuel (λ m. properties (R f r) m) Any ts us f r x)) (λ n f r o x at last. reads-as (brace-head (R f r) at t ts last e)
+    (both opened (begin h (λ n f r x. at-fuel (λ m. properties (R f r) m) Any ts us f r x)) (λ n f r o x at last. reads-as (brace-head (R f r) at t ts last e)
     (group-miss (R f r) _ _ _ (t ∷ ts) last (subst (λ j. is_mark (codes "[") j ≡ false) (sym e) refl) (group-hit (R f r) _ _ _ t ts last (is-mark-true (codes "{") t e) o (bind-reads _ (x t.end) (λ y m q. reads_ refl))))))
 
 pub group-claim : (k : Bool) (t : Token5) (ts : List Token5) (c : Token5) (us : List Token5) → IsMark (codes "(") t → Claim false 0 ts (c ∷ us) → IsMark (codes ")") c → Claim k 18 (t ∷ ts) us
 unfolding grouped operand_marks
 group-claim k t ts c us e x p = claim-primary k (t ∷ ts) us (begins_operand_at (mark-operand (codes "(") t e refl))
-  (both opened (open-sequence false ts (c ∷ us) x (closes-close false us c p)) (λ n f r o y at last. reads-as (paren-head (R f r) at t ts last e)
+    (both opened (open-sequence false ts (c ∷ us) x (closes-close false us c p)) (λ n f r o y at last. reads-as (paren-head (R f r) at t ts last e)
     (group-hit (R f r) _ _ _ t ts last (is-mark-true (codes "(") t e) o (bind-reads _ (y t.end) (λ z m q. bind-reads _ (take-mark (codes ")") c us m p) (λ w j q'. reads_ refl))))))
 
 function-head : (i : Inner5) (at : ℕ) (t : Token5) (ts : List Token5) (last : ℕ) → IsWord (codes "function") t → head i at (record { tokens = t ∷ ts; last = last }) ≡ ◌>>=◌ (function_expression i at) (λ f. returns (left (expr.Function f))) (record { tokens = ts; last = t.end })
@@ -149,9 +144,9 @@ function-head i at t ts last e = at-kind (λ u. head i at (record { tokens = u �
 pub function-claim : (k : Bool) {ts us : List Token5} {name : Option Identifier5} → FunctionClaim ts name us → Claim k 18 ts us
 unfolding function_expression operand_words
 function-claim k (anonymous_claim {t = t} {ts = ts} {us = us} w p h) = claim-primary k (t ∷ ts) us (begins_operand_at (subst (λ j. Operand j) (sym w) (operand_word refl)))
-  (then_ h (λ n f r x at last. reads-as (function-head (R f r) at t ts last w) (bind-reads _ (if-true _ _ _ ts t.end p (x at None t.end)) (λ y m q. reads_ refl))))
+    (then_ h (λ n f r x at last. reads-as (function-head (R f r) at t ts last w) (bind-reads _ (if-true _ _ _ ts t.end p (x at None t.end)) (λ y m q. reads_ refl))))
 function-claim k (named_claim {t = t} {ts = ts} {us = us} {vs = vs} w d p h) = claim-primary k (t ∷ ts) vs (begins_operand_at (subst (λ j. Operand j) (sym w) (operand_word refl)))
-  (then_ h (λ n f r x at last. reads-as (function-head (R f r) at t ts last w) (bind-reads _ (if-false _ _ _ ts t.end p (bind-reads _ (d t.end) (λ z j q'. x at (Some z) j))) (λ y m q. reads_ refl))))
+    (then_ h (λ n f r x at last. reads-as (function-head (R f r) at t ts last w) (bind-reads _ (if-false _ _ _ ts t.end p (bind-reads _ (d t.end) (λ z j q'. x at (Some z) j))) (λ y m q. reads_ refl))))
 
 -- ## New
 
@@ -165,7 +160,7 @@ paren-none p t h e = subst (λ j. is_mark p j ≡ false) (sym e) h
 pub new-call-claim : (k : Bool) (t : Token5) (ts : List Token5) (o : Token5) (us vs : List Token5) → IsWord (codes "new") t → Claim false 17 ts (o ∷ us) → IsMark (codes "(") o → ArgumentsClaim us vs → Claim k 18 (t ∷ ts) vs
 unfolding after_callee operand_words
 new-call-claim k t ts o us vs w x p a = claim-primary k (t ∷ ts) vs (begins_operand_at (subst (λ j. Operand j) (sym w) (operand_word refl)))
-  (both (pair opened (open-callee ts (o ∷ us) (x.members (omega arith) (paren-none (codes ".") o refl p) (paren-none (codes "[") o refl p)))) (arguments-reads a) (λ n f r y z at last. reads-as (new-head (R f r) at t ts last w)
+    (both (pair opened (open-callee ts (o ∷ us) (x.members (omega arith) (paren-none (codes ".") o refl p) (paren-none (codes "[") o refl p)))) (arguments-reads a) (λ n f r y z at last. reads-as (new-head (R f r) at t ts last w)
     (bind-reads _ (y.1 t.end) (λ c m q. group-hit (R f r) _ _ _ o us m (is-mark-true (codes "(") o p) y.0 (bind-reads _ (z o.end) (λ xs j q'. reads_ refl))))))
 
 -- what is read after `new`, where no access or call follows
@@ -176,12 +171,12 @@ pub record NewClaim (ts us : List Token5) : Type 0 where
 new-bare-head : (t : Token5) (ts us : List Token5) → IsWord (codes "new") t → NewClaim ts us → next_is (next_mark (codes ".")) us ≡ false → next_is (next_mark (codes "[")) us ≡ false → next_is (next_mark (codes "(")) us ≡ false → HeadReads (t ∷ ts) us
 unfolding after_callee
 new-bare-head t ts us w x d b p = then_ (open-callee ts us (x.reads d b p)) (λ n f r y at last. reads-as (new-head (R f r) at t ts last w)
-  (bind-reads _ (y t.end) (λ c m q. group-miss (R f r) _ _ _ us m p (reads_ refl))))
+    (bind-reads _ (y t.end) (λ c m q. group-miss (R f r) _ _ _ us m p (reads_ refl))))
 
 pub new-bare-claim : (k : Bool) (t : Token5) (ts us : List Token5) → IsWord (codes "new") t → NewClaim ts us → Claim k 15 (t ∷ ts) us
 unfolding operand_words
 new-bare-claim k t ts us w x = claim-left k 15 (t ∷ ts) us (omega arith) (begins_operand_at (subst (λ j. Operand j) (sym w) (operand_word refl)))
-  (λ d b p. head-chain true (t ∷ ts) us (new-bare-head t ts us w x d b p) d b (λ e. p)) (λ l. absurd (no-fifteen l))
+    (λ d b p. head-chain true (t ∷ ts) us (new-bare-head t ts us w x d b p) d b (λ e. p)) (λ l. absurd (no-fifteen l))
   where
     no-fifteen : 17 ≤ 15 → ⊥
     no-fifteen l = omega arith
@@ -212,21 +207,21 @@ no-links us d b c h p = then_ (links-none c us d b p) (λ n f r x last. reads-we
 pub member-links : (has_call : Bool) (name : List ℕ) (dot t : Token5) (ts us : List Token5) → IsMark (codes ".") dot → IsWord name t → LinksClaim has_call ts us → LinksClaim has_call (dot ∷ t ∷ ts) us
 unfolding links member_link
 member-links has_call name dot t ts us p w x d b c h q = turn (x d b c h q) (λ n f r y last. on-hit (mark (codes ".")) _ _ dot dot (t ∷ ts) last (mark-hit (codes ".") dot p)
-  (bind-reads {P = Any} _ (bind-reads _ (take-hit any_name t name ts dot.end (any-name-hit name t w)) (λ z m _. reads_ tt)) (λ z m _. bind-reads _ (y m) (λ v j _. reads_ tt))))
+    (bind-reads {P = Any} _ (bind-reads _ (take-hit any_name t name ts dot.end (any-name-hit name t w)) (λ z m _. reads_ tt)) (λ z m _. bind-reads _ (y m) (λ v j _. reads_ tt))))
 
 pub index-links : (has_call : Bool) (o : Token5) (ts : List Token5) (c : Token5) (us vs : List Token5) → IsMark (codes "[") o → Claim false 0 ts (c ∷ us) → IsMark (codes "]") c → LinksClaim has_call us vs → LinksClaim has_call (o ∷ ts) vs
 unfolding links index_link
 index-links has_call o ts c us vs p e q x d b k h m = turn (pair (pair opened (open-sequence false ts (c ∷ us) e (closes-square false us c q))) (x d b k h m)) (λ n f r y last.
-  on-miss (mark (codes ".")) _ _ (o ∷ ts) last (mark-other (codes ".") (codes "[") o refl p) (group-hit (R f r) _ _ _ o ts last (is-mark-true (codes "[") o p) y.0.0
+    on-miss (mark (codes ".")) _ _ (o ∷ ts) last (mark-other (codes ".") (codes "[") o refl p) (group-hit (R f r) _ _ _ o ts last (is-mark-true (codes "[") o p) y.0.0
     (bind-reads {P = Any} _ (bind-reads _ (y.0.1 o.end) (λ z j _. bind-reads _ (take-mark (codes "]") c us j q) (λ v i _. reads_ tt))) (λ z j _. bind-reads _ (y.1 j) (λ v i _. reads_ tt)))))
 
 pub call-links : (o : Token5) (ts us vs : List Token5) → IsMark (codes "(") o → ArgumentsClaim ts us → (has_call : Bool) → LinksClaim has_call us vs → LinksClaim true (o ∷ ts) vs
 unfolding links call_link
 call-links o ts us vs p a has_call x d b k h m = turn (pair (pair opened (arguments-reads a)) (x d b k (λ e. h refl) m)) (λ n f r y last.
-  on-miss (mark (codes ".")) _ _ (o ∷ ts) last (mark-other (codes ".") (codes "(") o refl p) (group-miss (R f r) _ _ _ (o ∷ ts) last (subst (λ j. is_mark (codes "[") j ≡ false) (sym p) refl)
+    on-miss (mark (codes ".")) _ _ (o ∷ ts) last (mark-other (codes ".") (codes "(") o refl p) (group-miss (R f r) _ _ _ (o ∷ ts) last (subst (λ j. is_mark (codes "[") j ≡ false) (sym p) refl)
     (choose-either k _ _ (record { tokens = o ∷ ts; last = last })
-      (λ e. group-hit (R f r) _ _ _ o ts last (is-mark-true (codes "(") o p) y.0.0 (bind-reads {P = Any} _ (bind-reads _ (y.0.1 o.end) (λ z j _. reads_ tt)) (λ z j _. bind-reads _ (y.1 j) (λ v i _. reads_ tt))))
-      (λ e. absurd (true≢false (sym (h refl) ∙ e))))))
+    (λ e. group-hit (R f r) _ _ _ o ts last (is-mark-true (codes "(") o p) y.0.0 (bind-reads {P = Any} _ (bind-reads _ (y.0.1 o.end) (λ z j _. reads_ tt)) (λ z j _. bind-reads _ (y.1 j) (λ v i _. reads_ tt))))
+    (λ e. absurd (true≢false (sym (h refl) ∙ e))))))
 
 chained-left : (x : Read5) (ls : List Link5) (span : Span) → Left x → Left (chained x ls span)
 chained-left x [] span h = h
@@ -235,7 +230,7 @@ chained-left x (l ∷ ls) span h = refl
 chain-reads : (has_call c : Bool) (ts us vs : List Token5) → HeadReads ts us → Eventually (λ t f r. Reads (links (R f r) c t) Any us vs) → ChainReads c ts vs
 unfolding chain
 chain-reads has_call c ts us vs h x = both h (begin x (λ n f r y. at-fuel (λ m. links (R f r) c m) Any us vs f r y)) (λ n f r y z last.
-  bind-reads _ (y (begin_of ts) last) (λ v m l. bind-reads _ (z m) (λ ls j _. reads_ (chained-left v ls _ l))))
+    bind-reads _ (y (begin_of ts) last) (λ v m l. bind-reads _ (z m) (λ ls j _. reads_ (chained-left v ls _ l))))
 
 chain-low : (c : Bool) → chain_level c ≤ 17
 chain-low true = omega arith
@@ -250,8 +245,8 @@ chain-seventeen false l e = e
 
 pub chain-claim : (k has_call : Bool) (ts us vs : List Token5) → Claim false 18 ts us → LinksClaim has_call us vs → Claim k (chain_level has_call) ts vs
 chain-claim k has_call ts us vs h x = claim-left k (chain_level has_call) ts vs (chain-low has_call) (h.operand (omega arith))
-  (λ d b p. chain-reads has_call true ts us vs (h.heads (omega arith)) (x d b true (λ e. refl) (λ e. p)))
-  (λ l d b. chain-reads has_call false ts us vs (h.heads (omega arith)) (x d b false (chain-seventeen has_call l) (λ e. absurd (cc))))
+    (λ d b p. chain-reads has_call true ts us vs (h.heads (omega arith)) (x d b true (λ e. refl) (λ e. p)))
+    (λ l d b. chain-reads has_call false ts us vs (h.heads (omega arith)) (x d b false (chain-seventeen has_call l) (λ e. absurd (cc))))
 
 -- ## Operators
 
@@ -261,26 +256,26 @@ operator-first t ts k e h = begins_first_at (subst (λ j. First j) (sym e) h)
 pub unary-claim : (k : Bool) (op : UnaryOperator5) (t : Token5) (ts us : List Token5) → t.kind ≡ unary_kind op → Claim false 13 ts us → Claim k 13 (t ∷ ts) us
 unfolding binary_from unary prefixed
 unary-claim k op t ts us e x = claim-other k 13 (t ∷ ts) us (omega arith) (operator-first t ts (unary_kind op) e (unary-first op)) (λ least v l c.
-  from-binary 0 13 k Any (t ∷ ts) us refl (omega arith) (then_ (open-unary ts us x (closes-any k false 13 us (omega arith) (closes-up k least 13 us l c)))
+    from-binary 0 13 k Any (t ∷ ts) us refl (omega arith) (then_ (open-unary ts us x (closes-any k false 13 us (omega arith) (closes-up k least 13 us l c)))
     (λ n f r y last. on-hit unary_at _ _ t op ts last (unary-hit t op e) (bind-reads _ (y t.end) (λ z m q. reads_ tt)))) least v l c)
 
 pub before-claim : (k : Bool) (op : UpdateOperator5) (t : Token5) (ts us : List Token5) → is_before op ≡ true → t.kind ≡ update_kind op → Claim false 13 ts us → Claim k 13 (t ∷ ts) us
 unfolding binary_from unary updated
 before-claim k op t ts us b e x = claim-other k 13 (t ∷ ts) us (omega arith) (operator-first t ts (update_kind op) e (before-first op)) (λ least v l c.
-  from-binary 0 13 k Any (t ∷ ts) us refl (omega arith) (then_ (open-unary ts us x (closes-any k false 13 us (omega arith) (closes-up k least 13 us l c)))
+    from-binary 0 13 k Any (t ∷ ts) us refl (omega arith) (then_ (open-unary ts us x (closes-any k false 13 us (omega arith) (closes-up k least 13 us l c)))
     (λ n f r y last. on-miss unary_at _ _ (t ∷ ts) last (before-hit t op b e).0 (on-hit before_at _ _ t op ts last (before-hit t op b e).1 (bind-reads _ (y t.end) (λ z m q. reads_ tt))))) least v l c)
 
 after-reads : (op : UpdateOperator5) (t : Token5) (ts us : List Token5) → is_before op ≡ false → t.after_line ≡ false → t.kind ≡ update_kind op → BeginsOperand ts → ChainReads true ts (t ∷ us) → Eventually (λ n f r. Reads (unary (R f r)) Any ts us)
 unfolding unary postfix
 after-reads op t ts us b a e (begins_operand_at {t = u} {ts = vs} o) h = then_ h (λ n f r y last.
-  on-miss unary_at _ _ (u ∷ vs) last (operand-no-unary u o) (on-miss before_at _ _ (u ∷ vs) last (operand-no-before u o)
+    on-miss unary_at _ _ (u ∷ vs) last (operand-no-unary u o) (on-miss before_at _ _ (u ∷ vs) last (operand-no-before u o)
     (bind-reads _ (y last) (λ z m q. on-hit after_at _ _ t op us m (after-hit t op b a e) (reads_ tt)))))
 
 pub after-claim : (k : Bool) (op : UpdateOperator5) (ts : List Token5) (t : Token5) (us : List Token5) → is_before op ≡ false → Claim false 15 ts (t ∷ us) → t.kind ≡ update_kind op → t.after_line ≡ false → Claim k 14 ts us
 unfolding binary_from
 after-claim k op ts t us b x e a =
-  let s = update-stops t op e in
-  claim-other k 14 ts us (omega arith) x.first (λ least v l c. from-binary 0 13 k Any ts us refl (omega arith) (after-reads op t ts us b a e (x.operand (omega arith)) (x.chains (omega arith) s.0 s.1 s.2)) least v (level-thirteen v) c)
+    let s = update-stops t op e in
+    claim-other k 14 ts us (omega arith) x.first (λ least v l c. from-binary 0 13 k Any ts us refl (omega arith) (after-reads op t ts us b a e (x.operand (omega arith)) (x.chains (omega arith) s.0 s.1 s.2)) least v (level-thirteen v) c)
 
 -- ## Binary operators
 
@@ -309,7 +304,7 @@ same-level level = omega arith
 pub operand-claim : (k : Bool) (level : ℕ) (op : BinaryOperator5) (t : Token5) (ts us vs : List Token5) → binary_level op ≡ level → (k && is_in op) ≡ false → t.kind ≡ binary_kind op → Claim k (level + 1) ts us → (Closes k level vs → Closes k (level + 1) us) → OperandsClaim k level us vs → OperandsClaim k level (t ∷ ts) vs
 unfolding operands
 operand-claim k level op t ts us vs b n e x f o above s h c = turn (pair (x.levels (level + 1) (binary_level_ above s (more-three level h)) (same-level level) (f c)) (o above s h c)) (λ m f' r y last.
-  on-hit (binary_at k level) _ _ t op ts last (binary-hit k level t op e b n) (bind-reads _ (y.0 t.end) (λ z j q. bind-reads _ (y.1 j) (λ w i q'. reads_ tt))))
+    on-hit (binary_at k level) _ _ t op ts last (binary-hit k level t op e b n) (bind-reads _ (y.0 t.end) (λ z j q. bind-reads _ (y.1 j) (λ w i q'. reads_ tt))))
 
 pub operands-close : {mode : Mode5} {k : Bool} {level : ℕ} {us vs : List Token5} {os : _} → AreOperands mode k level us os vs → Closes k level vs → Closes k (level + 1) us
 operands-close (g.no_operand {no_in = k} {level = level} {ts = ts}) c = closes-up k level (level + 1) ts (next-up level) c
@@ -356,14 +351,15 @@ sum-above level h = (12 - level, at level h)
 pub binary-claim : (k : Bool) (level : ℕ) (ts us vs : List Token5) → Claim k (level + 1) ts us → (Closes k level vs → Closes k (level + 1) us) → OperandsClaim k level us vs → (3 ≤ level) × (level ≤ 12) → Claim k level ts vs
 unfolding binary_from
 binary-claim k level ts us vs x f o h = claim-other k level ts vs (fourteen level h.1) x.first (λ least v l c.
-  let a = sum-above level h.1 in
-  from-binary (suc a.0) level k Any ts vs (plus-one a.0 level a.1) h.0
+    let a = sum-above level h.1 in
+    from-binary (suc a.0) level k Any ts vs (plus-one a.0 level a.1) h.0
     (both (x.levels (level + 1) (binary_level_ a.0 a.1 (more-three level h.0)) (same-level level) (f (closes-up k least level vs l c)))
-      (begin (o a.0 a.1 h.0 (closes-up k least level vs l c)) (λ n f' r y. at-fuel (λ m. operands (binary_from (R f' r) k a.0 (level + 1)) k level m) Any us vs f' r y))
-      (λ n f' r y z last. bind-reads _ (y last) (λ w m q. bind-reads _ (z m) (λ os j q'. reads_ tt)))) least v l c)
+    (begin (o a.0 a.1 h.0 (closes-up k least level vs l c)) (λ n f' r y. at-fuel (λ m. operands (binary_from (R f' r) k a.0 (level + 1)) k level m) Any us vs f' r y))
+    (λ n f' r y z last. bind-reads _ (y last) (λ w m q. bind-reads _ (z m) (λ os j q'. reads_ tt)))) least v l c)
   where
     fourteen : (level : ℕ) → level ≤ 12 → level ≤ 14
     fourteen level h = omega arith
+
     plus-one : (a level : ℕ) → a + (level + 1) ≡ 13 → suc a + level ≡ 13
     plus-one a level e = omega arith
 
@@ -372,20 +368,20 @@ binary-claim k level ts us vs x f o h = claim-other k level ts vs (fourteen leve
 pub conditional-claim : (k : Bool) (ts : List Token5) (q : Token5) (us : List Token5) (c : Token5) (vs ws : List Token5) → Claim k 3 ts (q ∷ us) → IsMark (codes "?") q → Claim false 1 us (c ∷ vs) → IsMark (codes ":") c → Claim k 1 vs ws → Claim k 2 ts ws
 unfolding conditional branches
 conditional-claim k ts q us c vs ws x p y s z = claim-other k 2 ts ws (omega arith) x.first (λ least v l d. from-conditional k Any ts ws
-  (both (x.levels 3 (binary_level_ 10 refl (omega arith)) (omega arith) (closes-question k us q p))
+    (both (x.levels 3 (binary_level_ 10 refl (omega arith)) (omega arith) (closes-question k us q p))
     (pair (open-assignment false us (c ∷ vs) y (closes-up false 0 1 (c ∷ vs) (omega arith) (closes-colon false vs c s))) (open-assignment k vs ws z (closes-up k least 1 ws (low-level v l) d)))
     (λ n f r a b last. bind-reads _ (a last) (λ w m _. on-hit (mark (codes "?")) _ _ q q us m (mark-hit (codes "?") q p)
-      (bind-reads _ (b.0 q.end) (λ w' m' _. bind-reads _ (take-mark (codes ":") c vs m' s) (λ w'' m'' _. bind-reads _ (b.1 m'') (λ z' j _. reads_ tt))))))) least v l d)
+    (bind-reads _ (b.0 q.end) (λ w' m' _. bind-reads _ (take-mark (codes ":") c vs m' s) (λ w'' m'' _. bind-reads _ (b.1 m'') (λ z' j _. reads_ tt))))))) least v l d)
 
 pub assignment-claim : (k : Bool) (op : AssignOperator5) (ts : List Token5) (t : Token5) (us vs : List Token5) → Claim false 15 ts (t ∷ us) → t.kind ≡ assign_kind op → Claim k 1 us vs → Claim k 1 ts vs
 unfolding assignment assigned
 assignment-claim k op ts t us vs x e y =
-  let c = closes-assign k us t op e in
-  claim-other k 1 ts vs (omega arith) x.first (λ least v l d. from-assignment k Any ts vs
+    let c = closes-assign k us t op e in
+    claim-other k 1 ts vs (omega arith) x.first (λ least v l d. from-assignment k Any ts vs
     (both (left-conditional k ts (t ∷ us) (x.operand (omega arith)) (x.chains (omega arith) c.dot c.bracket (c.paren (omega arith))) c) (open-assignment k us vs y (closes-up k least 1 vs l d))
-      (λ n f r a b last. bind-reads _ (a last) (λ w m q. choose-either (is_left w.shape) _ _ (record { tokens = t ∷ us; last = m })
-        (λ h. on-hit assign_at _ _ t op us m (assign-hit t op e) (bind-reads _ (b t.end) (λ z j _. reads_ tt)))
-        (λ h. absurd (true≢false (sym q ∙ h)))))) least v l d)
+    (λ n f r a b last. bind-reads _ (a last) (λ w m q. choose-either (is_left w.shape) _ _ (record { tokens = t ∷ us; last = m })
+    (λ h. on-hit assign_at _ _ t op us m (assign-hit t op e) (bind-reads _ (b t.end) (λ z j _. reads_ tt)))
+    (λ h. absurd (true≢false (sym q ∙ h)))))) least v l d)
 
 -- the parts after the first of an expression
 pub data PartsClaim (k : Bool) : List Token5 → List Token5 → Type 0 where
@@ -407,9 +403,9 @@ next-part-claim k t ts us vs p x c o = parts_claim p (part-reads k ts us vs x c 
 sequence-reads : (k : Bool) (ts : List Token5) (t : Token5) (us vs : List Token5) → Claim k 1 ts (t ∷ us) → IsMark (codes ",") t → Eventually (λ n f r. Reads (parts (R f r) k n) Any us vs) → Eventually (λ n f r. Reads (sequence (R f r) k) Any ts vs)
 unfolding sequence more_parts
 sequence-reads k ts t us vs x p h = both (x.levels 1 assignment_level (omega arith) (closes-comma k us t p)) (begin h (λ n f r y. at-fuel (λ m. parts (R f r) k m) Any us vs f r y)) (λ n f r y z last.
-  bind-reads _ (y last) (λ w m q. on-hit (mark (codes ",")) _ _ t t us m (mark-hit (codes ",") t p) (bind-reads _ (z t.end) (λ xs j q'. reads_ tt))))
+    bind-reads _ (y last) (λ w m q. on-hit (mark (codes ",")) _ _ t t us m (mark-hit (codes ",") t p) (bind-reads _ (z t.end) (λ xs j q'. reads_ tt))))
 
 -- the first part and those after it, of which there is one at least
 pub sequence-claim : (k : Bool) (ts : List Token5) (t : Token5) (us ws vs : List Token5) → Claim k 1 ts (t ∷ us) → IsMark (codes ",") t → Claim k 1 us ws → (Closes k 0 vs → PartsClaim k ws vs) → Claim k 0 ts vs
 sequence-claim k ts t us ws vs x p y f = claim-other k 0 ts vs (omega arith) x.first (λ least v l c.
-  let d = closes-up k least 0 vs l c in from-sequence k Any ts vs (sequence-reads k ts t us vs x p (part-reads k us ws vs y d (f d))) least v l)
+    let d = closes-up k least 0 vs l c in from-sequence k Any ts vs (sequence-reads k ts t us vs x p (part-reads k us ws vs y d (f d))) least v l)

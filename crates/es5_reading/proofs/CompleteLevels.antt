@@ -1,20 +1,18 @@
 -- An expression that is read at its own level is read at each lower one, if the next token goes on with nothing there.
-use Rattle.std.proofs.Common.{◌≡◌, ◌⊎◌, inl, inr, ℕ, zero, suc, ◌+◌, ◌≤◌, Bool, true, false, List, [], ◌∷◌, Option, Some, None, refl, sym, ap, subst, ◌∙◌, arith}
-use Rattle.std.proofs.lemmas.Bool.{false≢true, true≢false}
+use Rattle.std.proofs.Common.{◌≡◌, ℕ, zero, suc, ◌+◌, ◌≤◌, Bool, true, false, List, [], ◌∷◌, refl, sym, subst, arith}
 use Rattle.std.specs.Prelude.{codes}
 use Rattle.es_text.specs.declared.Span.{Span}
-use Rattle.es5_ast.specs.declared.tree.Expr5.{Expr5}
 use Rattle.es5_ast.specs.declared.tree.Link5.{Link5}
 use Rattle.es5_ast.specs.declared.tree.Operand5.{Operand5}
-use Rattle.es5_ast.specs.Lexical.{Token5, Kind5}
-use Rattle.es5_ast.specs.Grammar.{begin_of, is_mark}
-use Rattle.es5_reading.specs.Parser.{Input5, Outcome5, Took, Fault, Parser, after, ◌>>=◌, on, choose, next_is, if_next, returns, mark, next_mark, from, made, Read5, is_left, Inner5, on_group}
-use Rattle.es5_reading.specs.Expressions.{head, call_link, links, chained, chain, postfix, unary, operands, operated, binary_from, conditional, assignment, sequence, unary_at, before_at, after_at, assign_at, binary_at}
+use Rattle.es5_ast.specs.Lexical.{Token5}
+use Rattle.es5_ast.specs.Grammar.{begin_of}
+use Rattle.es5_reading.specs.Parser.{Parser, next_is, mark, next_mark, Read5, is_left, Inner5}
+use Rattle.es5_reading.specs.Expressions.{head, links, chained, chain, postfix, unary, operands, operated, binary_from, conditional, assignment, sequence, unary_at, before_at, after_at, assign_at, binary_at}
 use Rattle.es5_reading.specs.Programs.{readers}
 use Rattle.es5_reading.proofs.Posts.{Misses}
-use Rattle.es5_reading.proofs.Insertion.{readers-inserting, readers-fuel}
-use Rattle.es5_reading.proofs.Reading.{ReadsOf, reads_, Reads, reads-as, reads-weak, bind-reads, on-miss, choose-either, group-miss, Eventually, always, then_, both, turn, begin}
-use Rattle.es5_reading.proofs.CompleteTokens.{BeginsOperand, begins_operand_at, BeginsFirst, begins-first, Operand, operand-no-unary, operand-no-before, Closes, closes-up, closes-any, mark-miss}
+use Rattle.es5_reading.proofs.Insertion.{readers-fuel}
+use Rattle.es5_reading.proofs.Reading.{reads_, Reads, reads-weak, bind-reads, on-miss, choose-either, group-miss, Eventually, always, then_, both, turn, begin}
+use Rattle.es5_reading.proofs.CompleteTokens.{BeginsOperand, begins_operand_at, BeginsFirst, begins-first, operand-no-unary, operand-no-before, Closes, closes-up, mark-miss}
 
 abbrev pub R : ℕ → ℕ → Inner5
 R f r = readers false f r
@@ -36,7 +34,7 @@ pub links-none : (calls : Bool) (us : List Token5) → next_is (next_mark (codes
     → Eventually (λ t f r. Reads (links (R f r) calls t) (λ ls. ls ≡ []) us us)
 unfolding links
 links-none calls us d b p = turn (always {P = λ t f r. Unit {0}} (λ t f r. tt)) (λ t f r _ last. on-miss _ _ _ us last (mark-missed (codes ".") us d) (group-miss (R f r) _ _ _ us last b
-  (choose-either calls _ _ (record { tokens = us; last = last }) (λ c. group-miss (R f r) _ _ _ us last (p c) (reads_ refl)) (λ c. reads_ refl))))
+    (choose-either calls _ _ (record { tokens = us; last = last }) (λ c. group-miss (R f r) _ _ _ us last (p c) (reads_ refl)) (λ c. reads_ refl))))
 
 abbrev pub HeadReads : List Token5 → List Token5 → Type 0
 HeadReads ts us = Eventually (λ t f r. (at : ℕ) → Reads (head (R f r) at) Left ts us)
@@ -50,14 +48,14 @@ chained-none x ls span e h = subst (λ l. Left (chained x l span)) (sym e) h
 pub head-chain : (calls : Bool) (ts us : List Token5) → HeadReads ts us → next_is (next_mark (codes ".")) us ≡ false → next_is (next_mark (codes "[")) us ≡ false → (calls ≡ true → next_is (next_mark (codes "(")) us ≡ false) → ChainReads calls ts us
 unfolding chain
 head-chain calls ts us h d b p = both h (begin (links-none calls us d b p) (λ t f r k. at-fuel (λ n. links (R f r) calls n) (λ ls. ls ≡ []) us us f r k)) (λ t f r x y.
-  λ last. bind-reads _ (x (begin_of ts) last) (λ v n l. bind-reads _ (y n) (λ ls m e. reads_ (chained-none v ls _ e l))))
+    λ last. bind-reads _ (x (begin_of ts) last) (λ v n l. bind-reads _ (y n) (λ ls m e. reads_ (chained-none v ls _ e l))))
 
 -- ## From chains to unary expressions
 
 pub chain-unary : (k : Bool) (Q : Read5 → Type 0) (ts us : List Token5) → Eventually (λ t f r. Reads (chain (R f r) true) Q ts us) → BeginsOperand ts → Misses after_at us → Eventually (λ t f r. Reads (unary (R f r)) Q ts us)
 unfolding unary postfix
 chain-unary k Q ts us h (begins_operand_at {t = u} {ts = vs} o) m = then_ h (λ t f r x last.
-  on-miss unary_at _ _ (u ∷ vs) last (operand-no-unary u o) (on-miss before_at _ _ (u ∷ vs) last (operand-no-before u o)
+    on-miss unary_at _ _ (u ∷ vs) last (operand-no-unary u o) (on-miss before_at _ _ (u ∷ vs) last (operand-no-before u o)
     (bind-reads _ (x last) (λ v n q. on-miss after_at _ _ us n m (reads_ q)))))
 
 -- ## From operators to lower ones
@@ -75,26 +73,30 @@ BinaryReads k above level Q ts us = Eventually (λ t f r. Reads (binary_from (R 
 lift-one : (k : Bool) (above level : ℕ) (Q : Read5 → Type 0) (ts us : List Token5) → BinaryReads k above (level + 1) Q ts us → Misses (binary_at k level) us → BinaryReads k (suc above) level Q ts us
 unfolding binary_from
 lift-one k above level Q ts us h m = both h (begin (operands-none (λ f r. binary_from (R f r) k above (level + 1)) k level us m) (λ t f r y. at-fuel (λ n. operands (binary_from (R f r) k above (level + 1)) k level n) (λ os. os ≡ []) us us f r y)) (λ t f r x y last.
-  bind-reads _ (x last) (λ v n q. bind-reads _ (y n) (λ os m' e. reads_ (operated-none Q v os _ e q))))
+    bind-reads _ (x last) (λ v n q. bind-reads _ (y n) (λ os m' e. reads_ (operated-none Q v os _ e q))))
 
 lift-binaries : (n above high above' level : ℕ) (k : Bool) (Q : Read5 → Type 0) (ts us : List Token5) → high ≡ level + n → above + high ≡ 13 → above' + level ≡ 13 → BinaryReads k above high Q ts us → Closes k level us → BinaryReads k above' level Q ts us
 lift-binaries zero above high above' level k Q ts us e s s' h c =
-  subst (λ l. BinaryReads k above' l Q ts us) (same-level high level e) (subst (λ a. BinaryReads k a high Q ts us) (same-above above high above' level e s s') h)
+    subst (λ l. BinaryReads k above' l Q ts us) (same-level high level e) (subst (λ a. BinaryReads k a high Q ts us) (same-above above high above' level e s s') h)
   where
     same-level : (high level : ℕ) → high ≡ level + zero → high ≡ level
     same-level high level e = omega arith
+
     same-above : (above high above' level : ℕ) → high ≡ level + zero → above + high ≡ 13 → above' + level ≡ 13 → above ≡ above'
     same-above above high above' level e s s' = omega arith
 lift-binaries (suc n) above high above' level k Q ts us e s s' h c =
-  lift-binaries n (suc above) (level + n) above' level k Q ts us refl (sum above high level n e s) s'
+    lift-binaries n (suc above) (level + n) above' level k Q ts us refl (sum above high level n e s) s'
     (lift-one k above (level + n) Q ts us (subst (λ l. BinaryReads k above l Q ts us) (next-level high level n e) h) (c.operator (level + n) (fits level n) (low above high level n e s))) c
   where
     sum : (above high level n : ℕ) → high ≡ level + suc n → above + high ≡ 13 → suc above + (level + n) ≡ 13
     sum above high level n e s = omega arith
+
     next-level : (high level n : ℕ) → high ≡ level + suc n → high ≡ (level + n) + 1
     next-level high level n e = omega arith
+
     fits : (level n : ℕ) → level ≤ level + n
     fits level n = omega arith
+
     low : (above high level n : ℕ) → high ≡ level + suc n → above + high ≡ 13 → level + n ≤ 12
     low above high level n e s = omega arith
 
@@ -139,6 +141,7 @@ difference (suc high) (suc low) h = let d = difference high low (down low high h
   where
     down : (low high : ℕ) → suc low ≤ suc high → low ≤ high
     down low high h = omega arith
+
     more : (high low n : ℕ) → high ≡ low + n → suc high ≡ suc low + n
     more high low n e = omega arith
 
@@ -228,13 +231,13 @@ left-levels : (k : Bool) (level : ℕ) (ts us : List Token5) → BeginsOperand t
     → (least : ℕ) (v : Level least) → Closes k least us → LevelReads k (LeftFrom level) ts us v
 unfolding binary_from
 left-levels k level ts us o h least v c =
-  from-binary 0 13 k (LeftFrom level) ts us refl (omega arith) (chain-unary k (LeftFrom level) ts us (then_ (h c.dot c.bracket (c.paren (le-trans least 13 16 (level-thirteen v) (omega arith)))) (λ t f r x last. reads-weak (λ y q l. q) (x last))) o (c.after (le-trans least 13 14 (level-thirteen v) (omega arith)))) least v (level-thirteen v) c
+    from-binary 0 13 k (LeftFrom level) ts us refl (omega arith) (chain-unary k (LeftFrom level) ts us (then_ (h c.dot c.bracket (c.paren (le-trans least 13 16 (level-thirteen v) (omega arith)))) (λ t f r x last. reads-weak (λ y q l. q) (x last))) o (c.after (le-trans least 13 14 (level-thirteen v) (omega arith)))) least v (level-thirteen v) c
 
 -- as a target it is read before an assignment operator
 pub left-conditional : (k : Bool) (ts us : List Token5) → BeginsOperand ts → ChainReads true ts us → Closes k 2 us → Eventually (λ t f r. Reads (conditional (R f r) k) Left ts us)
 unfolding binary_from
 left-conditional k ts us o h c =
-  to-conditional k Left ts us (to-three 0 13 k Left ts us refl (omega arith) (chain-unary k Left ts us h o (c.after (omega arith))) (up k 2 3 us (omega arith) c)) c
+    to-conditional k Left ts us (to-three 0 13 k Left ts us refl (omega arith) (chain-unary k Left ts us h o (c.after (omega arith))) (up k 2 3 us (omega arith) c)) c
 
 -- a primary expression
 pub claim-primary : (k : Bool) (ts us : List Token5) → BeginsOperand ts → HeadReads ts us → Claim k 18 ts us

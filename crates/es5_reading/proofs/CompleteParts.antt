@@ -1,32 +1,22 @@
 -- Each production of expressions is read, if its parts are.
-use Rattle.std.proofs.Common.{◌≡◌, ◌⊎◌, inl, inr, ℕ, zero, suc, ◌+◌, ◌≤◌, Bool, true, false, ◌&&◌, List, [], ◌∷◌, Option, Some, None, refl, sym, ap, subst, ◌∙◌, arith}
-use Rattle.std.proofs.lemmas.Bool.{false≢true, true≢false}
+use Rattle.std.proofs.Common.{◌≡◌, ℕ, Bool, true, false, List, ◌∷◌, Option, Some, None, refl, sym, ap, subst, arith}
+use Rattle.std.proofs.lemmas.Bool.{false≢true}
 use Rattle.std.specs.Prelude.{codes}
-use Rattle.es_text.specs.declared.Span.{Span}
-use Rattle.es5_ast.specs.declared.operators.UnaryOperator5.{UnaryOperator5}
-use Rattle.es5_ast.specs.declared.operators.UpdateOperator5.{UpdateOperator5}
-use Rattle.es5_ast.specs.declared.operators.BinaryOperator5.{BinaryOperator5}
-use Rattle.es5_ast.specs.declared.operators.AssignOperator5.{AssignOperator5}
-use Rattle.es5_ast.specs.declared.operators.Literal5.{Literal5}
-use Rattle.es5_ast.specs.declared.operators.Literal5.TheVariants as literals
 use Rattle.es5_ast.specs.declared.operators.Key5.{Key5}
 use Rattle.es5_ast.specs.declared.operators.Key5.TheVariants as keys
 use Rattle.es5_ast.specs.declared.tree.Identifier5.{Identifier5}
 use Rattle.es5_ast.specs.declared.tree.PlacedKey5.{PlacedKey5}
-use Rattle.es5_ast.specs.declared.tree.Expr5.{Expr5}
-use Rattle.es5_ast.specs.declared.tree.Link5.{Link5}
-use Rattle.es5_ast.specs.Lexical.{Token5, Kind5, Word, Integer, Text, Punctuator, Inserted, is_one_of, reserved_words}
+use Rattle.es5_ast.specs.Lexical.{Token5, Word, Integer, Text, Punctuator, is_one_of}
 use Rattle.es5_ast.specs.Grammar as g
 use Rattle.es5_ast.specs.Grammar.{Mode5, IsIdentifier, IsKey, AreParameters, IsMark, IsWord, is_mark, is_word, is_identifier, is_in, is_before, unary_kind, update_kind, assign_kind, binary_kind, binary_level, literal_kind, key_kind, begin_of}
-use Rattle.es5_reading.specs.Parser.{Input5, Outcome5, Took, Fault, Parser, after, ◌>>=◌, on, choose, next_is, if_next, returns, kept_if, take_as, mark, word, next_mark, from, made, Read5, is_left, Inner5, on_group, group}
-use Rattle.es5_reading.specs.Expressions.{name_if, any_name, free_name, literal_at, key_at, accessor_at, accessor_name, identifier, key, more_parameters, parameters, statements, body, rest_of_function, function_expression, no_parameter, one_parameter, accessor_parameters, accessor_function, accessor, value_of_key, plain_property, after_accessor_word, one_property, properties, elements, more_arguments, arguments, left, grouped, bracketed, primary, after_callee, head, member_link, index_link, call_link, links, chained, chain, postfix, prefixed, updated, unary, operands, operated, binary_from, branches, conditional, assigned, assignment, parts, more_parts, sequence, unary_at, before_at, after_at, assign_at, binary_at}
-use Rattle.es5_reading.specs.Statements.{label_of}
+use Rattle.es5_reading.specs.Parser.{next_is, kept_if, take_as, mark, word, next_mark, group}
+use Rattle.es5_reading.specs.Expressions.{name_if, free_name, key_at, identifier, key, more_parameters, parameters, statements, body, rest_of_function, no_parameter, one_parameter, accessor_parameters, accessor_function, one_property, properties, elements, more_arguments, arguments, binary_from}
 use Rattle.es5_reading.specs.Programs.{readers}
 use Rattle.es5_reading.proofs.Posts.{Misses}
 use Rattle.es5_reading.proofs.Meanings.{bytes_eq-refl}
-use Rattle.es5_reading.proofs.Reading.{ReadsOf, reads_, Reads, Any, reads-as, reads-weak, bind-reads, on-hit, on-miss, if-true, if-false, choose-either, group-hit, group-miss, Eventually, always, then_, both, pair, deeper, turn, begin}
-use Rattle.es5_reading.proofs.CompleteTokens.{at-kind, is-false, not-reserved, operand_words, operand_marks, prefix_words, prefix_marks, Operand, operand_name, operand_word, operand_integer, operand_text, operand_mark, First, first_operand, BeginsOperand, begins_operand_at, BeginsFirst, begins_first_at, begins-first, first-no-word, first-no-mark, Closes, closes-up, closes-any, mark-miss, word-miss, assign-hit, unary-hit, unary-first, before-hit, before-first, after-hit, update-stops, closes-assign, closes-operator, closes-question, closes-colon, closes-close, closes-square, closes-brace, closes-comma, binary-hit, level-high}
-use Rattle.es5_reading.proofs.CompleteLevels.{R, at-fuel, Left, mark-missed, HeadReads, ChainReads, head-chain, chain-unary, BinaryReads, Level, sequence_level, assignment_level, binary_level_, LevelReads, from-binary, from-conditional, from-assignment, from-sequence, Claim, claim-primary, claim-left, claim-other}
+use Rattle.es5_reading.proofs.Reading.{ReadsOf, reads_, Reads, Any, reads-weak, bind-reads, on-hit, on-miss, group-hit, Eventually, always, both, pair, deeper, turn, begin}
+use Rattle.es5_reading.proofs.CompleteTokens.{at-kind, operand_marks, prefix_marks, operand_name, First, first_operand, BeginsFirst, begins_first_at, first-no-mark, Closes, closes-up, mark-miss, closes-close, closes-square, closes-comma}
+use Rattle.es5_reading.proofs.CompleteLevels.{R, at-fuel, ChainReads, sequence_level, assignment_level, binary_level_, Claim}
 
 -- ## Tokens
 
@@ -64,7 +54,7 @@ name-is name t e h = at-kind (λ u. free_name u ≡ Some name) t (Word name) e (
 pub identifier-reads : {mode : Mode5} {ts us : List Token5} {x : Identifier5} → IsIdentifier mode ts x us → Reads identifier (λ y. Unit {0}) ts us
 unfolding identifier
 identifier-reads {ts = ts} {us = us} {x = x} d last = subst (λ vs. ReadsOf Any us (identifier (record { tokens = vs; last = last }))) (sym d.first)
-  (bind-reads _ (take-hit free_name d.token x.name us last (name-is x.name d.token d.word d.free)) (λ name n q. reads_ tt))
+    (bind-reads _ (take-hit free_name d.token x.name us last (name-is x.name d.token d.word d.free)) (λ name n q. reads_ tt))
 
 key-is : (k : Key5) (t : Token5) → t.kind ≡ key_kind k → (j : Key5) × (key_at t ≡ Some j)
 key-is (keys.WordKey name) t e = (keys.WordKey name, at-kind (λ u. key_at u ≡ Some (keys.WordKey name)) t (Word name) e refl)
@@ -74,7 +64,7 @@ key-is (keys.IntegerKey value) t e = (keys.IntegerKey value, at-kind (λ u. key_
 pub key-reads : {mode : Mode5} {ts us : List Token5} {x : PlacedKey5} → IsKey mode ts x us → Reads key Any ts us
 unfolding key
 key-reads {ts = ts} {us = us} {x = x} d last = let k = key-is x.key d.token d.kind in subst (λ vs. ReadsOf Any us (key (record { tokens = vs; last = last }))) (sym d.first)
-  (bind-reads _ (take-hit key_at d.token k.0 us last k.1) (λ j n q. reads_ tt))
+    (bind-reads _ (take-hit key_at d.token k.0 us last k.1) (λ j n q. reads_ tt))
 
 -- ## Parameters
 
@@ -138,18 +128,18 @@ elements-none c us p = turn (always {P = λ t f r. Unit {0}} (λ t f r. tt)) (λ
 pub elements-hole : (c : Token5) (ts us : List Token5) → IsMark (codes ",") c → ElementsRead ts us → ElementsRead (c ∷ ts) us
 unfolding elements
 elements-hole c ts us p h = turn h (λ t f r x last. on-miss (mark (codes "]")) _ _ (c ∷ ts) last (mark-other (codes "]") (codes ",") c refl p)
-  (on-hit (mark (codes ",")) _ _ c c ts last (mark-hit (codes ",") c p) (bind-reads _ (x c.end) (λ y n q. reads_ tt))))
+    (on-hit (mark (codes ",")) _ _ c c ts last (mark-hit (codes ",") c p) (bind-reads _ (x c.end) (λ y n q. reads_ tt))))
 
 pub elements-last : (ts : List Token5) (c : Token5) (us : List Token5) → Claim false 1 ts (c ∷ us) → IsMark (codes "]") c → ElementsRead ts us
 unfolding elements operand_marks prefix_marks
 elements-last ts c us x p = turn (open-assignment false ts (c ∷ us) x (closes-up false 0 1 (c ∷ us) (omega arith) (closes-square false us c p))) (λ t f r h last.
-  on-miss (mark (codes "]")) _ _ ts last (first-misses (codes "]") ts refl refl x.first) (on-miss (mark (codes ",")) _ _ ts last (first-misses (codes ",") ts refl refl x.first)
+    on-miss (mark (codes "]")) _ _ ts last (first-misses (codes "]") ts refl refl x.first) (on-miss (mark (codes ",")) _ _ ts last (first-misses (codes ",") ts refl refl x.first)
     (bind-reads _ (h last) (λ y n q. on-miss (mark (codes ",")) _ _ (c ∷ us) n (mark-other (codes ",") (codes "]") c refl p) (bind-reads _ (take-mark (codes "]") c us n p) (λ z m q'. reads_ tt))))))
 
 pub elements-next : (ts : List Token5) (c : Token5) (us vs : List Token5) → Claim false 1 ts (c ∷ us) → IsMark (codes ",") c → ElementsRead us vs → ElementsRead ts vs
 unfolding elements operand_marks prefix_marks
 elements-next ts c us vs x p e = turn (pair (open-assignment false ts (c ∷ us) x (closes-comma false us c p)) e) (λ t f r h last.
-  on-miss (mark (codes "]")) _ _ ts last (first-misses (codes "]") ts refl refl x.first) (on-miss (mark (codes ",")) _ _ ts last (first-misses (codes ",") ts refl refl x.first)
+    on-miss (mark (codes "]")) _ _ ts last (first-misses (codes "]") ts refl refl x.first) (on-miss (mark (codes ",")) _ _ ts last (first-misses (codes ",") ts refl refl x.first)
     (bind-reads _ (h.0 last) (λ y n q. on-hit (mark (codes ",")) _ _ c c us n (mark-hit (codes ",") c p) (bind-reads _ (h.1 c.end) (λ z m q'. reads_ tt))))))
 
 abbrev pub ArgumentsRead : List Token5 → List Token5 → Type 0
@@ -158,12 +148,12 @@ ArgumentsRead ts us = Eventually (λ t f r. Reads (more_arguments (R f r) t) Any
 pub arguments-last : (ts : List Token5) (c : Token5) (us : List Token5) → Claim false 1 ts (c ∷ us) → IsMark (codes ")") c → ArgumentsRead ts us
 unfolding more_arguments
 arguments-last ts c us x p = turn (open-assignment false ts (c ∷ us) x (closes-up false 0 1 (c ∷ us) (omega arith) (closes-close false us c p))) (λ t f r h last.
-  bind-reads _ (h last) (λ y n q. on-miss (mark (codes ",")) _ _ (c ∷ us) n (mark-other (codes ",") (codes ")") c refl p) (bind-reads _ (take-mark (codes ")") c us n p) (λ z m q'. reads_ tt))))
+    bind-reads _ (h last) (λ y n q. on-miss (mark (codes ",")) _ _ (c ∷ us) n (mark-other (codes ",") (codes ")") c refl p) (bind-reads _ (take-mark (codes ")") c us n p) (λ z m q'. reads_ tt))))
 
 pub arguments-next : (ts : List Token5) (c : Token5) (us vs : List Token5) → Claim false 1 ts (c ∷ us) → IsMark (codes ",") c → ArgumentsRead us vs → ArgumentsRead ts vs
 unfolding more_arguments
 arguments-next ts c us vs x p e = turn (pair (open-assignment false ts (c ∷ us) x (closes-comma false us c p)) e) (λ t f r h last.
-  bind-reads _ (h.0 last) (λ y n q. on-hit (mark (codes ",")) _ _ c c us n (mark-hit (codes ",") c p) (bind-reads _ (h.1 c.end) (λ z m q'. reads_ tt))))
+    bind-reads _ (h.0 last) (λ y n q. on-hit (mark (codes ",")) _ _ c c us n (mark-hit (codes ",") c p) (bind-reads _ (h.1 c.end) (λ z m q'. reads_ tt))))
 
 -- arguments and the closing parenthesis
 pub data ArgumentsClaim : List Token5 → List Token5 → Type 0 where
@@ -197,12 +187,12 @@ properties-none c us p = turn (always {P = λ t f r. Unit {0}} (λ t f r. tt)) (
 pub properties-last : (ts : List Token5) (c : Token5) (us : List Token5) → PropertyClaim ts (c ∷ us) → IsMark (codes "}") c → PropertiesRead ts us
 unfolding properties
 properties-last ts c us x p = turn (open-property ts (c ∷ us) x.reads) (λ t f r h last. on-miss (mark (codes "}")) _ _ ts last x.first
-  (bind-reads _ (h last) (λ y n q. on-miss (mark (codes ",")) _ _ (c ∷ us) n (mark-other (codes ",") (codes "}") c refl p) (bind-reads _ (take-mark (codes "}") c us n p) (λ z m q'. reads_ tt)))))
+    (bind-reads _ (h last) (λ y n q. on-miss (mark (codes ",")) _ _ (c ∷ us) n (mark-other (codes ",") (codes "}") c refl p) (bind-reads _ (take-mark (codes "}") c us n p) (λ z m q'. reads_ tt)))))
 
 pub properties-next : (ts : List Token5) (c : Token5) (us vs : List Token5) → PropertyClaim ts (c ∷ us) → IsMark (codes ",") c → PropertiesRead us vs → PropertiesRead ts vs
 unfolding properties
 properties-next ts c us vs x p e = turn (pair (open-property ts (c ∷ us) x.reads) e) (λ t f r h last. on-miss (mark (codes "}")) _ _ ts last x.first
-  (bind-reads _ (h.0 last) (λ y n q. on-hit (mark (codes ",")) _ _ c c us n (mark-hit (codes ",") c p) (bind-reads _ (h.1 c.end) (λ z m q'. reads_ tt)))))
+    (bind-reads _ (h.0 last) (λ y n q. on-hit (mark (codes ",")) _ _ c c us n (mark-hit (codes ",") c p) (bind-reads _ (h.1 c.end) (λ z m q'. reads_ tt)))))
 
 -- ## Functions
 
@@ -218,7 +208,7 @@ RestRead ts us = Eventually (λ t f r. (at : ℕ) (name : Option Identifier5) �
 pub rest-reads : {mode : Mode5} (o b : Token5) (ts us vs : List Token5) {xs : List Identifier5} → IsMark (codes "(") o → AreParameters mode ts xs (b ∷ us) → IsMark (codes "{") b → StatsRead true true us vs → RestRead (o ∷ ts) vs
 unfolding rest_of_function body
 rest-reads o b ts us vs p d q h = both (pair opened (parameters-reads d)) (braced-reads true true b us vs q h) (λ t f r x y at name last.
-  bind-reads _ (group-hit {Q = Any} (R f r) _ _ _ o ts last (is-mark-true (codes "(") o p) x.0 (x.1 o.end)) (λ z n _. bind-reads _ (y n) (λ w m _. reads_ tt)))
+    bind-reads _ (group-hit {Q = Any} (R f r) _ _ _ o ts last (is-mark-true (codes "(") o p) x.0 (x.1 o.end)) (λ z n _. bind-reads _ (y n) (λ w m _. reads_ tt)))
 
 -- what follows `function`
 pub data FunctionClaim : List Token5 → Option Identifier5 → List Token5 → Type 0 where
@@ -233,9 +223,9 @@ AccessorRead setter ts us = Eventually (λ t f r. Reads (accessor_function (R f 
 pub no-value-reads : (o c b : Token5) (ts us : List Token5) → IsMark (codes "(") o → IsMark (codes ")") c → IsMark (codes "{") b → StatsRead true true ts us → AccessorRead false (o ∷ c ∷ b ∷ ts) us
 unfolding accessor_function accessor_parameters no_parameter body
 no-value-reads o c b ts us p q s h = both opened (braced-reads true true b ts us s h) (λ t f r a y last.
-  bind-reads {P = Any} _ (group-hit {Q = Any} (R f r) _ _ _ o (c ∷ b ∷ ts) last (is-mark-true (codes "(") o p) a (bind-reads _ (take-mark (codes ")") c (b ∷ ts) o.end q) (λ z n _. reads_ tt))) (λ z n _. bind-reads _ (y n) (λ w m _. reads_ tt)))
+    bind-reads {P = Any} _ (group-hit {Q = Any} (R f r) _ _ _ o (c ∷ b ∷ ts) last (is-mark-true (codes "(") o p) a (bind-reads _ (take-mark (codes ")") c (b ∷ ts) o.end q) (λ z n _. reads_ tt))) (λ z n _. bind-reads _ (y n) (λ w m _. reads_ tt)))
 
 pub one-value-reads : {mode : Mode5} {x : Identifier5} (o c b : Token5) (ts us vs : List Token5) → IsMark (codes "(") o → IsIdentifier mode ts x (c ∷ b ∷ us) → IsMark (codes ")") c → IsMark (codes "{") b → StatsRead true true us vs → AccessorRead true (o ∷ ts) vs
 unfolding accessor_function accessor_parameters one_parameter body
 one-value-reads o c b ts us vs p d q s h = both opened (braced-reads true true b us vs s h) (λ t f r a y last.
-  bind-reads {P = Any} _ (group-hit {Q = Any} (R f r) _ _ _ o ts last (is-mark-true (codes "(") o p) a (bind-reads _ (identifier-reads d o.end) (λ w k _. bind-reads _ (take-mark (codes ")") c (b ∷ us) k q) (λ z n _. reads_ tt)))) (λ z n _. bind-reads _ (y n) (λ w m _. reads_ tt)))
+    bind-reads {P = Any} _ (group-hit {Q = Any} (R f r) _ _ _ o ts last (is-mark-true (codes "(") o p) a (bind-reads _ (identifier-reads d o.end) (λ w k _. bind-reads _ (take-mark (codes ")") c (b ∷ us) k q) (λ z n _. reads_ tt)))) (λ z n _. bind-reads _ (y n) (λ w m _. reads_ tt)))

@@ -1,45 +1,24 @@
 -- Each production of statements is read, if its parts are.
-use Rattle.std.proofs.Common.{◌≡◌, ◌⊎◌, inl, inr, ℕ, zero, suc, ◌+◌, ◌≤◌, Bool, true, false, ◌&&◌, ◌||◌, cond, not, List, [], ◌∷◌, Option, Some, None, refl, sym, ap, subst, ◌∙◌, arith}
-use Rattle.std.proofs.lemmas.Bool.{false≢true, true≢false}
+use Rattle.std.proofs.Common.{◌≡◌, ◌⊎◌, inl, inr, ℕ, Bool, true, false, ◌||◌, cond, List, [], ◌∷◌, Option, Some, None, refl, sym, subst, arith}
+use Rattle.std.proofs.lemmas.Bool.{false≢true}
 use Rattle.std.specs.Prelude.{codes}
-use Rattle.es_text.specs.declared.Span.{Span}
-use Rattle.es5_ast.specs.declared.operators.UnaryOperator5.{UnaryOperator5}
-use Rattle.es5_ast.specs.declared.operators.UpdateOperator5.{UpdateOperator5}
-use Rattle.es5_ast.specs.declared.operators.BinaryOperator5.{BinaryOperator5}
-use Rattle.es5_ast.specs.declared.operators.AssignOperator5.{AssignOperator5}
-use Rattle.es5_ast.specs.declared.operators.Literal5.{Literal5}
-use Rattle.es5_ast.specs.declared.operators.Literal5.TheVariants as literals
-use Rattle.es5_ast.specs.declared.operators.Key5.{Key5}
-use Rattle.es5_ast.specs.declared.operators.Key5.TheVariants as keys
 use Rattle.es5_ast.specs.declared.tree.Identifier5.{Identifier5}
-use Rattle.es5_ast.specs.declared.tree.PlacedKey5.{PlacedKey5}
-use Rattle.es5_ast.specs.declared.tree.Expr5.{Expr5}
-use Rattle.es5_ast.specs.declared.tree.Link5.{Link5}
-use Rattle.es5_ast.specs.Lexical.{Token5, Kind5, Word, Integer, Text, Punctuator, Inserted, is_one_of, reserved_words}
-use Rattle.es5_ast.specs.Grammar as g
-use Rattle.es5_ast.specs.Grammar.{Mode5, IsIdentifier, IsKey, AreParameters, IsMark, IsWord, is_mark, is_word, is_identifier, is_in, is_before, unary_kind, update_kind, assign_kind, binary_kind, binary_level, literal_kind, key_kind, begin_of}
-use Rattle.es5_reading.specs.Parser.{Input5, Outcome5, Took, Fault, Parser, after, ◌>>=◌, on, choose, next_is, if_next, returns, kept_if, take_as, mark, word, next_mark, from, made, Read5, is_left, Inner5, on_group, group}
-use Rattle.es5_reading.specs.Expressions.{name_if, any_name, free_name, literal_at, key_at, accessor_at, accessor_name, identifier, key, more_parameters, parameters, statements, body, rest_of_function, function_expression, no_parameter, one_parameter, accessor_parameters, accessor_function, accessor, value_of_key, plain_property, after_accessor_word, one_property, properties, elements, more_arguments, arguments, left, grouped, bracketed, primary, after_callee, head, member_link, index_link, call_link, links, chained, chain, postfix, prefixed, updated, unary, operands, operated, binary_from, branches, conditional, assigned, assignment, parts, more_parts, sequence, unary_at, before_at, after_at, assign_at, binary_at}
-use Rattle.es5_reading.specs.Statements.{label_of}
+use Rattle.es5_ast.specs.Lexical.{Token5, Kind5, Word, Integer, Text, Punctuator, Inserted}
+use Rattle.es5_ast.specs.Grammar.{Mode5, IsIdentifier, IsMark, IsWord, is_mark, is_word}
+use Rattle.es5_reading.specs.Parser.{Parser, next_is, kept_if, take_as, mark, word, next_mark, Inner5}
+use Rattle.es5_reading.specs.Expressions.{statements, assign_at}
 use Rattle.es5_reading.specs.Programs.{readers}
 use Rattle.es5_reading.proofs.Posts.{Misses}
-use Rattle.es5_reading.proofs.Meanings.{bytes_eq-refl, same_bytes, or_false}
-use Rattle.es5_reading.proofs.Reading.{ReadsOf, reads_, Reads, Any, reads-as, reads-weak, bind-reads, on-hit, on-miss, if-true, if-false, choose-either, group-hit, group-miss, Eventually, always, then_, both, pair, deeper, turn, begin}
-use Rattle.es5_reading.proofs.CompleteTokens.{at-kind, is-false, not-reserved, operand_words, operand_marks, prefix_words, prefix_marks, Operand, operand_name, operand_word, operand_integer, operand_text, operand_mark, First, first_operand, BeginsOperand, begins_operand_at, BeginsFirst, begins_first_at, begins-first, first-no-word, first-no-mark, Closes, closes-up, closes-any, mark-miss, word-miss, assign-hit, unary-hit, unary-first, before-hit, before-first, after-hit, update-stops, closes-assign, closes-operator, closes-question, closes-colon, closes-close, closes-square, closes-brace, closes-comma, closes-end, closes-semicolon, binary-hit, level-high}
-use Rattle.es5_reading.proofs.CompleteLevels.{R, at-fuel, Left, mark-missed, links-none, HeadReads, ChainReads, head-chain, chain-unary, BinaryReads, Level, sequence_level, assignment_level, binary_level_, LevelReads, from-binary, from-conditional, from-assignment, from-sequence, Claim, low-level, level-thirteen, left-conditional, claim-primary, claim-left, claim-other}
-
-use Rattle.es5_reading.proofs.CompleteParts.{is-mark-true, is-word-true, mark-hit, word-hit, mark-other, take-hit, take-mark, first-misses, identifier-reads, opened, open-assignment, open-sequence, StatsRead, RestRead, FunctionClaim, anonymous_claim, named_claim}
-use Rattle.es5_reading.proofs.CompleteLevels.{links-none}
-use Rattle.es5_ast.specs.declared.tree.Expr5 as x5
-use Rattle.es5_ast.specs.declared.tree.Expr5.TheVariants as expr
-use denote.Hole.Carrier as carrier
+use Rattle.es5_reading.proofs.Meanings.{same_bytes, or_false}
+use Rattle.es5_reading.proofs.Reading.{ReadsOf, reads_, Reads, Any, reads-as, bind-reads, on-hit, on-miss, if-true, if-false, group-hit, Eventually, always, then_, both, pair, deeper, turn, begin}
+use Rattle.es5_reading.proofs.CompleteTokens.{at-kind, Closes, closes-up, mark-miss, word-miss, closes-close, closes-comma, closes-end}
+use Rattle.es5_reading.proofs.CompleteLevels.{R, at-fuel, Claim}
+use Rattle.es5_reading.proofs.CompleteParts.{is-mark-true, is-word-true, mark-hit, word-hit, take-hit, take-mark, identifier-reads, opened, open-assignment, open-sequence, StatsRead, FunctionClaim, named_claim}
 use Rattle.es5_ast.specs.declared.tree.Stat5.{Stat5}
 use Rattle.es5_ast.specs.declared.tree.Declared5.{Declared5}
-use Rattle.es5_ast.specs.declared.tree.Stat5.TheVariants as stat
-use Rattle.es5_ast.specs.Grammar.{IsEnd, IsOnLine, AreCases, begins, ends}
-use Rattle.es5_reading.specs.Parser.{fails, next_word, ending, semicolon}
-use Rattle.es5_reading.specs.Statements.{block, initialized, one_declared, declared_list, var_statement, parenthesized, condition, Otherwise5, with_condition, otherwise, if_statement, do_statement, while_statement, after_first_declared, for_var, for_expression, for_first_part, optional, for_header, for_statement, label_if, label_at, optional_label, continue_statement, break_statement, goes_on, returned, return_statement, begins_line, throw_statement, is_inserted, ends_case, in_case, case_clause, default_clause, cases, switch_statement, catch_parameter, handler, after_handler, only_finally, try_statement, debugger_statement, declaration, expression_end, labelled, label_or_end, expression_statement, plain_statement, jump_statement, compound_statement, block_statement, statement}
-use Rattle.es5_reading.specs.Programs.{program}
+use Rattle.es5_ast.specs.Grammar.{IsEnd, begins, ends}
+use Rattle.es5_reading.specs.Parser.{next_word, ending, semicolon}
+use Rattle.es5_reading.specs.Statements.{block, initialized, one_declared, declared_list, var_statement, parenthesized, condition, otherwise, if_statement, do_statement, while_statement, for_statement, continue_statement, break_statement, return_statement, throw_statement, is_inserted, ends_case, switch_statement, try_statement, debugger_statement, declaration, plain_statement, jump_statement, compound_statement, block_statement, statement}
 use Rattle.es5_reading.specs.Expressions.{assign_operators}
 
 -- no `finally` comes next
@@ -100,57 +79,57 @@ word-claim inside top p t ts us h q e a = record { first = h; quiet = q; reads =
 pub var-claim : (inside top : Bool) (t : Token5) (ts us : List Token5) → IsWord (codes "var") t → (Quiet us → AfterWord (λ i at. var_statement i at) ts us) → StatClaim inside top (t ∷ ts) us
 unfolding statement compound_statement jump_statement
 var-claim inside top t ts us e a = word-claim inside top (λ i at. var_statement i at) t ts us (at-kind (λ u. next_is ends_case (u ∷ ts) ≡ false) t (Word (codes "var")) e refl) (quiet-kind t ts (Word (codes "var")) e refl)
-  (λ i last. at-kind (λ u. statement i inside top (record { tokens = u ∷ ts; last = last }) ≡ var_statement i u.begin (record { tokens = ts; last = u.end })) t (Word (codes "var")) e refl) a
+    (λ i last. at-kind (λ u. statement i inside top (record { tokens = u ∷ ts; last = last }) ≡ var_statement i u.begin (record { tokens = ts; last = u.end })) t (Word (codes "var")) e refl) a
 
 pub do-claim : (inside top : Bool) (t : Token5) (ts us : List Token5) → IsWord (codes "do") t → (Quiet us → AfterWord (λ i at. do_statement i inside at) ts us) → StatClaim inside top (t ∷ ts) us
 unfolding statement compound_statement jump_statement
 do-claim inside top t ts us e a = word-claim inside top (λ i at. do_statement i inside at) t ts us (at-kind (λ u. next_is ends_case (u ∷ ts) ≡ false) t (Word (codes "do")) e refl) (quiet-kind t ts (Word (codes "do")) e refl)
-  (λ i last. at-kind (λ u. statement i inside top (record { tokens = u ∷ ts; last = last }) ≡ do_statement i inside u.begin (record { tokens = ts; last = u.end })) t (Word (codes "do")) e refl) a
+    (λ i last. at-kind (λ u. statement i inside top (record { tokens = u ∷ ts; last = last }) ≡ do_statement i inside u.begin (record { tokens = ts; last = u.end })) t (Word (codes "do")) e refl) a
 
 pub while-claim : (inside top : Bool) (t : Token5) (ts us : List Token5) → IsWord (codes "while") t → (Quiet us → AfterWord (λ i at. while_statement i inside at) ts us) → StatClaim inside top (t ∷ ts) us
 unfolding statement compound_statement jump_statement
 while-claim inside top t ts us e a = word-claim inside top (λ i at. while_statement i inside at) t ts us (at-kind (λ u. next_is ends_case (u ∷ ts) ≡ false) t (Word (codes "while")) e refl) (quiet-kind t ts (Word (codes "while")) e refl)
-  (λ i last. at-kind (λ u. statement i inside top (record { tokens = u ∷ ts; last = last }) ≡ while_statement i inside u.begin (record { tokens = ts; last = u.end })) t (Word (codes "while")) e refl) a
+    (λ i last. at-kind (λ u. statement i inside top (record { tokens = u ∷ ts; last = last }) ≡ while_statement i inside u.begin (record { tokens = ts; last = u.end })) t (Word (codes "while")) e refl) a
 
 pub for-claim : (inside top : Bool) (t : Token5) (ts us : List Token5) → IsWord (codes "for") t → (Quiet us → AfterWord (λ i at. for_statement i inside at) ts us) → StatClaim inside top (t ∷ ts) us
 unfolding statement compound_statement jump_statement
 for-claim inside top t ts us e a = word-claim inside top (λ i at. for_statement i inside at) t ts us (at-kind (λ u. next_is ends_case (u ∷ ts) ≡ false) t (Word (codes "for")) e refl) (quiet-kind t ts (Word (codes "for")) e refl)
-  (λ i last. at-kind (λ u. statement i inside top (record { tokens = u ∷ ts; last = last }) ≡ for_statement i inside u.begin (record { tokens = ts; last = u.end })) t (Word (codes "for")) e refl) a
+    (λ i last. at-kind (λ u. statement i inside top (record { tokens = u ∷ ts; last = last }) ≡ for_statement i inside u.begin (record { tokens = ts; last = u.end })) t (Word (codes "for")) e refl) a
 
 pub switch-claim : (inside top : Bool) (t : Token5) (ts us : List Token5) → IsWord (codes "switch") t → (Quiet us → AfterWord (λ i at. switch_statement i inside at) ts us) → StatClaim inside top (t ∷ ts) us
 unfolding statement compound_statement jump_statement
 switch-claim inside top t ts us e a = word-claim inside top (λ i at. switch_statement i inside at) t ts us (at-kind (λ u. next_is ends_case (u ∷ ts) ≡ false) t (Word (codes "switch")) e refl) (quiet-kind t ts (Word (codes "switch")) e refl)
-  (λ i last. at-kind (λ u. statement i inside top (record { tokens = u ∷ ts; last = last }) ≡ switch_statement i inside u.begin (record { tokens = ts; last = u.end })) t (Word (codes "switch")) e refl) a
+    (λ i last. at-kind (λ u. statement i inside top (record { tokens = u ∷ ts; last = last }) ≡ switch_statement i inside u.begin (record { tokens = ts; last = u.end })) t (Word (codes "switch")) e refl) a
 
 pub try-claim : (inside top : Bool) (t : Token5) (ts us : List Token5) → IsWord (codes "try") t → (Quiet us → AfterWord (λ i at. try_statement i inside at) ts us) → StatClaim inside top (t ∷ ts) us
 unfolding statement compound_statement jump_statement
 try-claim inside top t ts us e a = word-claim inside top (λ i at. try_statement i inside at) t ts us (at-kind (λ u. next_is ends_case (u ∷ ts) ≡ false) t (Word (codes "try")) e refl) (quiet-kind t ts (Word (codes "try")) e refl)
-  (λ i last. at-kind (λ u. statement i inside top (record { tokens = u ∷ ts; last = last }) ≡ try_statement i inside u.begin (record { tokens = ts; last = u.end })) t (Word (codes "try")) e refl) a
+    (λ i last. at-kind (λ u. statement i inside top (record { tokens = u ∷ ts; last = last }) ≡ try_statement i inside u.begin (record { tokens = ts; last = u.end })) t (Word (codes "try")) e refl) a
 
 pub continue-claim : (inside top : Bool) (t : Token5) (ts us : List Token5) → IsWord (codes "continue") t → (Quiet us → AfterWord (λ i at. continue_statement i at) ts us) → StatClaim inside top (t ∷ ts) us
 unfolding statement compound_statement jump_statement
 continue-claim inside top t ts us e a = word-claim inside top (λ i at. continue_statement i at) t ts us (at-kind (λ u. next_is ends_case (u ∷ ts) ≡ false) t (Word (codes "continue")) e refl) (quiet-kind t ts (Word (codes "continue")) e refl)
-  (λ i last. at-kind (λ u. statement i inside top (record { tokens = u ∷ ts; last = last }) ≡ continue_statement i u.begin (record { tokens = ts; last = u.end })) t (Word (codes "continue")) e refl) a
+    (λ i last. at-kind (λ u. statement i inside top (record { tokens = u ∷ ts; last = last }) ≡ continue_statement i u.begin (record { tokens = ts; last = u.end })) t (Word (codes "continue")) e refl) a
 
 pub break-claim : (inside top : Bool) (t : Token5) (ts us : List Token5) → IsWord (codes "break") t → (Quiet us → AfterWord (λ i at. break_statement i at) ts us) → StatClaim inside top (t ∷ ts) us
 unfolding statement compound_statement jump_statement
 break-claim inside top t ts us e a = word-claim inside top (λ i at. break_statement i at) t ts us (at-kind (λ u. next_is ends_case (u ∷ ts) ≡ false) t (Word (codes "break")) e refl) (quiet-kind t ts (Word (codes "break")) e refl)
-  (λ i last. at-kind (λ u. statement i inside top (record { tokens = u ∷ ts; last = last }) ≡ break_statement i u.begin (record { tokens = ts; last = u.end })) t (Word (codes "break")) e refl) a
+    (λ i last. at-kind (λ u. statement i inside top (record { tokens = u ∷ ts; last = last }) ≡ break_statement i u.begin (record { tokens = ts; last = u.end })) t (Word (codes "break")) e refl) a
 
 pub throw-claim : (inside top : Bool) (t : Token5) (ts us : List Token5) → IsWord (codes "throw") t → (Quiet us → AfterWord (λ i at. throw_statement i at) ts us) → StatClaim inside top (t ∷ ts) us
 unfolding statement compound_statement jump_statement
 throw-claim inside top t ts us e a = word-claim inside top (λ i at. throw_statement i at) t ts us (at-kind (λ u. next_is ends_case (u ∷ ts) ≡ false) t (Word (codes "throw")) e refl) (quiet-kind t ts (Word (codes "throw")) e refl)
-  (λ i last. at-kind (λ u. statement i inside top (record { tokens = u ∷ ts; last = last }) ≡ throw_statement i u.begin (record { tokens = ts; last = u.end })) t (Word (codes "throw")) e refl) a
+    (λ i last. at-kind (λ u. statement i inside top (record { tokens = u ∷ ts; last = last }) ≡ throw_statement i u.begin (record { tokens = ts; last = u.end })) t (Word (codes "throw")) e refl) a
 
 pub debugger-claim : (inside top : Bool) (t : Token5) (ts us : List Token5) → IsWord (codes "debugger") t → (Quiet us → AfterWord (λ i at. debugger_statement i at) ts us) → StatClaim inside top (t ∷ ts) us
 unfolding statement compound_statement jump_statement
 debugger-claim inside top t ts us e a = word-claim inside top (λ i at. debugger_statement i at) t ts us (at-kind (λ u. next_is ends_case (u ∷ ts) ≡ false) t (Word (codes "debugger")) e refl) (quiet-kind t ts (Word (codes "debugger")) e refl)
-  (λ i last. at-kind (λ u. statement i inside top (record { tokens = u ∷ ts; last = last }) ≡ debugger_statement i u.begin (record { tokens = ts; last = u.end })) t (Word (codes "debugger")) e refl) a
+    (λ i last. at-kind (λ u. statement i inside top (record { tokens = u ∷ ts; last = last }) ≡ debugger_statement i u.begin (record { tokens = ts; last = u.end })) t (Word (codes "debugger")) e refl) a
 
 pub return-claim : (top : Bool) (t : Token5) (ts us : List Token5) → IsWord (codes "return") t → (Quiet us → AfterWord (λ i at. return_statement i at) ts us) → StatClaim true top (t ∷ ts) us
 unfolding statement compound_statement jump_statement
 return-claim top t ts us e a = word-claim true top (λ i at. return_statement i at) t ts us (at-kind (λ u. next_is ends_case (u ∷ ts) ≡ false) t (Word (codes "return")) e refl) (quiet-kind t ts (Word (codes "return")) e refl)
-  (λ i last. at-kind (λ u. statement i true top (record { tokens = u ∷ ts; last = last }) ≡ return_statement i u.begin (record { tokens = ts; last = u.end })) t (Word (codes "return")) e refl) a
+    (λ i last. at-kind (λ u. statement i true top (record { tokens = u ∷ ts; last = last }) ≡ return_statement i u.begin (record { tokens = ts; last = u.end })) t (Word (codes "return")) e refl) a
 
 function-word : (inside : Bool) (i : Inner5) (t : Token5) (ts : List Token5) (last : ℕ) → IsWord (codes "function") t → statement i inside true (record { tokens = t ∷ ts; last = last }) ≡ declaration i t.begin (record { tokens = ts; last = t.end })
 unfolding statement compound_statement jump_statement plain_statement
@@ -160,7 +139,7 @@ function-word false i t ts last e = at-kind (λ u. statement i false true (recor
 pub declaration-claim : (inside : Bool) {ts us : List Token5} (x : Identifier5) → FunctionClaim ts (Some x) us → StatClaim inside true ts us
 unfolding declaration
 declaration-claim inside x (named_claim {t = t} {ts = ts} {us = us} {vs = vs} w d p h) = word-claim inside true (λ i at. declaration i at) t ts vs (at-kind (λ u. next_is ends_case (u ∷ ts) ≡ false) t (Word (codes "function")) w refl) (quiet-kind t ts (Word (codes "function")) w refl)
-  (λ i last. function-word inside i t ts last w) (λ k. then_ h (λ n f r y at last. bind-reads _ (d last) (λ z m _. bind-reads _ (y at (Some z) m) (λ g j _. reads_ tt))))
+    (λ i last. function-word inside i t ts last w) (λ k. then_ h (λ n f r y at last. bind-reads _ (d last) (λ z m _. bind-reads _ (y at (Some z) m) (λ g j _. reads_ tt))))
 
 -- ## Blocks
 
@@ -190,12 +169,12 @@ stats-none inside top c us p = turn (always {P = λ n f r. Unit {0}} (λ n f r. 
 pub case-no-brace : (ts : List Token5) → next_is ends_case ts ≡ false → Misses (mark (codes "}")) ts
 case-no-brace [] h = tt
 case-no-brace (t ∷ ts) h = mark-miss (codes "}") t (or_false (is_word (codes "case") t.kind || is_word (codes "default") t.kind) (is_mark (codes "}") t.kind)
-  (or_false ((is_word (codes "case") t.kind || is_word (codes "default") t.kind) || is_mark (codes "}") t.kind) (is_inserted t.kind) h).0).1
+    (or_false ((is_word (codes "case") t.kind || is_word (codes "default") t.kind) || is_mark (codes "}") t.kind) (is_inserted t.kind) h).0).1
 
 pub stats-next : (inside top : Bool) (ts us vs : List Token5) → StatClaim inside top ts us → Quiet us → StatsRead inside top us vs → StatsRead inside top ts vs
 unfolding statements
 stats-next inside top ts us vs x q h = turn (pair (open-statement inside top ts us x q) h) (λ n f r y last. on-miss (mark (codes "}")) _ _ ts last (case-no-brace ts x.first)
-  (bind-reads _ (y.0 last) (λ z m _. bind-reads _ (y.1 m) (λ w j _. reads_ tt))))
+    (bind-reads _ (y.0 last) (λ z m _. bind-reads _ (y.1 m) (λ w j _. reads_ tt))))
 
 -- ## Variables
 
@@ -236,14 +215,14 @@ end-comma t h = mark-miss (codes ",") t (end-false (is_mark (codes ",")) t.kind 
 pub var-reads : (ts : List Token5) (e : Token5) (us : List Token5) → DeclaredItems false ts (e ∷ us) → IsEnd e → AfterWord (λ i at. var_statement i at) ts us
 unfolding var_statement
 var-reads ts e us d h = begin (list-reads false (λ f r. one_declared (R f r) false) (λ vs ws x. x) d (closes-up false 0 1 (e ∷ us) (omega arith) (closes-end false us e h)) (end-comma e h)) (λ n f r x at last.
-  bind-reads _ (at-fuel (λ m. declared_list (one_declared (R f r) false) m) Any ts (e ∷ us) f r x last) (λ y m _. bind-reads _ (semicolon-reads (R f r) e us m h) (λ u j _. reads_ tt)))
+    bind-reads _ (at-fuel (λ m. declared_list (one_declared (R f r) false) m) Any ts (e ∷ us) f r x last) (λ y m _. bind-reads _ (semicolon-reads (R f r) e us m h) (λ u j _. reads_ tt)))
 
 -- ## If
 
 pub paren-reads : (o : Token5) (ts : List Token5) (c : Token5) (us : List Token5) → IsMark (codes "(") o → Claim false 0 ts (c ∷ us) → IsMark (codes ")") c → Eventually (λ n f r. Reads (parenthesized (R f r)) Any (o ∷ ts) us)
 unfolding parenthesized
 paren-reads o ts c us p x q = both opened (open-sequence false ts (c ∷ us) x (closes-close false us c q)) (λ n f r a y last. group-hit (R f r) _ _ _ o ts last (is-mark-true (codes "(") o p) a
-  (bind-reads _ (y o.end) (λ z m _. bind-reads _ (take-mark (codes ")") c us m q) (λ w j _. reads_ tt))))
+    (bind-reads _ (y o.end) (λ z m _. bind-reads _ (take-mark (codes ")") c us m q) (λ w j _. reads_ tt))))
 
 pub record ConditionClaim (inside : Bool) (ts us : List Token5) : Type 0 where
   pub begins_if : (t : Token5) × (vs : List Token5) × (ts ≡ t ∷ vs) × IsWord (codes "if") t
@@ -254,7 +233,7 @@ unfolding condition
 condition-claim inside t o ts c us vs w p x q s = record {
   begins_if = (t, o ∷ ts, refl, w);
   reads = λ k. both (paren-reads o ts c us p x q) (open-statement inside false us vs s k) (λ n f r y z last.
-    bind-reads _ (take-word (codes "if") t (o ∷ ts) last w) (λ u m _. bind-reads _ (y m) (λ v j _. bind-reads _ (z j) (λ b i _. reads_ tt))));
+      bind-reads _ (take-word (codes "if") t (o ∷ ts) last w) (λ u m _. bind-reads _ (y m) (λ v j _. bind-reads _ (z j) (λ b i _. reads_ tt))));
 }
 
 if-next : {inside : Bool} {ts us : List Token5} → ConditionClaim inside ts us → next_is (next_word (codes "if")) ts ≡ true
@@ -285,12 +264,12 @@ no-if (t ∷ ts) h = h
 pub last-else : (inside : Bool) (ts : List Token5) (e : Token5) (us vs : List Token5) → ConditionClaim inside ts (e ∷ us) → IsWord (codes "else") e → begins (is_word (codes "if")) us ≡ false → StatClaim inside false us vs → IfClaim inside ts vs
 unfolding otherwise
 last-else inside ts e us vs c w h s = if_claim c (inl (quiet-else e us w)) (λ q. turn (open-statement inside false us vs s q) (λ n f r x last. on-hit (word (codes "else")) _ _ e e us last (word-hit (codes "else") e w)
-  (if-false _ _ _ us e.end (no-if us h) (bind-reads _ (x e.end) (λ y m _. reads_ tt)))))
+    (if-false _ _ _ us e.end (no-if us h) (bind-reads _ (x e.end) (λ y m _. reads_ tt)))))
 
 pub else-if : (inside : Bool) (ts : List Token5) (e : Token5) (us vs : List Token5) → ConditionClaim inside ts (e ∷ us) → IsWord (codes "else") e → IfClaim inside us vs → IfClaim inside ts vs
 unfolding otherwise
 else-if inside ts e us vs c w (if_claim {us = ws} d k o) = if_claim c (inl (quiet-else e us w)) (λ q. turn (pair (d.reads (middle k q)) (o q)) (λ n f r x last. on-hit (word (codes "else")) _ _ e e us last (word-hit (codes "else") e w)
-  (if-true _ _ _ us e.end (if-next d) (bind-reads _ (x.0 e.end) (λ y m _. bind-reads _ (x.1 m) (λ z j _. reads_ tt))))))
+    (if-true _ _ _ us e.end (if-next d) (bind-reads _ (x.0 e.end) (λ y m _. bind-reads _ (x.1 m) (λ z j _. reads_ tt))))))
   where
     middle : Quiet ws ⊎ (ws ≡ vs) → Quiet vs → Quiet ws
     middle (inl h) q = h
@@ -302,11 +281,12 @@ if-claim inside top (if_claim {ts = ts} {us = us} {vs = vs} c k o) = record {
   first = subst (λ zs. next_is ends_case zs ≡ false) (sym c.begins_if.2) (at-kind (λ u. next_is ends_case (u ∷ c.begins_if.1) ≡ false) c.begins_if.0 (Word (codes "if")) c.begins_if.3 refl);
   quiet = subst (λ zs. Quiet zs) (sym c.begins_if.2) (quiet-kind c.begins_if.0 c.begins_if.1 (Word (codes "if")) c.begins_if.3 refl);
   reads = λ q. both (c.reads (middle k q)) (begin (o q) (λ n f r x. at-fuel (λ m. otherwise (R f r) inside m) Any us vs f r x)) (λ n f r x y last.
-    if-false _ _ _ ts last no-brace (if-true _ _ _ ts last (if-next c) (bind-reads _ (x last) (λ z m _. bind-reads _ (y m) (λ w j _. reads_ tt)))));
+      if-false _ _ _ ts last no-brace (if-true _ _ _ ts last (if-next c) (bind-reads _ (x last) (λ z m _. bind-reads _ (y m) (λ w j _. reads_ tt)))));
 }
   where
     middle : Quiet us ⊎ (us ≡ vs) → Quiet vs → Quiet us
     middle (inl h) q = h
     middle (inr h) q = subst (λ zs. Quiet zs) (sym h) q
+
     no-brace : next_is (next_mark (codes "{")) ts ≡ false
     no-brace = subst (λ zs. next_is (next_mark (codes "{")) zs ≡ false) (sym c.begins_if.2) (subst (λ k. is_mark (codes "{") k ≡ false) (sym c.begins_if.3) refl)

@@ -1,8 +1,7 @@
 -- What single tokens are to the readers of expressions: what begins one, and what goes on with none.
-use Rattle.std.proofs.Common.{◌≡◌, ◌⊎◌, inl, inr, ℕ, zero, suc, ◌+◌, ◌≤◌, Bool, true, false, ◌&&◌, ◌||◌, not, cond, List, [], ◌∷◌, Option, Some, None, refl, sym, ap, subst, ◌∙◌, arith, eqb-true, eq-eqb}
+use Rattle.std.proofs.Common.{◌≡◌, ℕ, suc, ◌+◌, ◌≤◌, Bool, true, false, ◌&&◌, ◌||◌, not, cond, List, [], ◌∷◌, Option, Some, None, refl, sym, ap, subst, ◌∙◌, arith, eqb-true, eq-eqb}
 use Rattle.std.proofs.lemmas.Bool.{false≢true, true≢false}
 use Rattle.std.specs.Prelude.{codes, ◌==◌}
-use Rattle.std.specs.List.{list_any}
 use Rattle.std.specs.Str.{bytes_eq}
 use Rattle.es5_ast.specs.declared.operators.UnaryOperator5.{UnaryOperator5}
 use Rattle.es5_ast.specs.declared.operators.UnaryOperator5.TheVariants.{Delete, Void, Typeof, Plus, Minus, BitNot, Not}
@@ -14,10 +13,10 @@ use Rattle.es5_ast.specs.declared.operators.AssignOperator5.{AssignOperator5}
 use Rattle.es5_ast.specs.declared.operators.AssignOperator5.TheVariants as assign
 use Rattle.es5_ast.specs.Lexical.{Kind5, Word, Integer, Text, Punctuator, Inserted, Token5, is_one_of, reserved_words}
 use Rattle.es5_ast.specs.Grammar.{is_word, is_mark, ends, is_identifier, is_in, is_before, unary_kind, update_kind, assign_kind, binary_kind, binary_level}
-use Rattle.es5_reading.specs.Parser.{kept_if, mark, word, next_is, next_mark, next_word}
+use Rattle.es5_reading.specs.Parser.{kept_if, mark, word, next_is, next_mark}
 use Rattle.es5_reading.specs.Expressions.{same_kind, look_up, unary_operators, unary_at, before_at, unless, after_at, assign_operators, assign_at, binary_operators, operator_of_level, binary_at}
 use Rattle.es5_reading.proofs.Posts.{Misses}
-use Rattle.es5_reading.proofs.Meanings.{same_bytes, bytes_eq-refl, or_false, not_true, some_same}
+use Rattle.es5_reading.proofs.Meanings.{same_bytes, not_true}
 
 -- what holds of a token with a kind holds of one that has that kind
 pub at-kind : (P : Token5 → Type 0) (t : Token5) (k : Kind5) → t.kind ≡ k → P (record { begin = t.begin; end = t.end; after_line = t.after_line; kind = k }) → P t
@@ -109,9 +108,16 @@ look-up-none f (x ∷ xs) k h = cond-false (same_kind (f x) k) (Some x) (look_up
 
 pub operand-no-unary : (t : Token5) → Operand t.kind → unary_at t ≡ None
 unfolding operand_words operand_marks unary_operators reserved_words
-operand-no-unary t h = look-up-none unary_kind unary_operators t.kind
-  (operand-no-word (codes "delete") t.kind refl refl h, (operand-no-word (codes "void") t.kind refl refl h, (operand-no-word (codes "typeof") t.kind refl refl h,
-  (operand-no-mark (codes "+") t.kind refl h, (operand-no-mark (codes "-") t.kind refl h, (operand-no-mark (codes "~") t.kind refl h, (operand-no-mark (codes "!") t.kind refl h, tt)))))))
+operand-no-unary t h = look-up-none unary_kind unary_operators t.kind (
+  operand-no-word (codes "delete") t.kind refl refl h,
+  (
+    operand-no-word (codes "void") t.kind refl refl h,
+    (
+      operand-no-word (codes "typeof") t.kind refl refl h,
+      (operand-no-mark (codes "+") t.kind refl h, (operand-no-mark (codes "-") t.kind refl h, (operand-no-mark (codes "~") t.kind refl h, (operand-no-mark (codes "!") t.kind refl h, tt)))),
+    ),
+  ),
+)
 
 pub operand-no-before : (t : Token5) → Operand t.kind → before_at t ≡ None
 unfolding operand_marks
@@ -376,7 +382,7 @@ closes-operator j ts t op level e l = at-kind (λ u. Closes j (level + 1) (u ∷
   paren = λ m. h.paren;
   after = λ m. unless-none t.after_line (look_up update_kind (IncrementAfter ∷ DecrementAfter ∷ []) (binary_kind op)) h.after;
   operator = λ level' m n. ap (λ o. operator_of_level j level' o) h.found ∙ unless-true (not (binary_level op == level') || (j && is_in op)) (Some op)
-    (ap (λ b. not b || (j && is_in op)) (other-level op level' (below level' m)));
+      (ap (λ b. not b || (j && is_in op)) (other-level op level' (below level' m)));
   question = λ m. mark-miss (codes "?") (record { begin = t.begin; end = t.end; after_line = t.after_line; kind = binary_kind op }) h.question;
   assigns = λ m. h.assigns;
   comma = λ m. mark-miss (codes ",") (record { begin = t.begin; end = t.end; after_line = t.after_line; kind = binary_kind op }) h.comma;
@@ -384,6 +390,7 @@ closes-operator j ts t op level e l = at-kind (λ u. Closes j (level + 1) (u ∷
   where
     h : OperatorTests op
     h = operator-tests op
+
     below : (level' : ℕ) → level + 1 ≤ level' → suc (binary_level op) ≤ level'
     below level' m = omega (arith, l)
 
@@ -395,4 +402,4 @@ eq-same a b e = subst (λ c. (a == c) ≡ true) e (self a)
 
 pub binary-hit : (j : Bool) (level : ℕ) (t : Token5) (op : BinaryOperator5) → t.kind ≡ binary_kind op → binary_level op ≡ level → (j && is_in op) ≡ false → binary_at j level t ≡ Some op
 binary-hit j level t op e l n = ap (λ k. operator_of_level j level (look_up binary_kind binary_operators k)) e ∙ ap (λ o. operator_of_level j level o) (operator-tests op).found
-  ∙ unless-false (not (binary_level op == level) || (j && is_in op)) (Some op) (ap (λ b. not b || (j && is_in op)) (eq-same (binary_level op) level l) ∙ n)
+    ∙ unless-false (not (binary_level op == level) || (j && is_in op)) (Some op) (ap (λ b. not b || (j && is_in op)) (eq-same (binary_level op) level l) ∙ n)

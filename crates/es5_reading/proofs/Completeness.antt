@@ -1,6 +1,5 @@
 -- What the grammar derives is read, if loops have turns enough and constructs enough may open. No semicolon is inserted.
-use Rattle.std.proofs.Common.{◌≡◌, ◌⊎◌, inl, inr, ℕ, zero, suc, ◌+◌, ◌≤◌, Bool, true, false, List, [], ◌∷◌, Option, Some, None, refl, sym, ap, subst, ◌∙◌, arith}
-use Rattle.std.proofs.lemmas.Bool.{false≢true, true≢false}
+use Rattle.std.proofs.Common.{◌≡◌, ℕ, ◌≤◌, Bool, true, false, List, [], ◌∷◌, Option, Some, None, refl, sym, ap, subst, ◌∙◌, arith}
 use Rattle.std.specs.Prelude.{codes}
 use Rattle.es_text.specs.declared.Span.{Span}
 use Rattle.es5_ast.specs.declared.tree.Identifier5.{Identifier5}
@@ -18,7 +17,7 @@ use Rattle.es5_ast.specs.declared.tree.Element5.{Element5}
 use Rattle.es5_ast.specs.declared.tree.Property5.{Property5}
 use Rattle.es5_ast.specs.declared.tree.Link5.{Link5}
 use Rattle.es5_ast.specs.declared.tree.Operand5.{Operand5}
-use Rattle.es5_ast.specs.Lexical.{Token5, Kind5, Word}
+use Rattle.es5_ast.specs.Lexical.{Token5}
 use Rattle.es5_ast.specs.Grammar as g
 use Rattle.es5_ast.specs.Grammar.{Mode5, IsExpr, IsNode, IsNewCallee, AreElements, AreProperties, IsProperty, IsAccessor, AreLinks, AreArguments, AreOperands, AreParts, IsFunction, AreStats, IsStat, IsBlock, AreDeclared, IsDeclared, IsIf, IsCondition, IsForFirst, IsOptional, IsClosed, IsLabel, IsReturned, AreCases, AreInCase, IsCatch, IsProgram, IsIdentifier, IsMark, IsWord, IsEnd, is_mark, chain_level}
 use Rattle.es5_reading.specs.Parser.{next_is, next_mark}

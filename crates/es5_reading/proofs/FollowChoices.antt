@@ -1,18 +1,13 @@
 -- The relation of a run that inserts semicolons to one over the filled tokens, at each choice and at a semicolon.
-use Rattle.std.proofs.Common.{◌≡◌, ℕ, zero, suc, Bool, true, false, ◌||◌, List, [], ◌∷◌, ◌++◌, Option, Some, None, refl, sym, ap, subst, ◌∙◌, append_assoc}
+use Rattle.std.proofs.Common.{◌≡◌, ℕ, zero, Bool, true, false, List, [], ◌∷◌, ◌++◌, Option, None, refl, sym, ap, subst, ◌∙◌}
 use Rattle.std.proofs.lemmas.Bool.{false≢true, true≢false}
-use Rattle.std.specs.Prelude.{codes}
-use Rattle.es_text.specs.declared.Span.{Span}
-use Rattle.es5_ast.specs.declared.tree.Property5.{Property5}
-use Rattle.es5_ast.specs.declared.tree.Declared5.{Declared5}
-use Rattle.es5_ast.specs.declared.tree.Stat5.{Stat5}
-use Rattle.es5_ast.specs.Lexical.{Token5, Kind5, Inserted}
+use Rattle.es5_ast.specs.Lexical.{Token5}
 use Rattle.es5_ast.specs.Grammar.{begin_of, end_of, ends, is_mark, IsMark}
-use Rattle.es5_reading.specs.Parser.{Input5, Stop5, Syntax, Depth, Outcome5, Took, Fault, Parser, after, ◌>>=◌, on, on_next, on_taken, choose, next_is, if_next, take_as, fails, returns, kept_if, mark, next_mark, from, made, Read5, Inner5, on_group, group, is_insertable, inserts, ending, semicolon}
-use Rattle.es5_reading.proofs.Posts.{Holds, took, fault, of_took, bind, weaken, Taken, taken, Misses, on-holds, choose-holds, if-holds}
+use Rattle.es5_reading.specs.Parser.{Input5, Stop5, Syntax, Depth, Outcome5, Took, Parser, on, on_taken, choose, next_is, if_next, take_as, fails, returns, kept_if, mark, next_mark, from, Inner5, on_group, is_insertable, inserts, ending, semicolon}
+use Rattle.es5_reading.proofs.Posts.{Holds, took, fault, of_took, weaken, Taken, taken, Misses, on-holds, choose-holds, if-holds}
 use Rattle.es5_reading.proofs.Derived.{Next, next, group-holds}
 use Rattle.es5_reading.proofs.Meanings.{bytes_eq-refl}
-use Rattle.es5_reading.proofs.Follows.{plus, semi, SameHead, nothing, same, Near, near_end, near_same, near_semi, near, Never, Dead, Gaps, stop, keep, insert, Followed, same-followed, taken-followed, returns-followed, bind-follows}
+use Rattle.es5_reading.proofs.Follows.{plus, semi, SameHead, nothing, same, Near, near_end, near_same, near_semi, Never, Dead, Gaps, stop, keep, insert, Followed, same-followed, taken-followed, returns-followed}
 
 -- ## Taking a token
 
@@ -28,8 +23,8 @@ on-hit test p q {d = d} {x = x} {y = y} (taken {t = t} {ts = ts} {last = last} e
 pub on-follows : {A B : Type 0} (test : Token5 → Option B) (semi-misses : (b e : ℕ) (a : Bool) → test (semi b e a) ≡ None) (p : B → Parser A) (p' : ℕ → B → Parser A) (q : Parser A) (q' : ℕ → Parser A) (s : Input5)
     → ((x : B) (c : Input5) → Taken test s x c → Holds (Followed (λ l. p' l x) c) (p x c)) → (Misses test s.tokens → Holds (Followed q' s) (q s)) → Holds (Followed (λ l. on test (p' l) (q' l)) s) (on test p q s)
 on-follows test sm p p' q q' s f g = on-holds test p q s
-  (λ x c h. weaken (f x c h) (λ y d r. on-hit test p' q' h r))
-  (λ m. weaken (g m) (λ y d r. same-followed _ _ s d y (λ l us n. on-missed test sm (p' l) (q' l) s.last n m) r))
+    (λ x c h. weaken (f x c h) (λ y d r. on-hit test p' q' h r))
+    (λ m. weaken (g m) (λ y d r. same-followed _ _ s d y (λ l us n. on-missed test sm (p' l) (q' l) s.last n m) r))
 
 pub take-follows : {B : Type 0} (test : Token5 → Option B) (semi-misses : (b e : ℕ) (a : Bool) → test (semi b e a) ≡ None) (s : Input5) → Holds (Followed (λ l. take_as test) s) (take_as test s)
 take-follows test sm s = on-follows test sm _ _ _ _ s (λ x c h. took (returns-followed x c)) (λ m. fault)
@@ -103,24 +98,24 @@ false-firm {A = A} test p q s c x stops h r = at s.tokens s.last h r
 pub if-follows : {A : Type 0} (test : Token5 → Bool) (semi-fails : (b e : ℕ) (a : Bool) → test (semi b e a) ≡ false) (p : Parser A) (p' : ℕ → Parser A) (q : Parser A) (q' : ℕ → Parser A) (s : Input5) → StopsAtSemi p'
     → (next_is test s.tokens ≡ true → Holds (Followed p' s) (p s)) → (next_is test s.tokens ≡ false → Holds (Followed q' s) (q s)) → Holds (Followed (λ l. if_next test (p' l) (q' l)) s) (if_next test p q s)
 if-follows test sm p p' q q' s stops f g = if-holds test p q s
-  (λ h. weaken (f h) (λ y d r. true-firm test p' q' s d y stops h r))
-  (λ h. weaken (g h) (λ y d r. same-followed _ _ s d y (λ l us n. if-value test (p' l) (q' l) false us s.last (near-next test false sm n h)) r))
+    (λ h. weaken (f h) (λ y d r. true-firm test p' q' s d y stops h r))
+    (λ h. weaken (g h) (λ y d r. same-followed _ _ s d y (λ l us n. if-value test (p' l) (q' l) false us s.last (near-next test false sm n h)) r))
 
 -- a test that each semicolon passes, and else a reader that begins with none
 pub if-semi-follows : {A : Type 0} (test : Token5 → Bool) (semi-passes : (b e : ℕ) (a : Bool) → test (semi b e a) ≡ true) (p : Parser A) (p' : ℕ → Parser A) (q : Parser A) (q' : ℕ → Parser A) (s : Input5) → StopsAtSemi q'
     → (next_is test s.tokens ≡ true → Holds (Followed p' s) (p s)) → (next_is test s.tokens ≡ false → Holds (Followed q' s) (q s)) → Holds (Followed (λ l. if_next test (p' l) (q' l)) s) (if_next test p q s)
 if-semi-follows test sm p p' q q' s stops f g = if-holds test p q s
-  (λ h. weaken (f h) (λ y d r. same-followed _ _ s d y (λ l us n. if-value test (p' l) (q' l) true us s.last (near-next test true sm n h)) r))
-  (λ h. weaken (g h) (λ y d r. false-firm test p' q' s d y stops h r))
+    (λ h. weaken (f h) (λ y d r. same-followed _ _ s d y (λ l us n. if-value test (p' l) (q' l) true us s.last (near-next test true sm n h)) r))
+    (λ h. weaken (g h) (λ y d r. false-firm test p' q' s d y stops h r))
 
 -- ## Groups and places
 
 group-takes : {A : Type 0} (i : Inner5) (p : List ℕ) (inside otherwise : Parser A) (t : Token5) (us : List Token5) (last : ℕ) → is_mark p t.kind ≡ true → i.may_open ≡ true
     → on_group i p inside otherwise (record { tokens = t ∷ us; last = last }) ≡ inside (record { tokens = us; last = t.end })
 group-takes i p inside otherwise t us last e m =
-  ap (λ v. choose v (choose i.may_open (on (mark p) (λ u. inside) otherwise) (fails Depth)) otherwise (record { tokens = t ∷ us; last = last })) e
-  ∙ ap (λ v. choose v (on (mark p) (λ u. inside) otherwise) (fails Depth) (record { tokens = t ∷ us; last = last })) m
-  ∙ ap (λ v. on_taken (kept_if v t) t us (λ u. inside) otherwise (record { tokens = t ∷ us; last = last })) e
+    ap (λ v. choose v (choose i.may_open (on (mark p) (λ u. inside) otherwise) (fails Depth)) otherwise (record { tokens = t ∷ us; last = last })) e
+    ∙ ap (λ v. choose v (on (mark p) (λ u. inside) otherwise) (fails Depth) (record { tokens = t ∷ us; last = last })) m
+    ∙ ap (λ v. on_taken (kept_if v t) t us (λ u. inside) otherwise (record { tokens = t ∷ us; last = last })) e
 
 group-skips : {A : Type 0} (i : Inner5) (p : List ℕ) (inside otherwise : Parser A) (us : List Token5) (last : ℕ) → next_is (next_mark p) us ≡ false
     → on_group i p inside otherwise (record { tokens = us; last = last }) ≡ otherwise (record { tokens = us; last = last })
@@ -135,8 +130,8 @@ group-hit i p inside otherwise {d = d} {y = y} o (next {t = t} {ts = ts} {last =
 pub group-follows : {A : Type 0} (i : Inner5) (i' : ℕ → Inner5) (p : List ℕ) (inside : Parser A) (inside' : ℕ → Parser A) (otherwise : Parser A) (otherwise' : ℕ → Parser A) (s : Input5) → (i.may_open ≡ true → (l : ℕ) → (i' l).may_open ≡ true)
     → (i.may_open ≡ true → (c : Input5) → Holds (Followed inside' c) (inside c)) → (next_is (next_mark p) s.tokens ≡ false → Holds (Followed otherwise' s) (otherwise s)) → Holds (Followed (λ l. on_group (i' l) p (inside' l) (otherwise' l)) s) (on_group i p inside otherwise s)
 group-follows i i' p inside inside' otherwise otherwise' s opens f g = group-holds i p inside otherwise s
-  (λ o c n. weaken (f o c) (λ y d r. group-hit i' p inside' otherwise' (opens o) n r))
-  (λ m. weaken (g m) (λ y d r. same-followed _ _ s d y (λ l us n. group-skips (i' l) p (inside' l) (otherwise' l) us s.last (near-next (next_mark p) false (λ b e a. refl) n m)) r))
+    (λ o c n. weaken (f o c) (λ y d r. group-hit i' p inside' otherwise' (opens o) n r))
+    (λ m. weaken (g m) (λ y d r. same-followed _ _ s d y (λ l us n. group-skips (i' l) p (inside' l) (otherwise' l) us s.last (near-next (next_mark p) false (λ b e a. refl) n m)) r))
 
 -- where the place of the begin counts nothing before a semicolon
 abbrev pub PlaceFree : {A : Type 0} → (ℕ → ℕ → Parser A) → Type 0
@@ -181,7 +176,7 @@ semicolon-none : (i : Inner5) (ts : List Token5) (last : ℕ) → i.inserting �
 unfolding semicolon
 semicolon-none i [] last e m = choose-holds inserts (fails Syntax) i.inserting (record { tokens = []; last = last }) (λ h. absurd (true≢false (sym h ∙ e))) (λ h. fault)
 semicolon-none i (t ∷ ts) last e m = subst (λ o. Never (on_taken o t ts (λ u. returns tt) (choose i.inserting inserts (fails Syntax)) (record { tokens = t ∷ ts; last = last }))) (sym m)
-  (choose-holds inserts (fails Syntax) i.inserting (record { tokens = t ∷ ts; last = last }) (λ h. absurd (true≢false (sym h ∙ e))) (λ h. fault))
+    (choose-holds inserts (fails Syntax) i.inserting (record { tokens = t ∷ ts; last = last }) (λ h. absurd (true≢false (sym h ∙ e))) (λ h. fault))
 
 misses-same : {ts us : List Token5} → SameHead ts us → Misses ending ts → Misses ending us
 misses-same nothing m = m
@@ -199,8 +194,8 @@ semicolon-put i' s plain m n = record {
 pub semicolon-follows : (i : Inner5) (i' : ℕ → Inner5) (f : Follows i i') (s : Input5) → Holds (Followed (λ l. semicolon (i' l)) s) (semicolon i s)
 unfolding semicolon
 semicolon-follows i i' f s = on-holds ending _ _ s
-  (λ u c h. took (on-hit ending (λ l u. returns tt) (λ l. choose (i' l).inserting inserts (fails Syntax)) h (returns-followed tt c)))
-  (λ m. choose-holds inserts (fails Syntax) i.inserting s
+    (λ u c h. took (on-hit ending (λ l u. returns tt) (λ l. choose (i' l).inserting inserts (fails Syntax)) h (returns-followed tt c)))
+    (λ m. choose-holds inserts (fails Syntax) i.inserting s
     (λ h. choose-holds (returns tt) (fails Syntax) (is_insertable s.tokens) s (λ n. took (semicolon-put i' s f.plain m n)) (λ n. fault))
     (λ h. fault))
 

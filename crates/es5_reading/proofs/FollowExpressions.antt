@@ -1,19 +1,16 @@
 -- The readers of expressions with insertion follow those without it.
-use Rattle.std.proofs.Common.{◌≡◌, ℕ, zero, suc, ◌+◌, Bool, true, false, List, [], ◌∷◌, ◌++◌, Option, Some, None, refl, sym, ap, subst, ◌∙◌}
+use Rattle.std.proofs.Common.{ℕ, zero, suc, Bool, true, false, List, [], ◌∷◌, Option, Some, None, refl, ap}
 use Rattle.std.specs.Prelude.{codes}
-use Rattle.es_text.specs.declared.Span.{Span}
 use Rattle.es5_ast.specs.declared.tree.Identifier5.{Identifier5}
 use Rattle.es5_ast.specs.declared.tree.PlacedKey5.{PlacedKey5}
 use Rattle.es5_ast.specs.declared.tree.Expr5.{Expr5}
 use Rattle.es5_ast.specs.declared.tree.Link5.{Link5}
 use Rattle.es5_ast.specs.declared.tree.Function5.{Function5, roll-Function5}
-use Rattle.es5_ast.specs.Lexical.{Token5, Kind5, Inserted}
-use Rattle.es5_ast.specs.Grammar.{begin_of}
-use Rattle.es5_reading.specs.Parser.{Input5, Stop5, Syntax, Depth, Outcome5, Took, Fault, Parser, after, ◌>>=◌, on, choose, next_is, if_next, take_as, fails, returns, mark, word, next_mark, from, made, Read5, is_left, Inner5, on_group, group}
-use Rattle.es5_reading.specs.Expressions.{any_name, free_name, literal_at, key_at, accessor_at, unary_at, before_at, unless, look_up, after_at, assign_at, binary_at, begins_division, identifier, key, more_parameters, parameters, statements, body, rest_of_function, function_expression, no_parameter, one_parameter, accessor_parameters, accessor_function, accessor, value_of_key, plain_property, after_accessor_word, one_property, properties, elements, more_arguments, arguments, grouped, no_expression, bracketed, primary, after_callee, head, member_link, index_link, call_link, links, chained, chain, postfix, prefixed, updated, unary, operands, operated, binary_from, branches, conditional, assigned, assignment, parts, more_parts, sequence, unary_operators, binary_operators, assign_operators}
-use Rattle.es5_reading.proofs.Posts.{Holds, took, fault, if-holds}
-use Rattle.es5_reading.proofs.Follows.{plus, semi, Never, Followed, bind-follows}
-use Rattle.es5_reading.proofs.FollowChoices.{on-follows, take-follows, choose-follows, StopsAtSemi, if-follows, group-follows, PlaceFree, from-follows, made-follows, returns-follows, spelled-follows, Follows}
+use Rattle.es5_reading.specs.Parser.{Input5, Parser, ◌>>=◌, on, choose, take_as, returns, mark, word, made, Read5, Inner5, on_group, group}
+use Rattle.es5_reading.specs.Expressions.{any_name, free_name, literal_at, key_at, identifier, key, more_parameters, parameters, statements, body, rest_of_function, function_expression, no_parameter, one_parameter, accessor_parameters, accessor_function, accessor, properties, elements, more_arguments, arguments, grouped, no_expression, bracketed, primary, after_callee, head, member_link, index_link, call_link, links}
+use Rattle.es5_reading.proofs.Posts.{Holds, fault, if-holds}
+use Rattle.es5_reading.proofs.Follows.{plus, Followed, bind-follows}
+use Rattle.es5_reading.proofs.FollowChoices.{on-follows, take-follows, StopsAtSemi, if-follows, group-follows, from-follows, made-follows, returns-follows, spelled-follows, Follows}
 
 abbrev pub Runs : {A : Type 0} → (ℕ → Parser A) → Parser A → Input5 → Type 0
 Runs p' p s = Holds (Followed p' s) (p s)
@@ -34,8 +31,8 @@ accessor_function_from i setter at = ◌>>=◌ (group i (codes "(") (accessor_pa
 
 abbrev links_from : Inner5 → Bool → Parser (List Link5) → ℕ → Parser (List Link5)
 links_from i calls more at = on (mark (codes ".")) (λ _. ◌>>=◌ (member_link at) (λ l. ◌>>=◌ more (λ ls. returns (l ∷ ls))))
-  (on_group i (codes "[") (◌>>=◌ (index_link i at) (λ l. ◌>>=◌ more (λ ls. returns (l ∷ ls))))
-  (choose calls (on_group i (codes "(") (◌>>=◌ (call_link i at) (λ l. ◌>>=◌ more (λ ls. returns (l ∷ ls)))) (returns [])) (returns [])))
+    (on_group i (codes "[") (◌>>=◌ (index_link i at) (λ l. ◌>>=◌ more (λ ls. returns (l ∷ ls))))
+    (choose calls (on_group i (codes "(") (◌>>=◌ (call_link i at) (λ l. ◌>>=◌ more (λ ls. returns (l ∷ ls)))) (returns [])) (returns [])))
 
 pub follow-identifier : (s : Input5) → Runs (λ l. identifier) identifier s
 unfolding identifier
@@ -49,14 +46,14 @@ follow-more-parameters : (turns : ℕ) (s : Input5) → Runs (λ l. more_paramet
 unfolding more_parameters
 follow-more-parameters zero s = fault
 follow-more-parameters (suc turns) s = bind-follows _ _ _ _ s (follow-identifier s) (λ x c. on-follows (mark (codes ",")) (λ b e a. refl) _ _ _ _ c
-  (λ t d h. bind-follows _ _ _ _ d (follow-more-parameters turns d) (λ xs k. returns-follows _ k))
-  (λ m. bind-follows _ _ _ _ c (mark-follows _ c) (λ t d. returns-follows _ d)))
+    (λ t d h. bind-follows _ _ _ _ d (follow-more-parameters turns d) (λ xs k. returns-follows _ k))
+    (λ m. bind-follows _ _ _ _ c (mark-follows _ c) (λ t d. returns-follows _ d)))
 
 module _ (i : Inner5) (i' : ℕ → Inner5) (f : Follows i i') where
   follow-parameters : (s : Input5) → Runs (λ l. parameters (i' l)) (parameters i) s
   unfolding parameters
   follow-parameters s = on-follows (mark (codes ")")) (λ b e a. refl) _ _ _ _ s (λ t c h. returns-follows _ c)
-    (λ m. spelled-follows _ (λ l. more_parameters (plus i.fuel l)) s (λ l. ap (λ n. more_parameters n) (f.fuel l)) (follow-more-parameters i.fuel s))
+      (λ m. spelled-follows _ (λ l. more_parameters (plus i.fuel l)) s (λ l. ap (λ n. more_parameters n) (f.fuel l)) (follow-more-parameters i.fuel s))
 
   -- ## Functions
 
@@ -64,7 +61,7 @@ module _ (i : Inner5) (i' : ℕ → Inner5) (f : Follows i i') where
   unfolding statements
   follow-statements inside top zero s = fault
   follow-statements inside top (suc turns) s = on-follows (mark (codes "}")) (λ b e a. refl) _ _ _ _ s (λ t c h. returns-follows _ c)
-    (λ m. bind-follows _ _ _ _ s (f.statement inside top s) (λ x c. bind-follows _ _ _ _ c (follow-statements inside top turns c) (λ xs d. returns-follows _ d)))
+      (λ m. bind-follows _ _ _ _ s (f.statement inside top s) (λ x c. bind-follows _ _ _ _ c (follow-statements inside top turns c) (λ xs d. returns-follows _ d)))
 
   pub follow-braced : (inside top : Bool) (s : Input5) → Runs (λ l. statements (i' l) inside top (i' l).fuel) (statements i inside top i.fuel) s
   follow-braced inside top s = spelled-follows _ (λ l. statements (i' l) inside top (plus i.fuel l)) s (λ l. ap (λ n. statements (i' l) inside top n) (f.fuel l)) (follow-statements inside top i.fuel s)
@@ -76,7 +73,7 @@ module _ (i : Inner5) (i' : ℕ → Inner5) (f : Follows i i') where
   pub follow-rest : (at : ℕ) (name : Option Identifier5) (s : Input5) → Runs (λ l. rest_of_function (i' l) at name) (rest_of_function i at name) s
   unfolding rest_of_function
   follow-rest at name s = bind-follows _ _ _ _ s (group-follows i i' _ _ _ _ _ s f.opens (λ o c. follow-parameters c) (λ m. fault)) (λ xs c.
-    bind-follows _ _ _ _ c (follow-body c) (λ ss d. made-follows _ d (λ _ _ _. refl)))
+      bind-follows _ _ _ _ c (follow-body c) (λ ss d. made-follows _ d (λ _ _ _. refl)))
 
   rest-stops : (at : ℕ) (name : Option Identifier5) → StopsAtSemi (λ l. rest_of_function (i' l) at name)
   unfolding rest_of_function
@@ -85,7 +82,7 @@ module _ (i : Inner5) (i' : ℕ → Inner5) (f : Follows i i') where
   pub follow-function : (at : ℕ) (s : Input5) → Runs (λ l. function_expression (i' l) at) (function_expression i at) s
   unfolding function_expression
   follow-function at s = if-follows _ (λ b e a. refl) _ _ _ _ s (rest-stops at None) (λ h. follow-rest at None s)
-    (λ h. bind-follows _ _ _ _ s (follow-identifier s) (λ x c. follow-rest at (Some x) c))
+      (λ h. bind-follows _ _ _ _ s (follow-identifier s) (λ x c. follow-rest at (Some x) c))
 
   -- ## Literals
 
@@ -97,7 +94,7 @@ module _ (i : Inner5) (i' : ℕ → Inner5) (f : Follows i i') where
   follow-accessor-function : (setter : Bool) (s : Input5) → Runs (λ l. accessor_function (i' l) setter) (accessor_function i setter) s
   unfolding accessor_function
   follow-accessor-function setter s = from-follows (accessor_function_from i setter) (λ l. accessor_function_from (i' l) setter) s (λ l at at' b e a us last. refl)
-    (bind-follows _ _ _ _ s (group-follows i i' _ _ _ _ _ s f.opens (λ o c. follow-accessor-parameters setter c) (λ m. fault)) (λ xs c. bind-follows _ _ _ _ c (follow-body c) (λ ss d. made-follows _ d (λ _ _ _. refl))))
+      (bind-follows _ _ _ _ s (group-follows i i' _ _ _ _ _ s f.opens (λ o c. follow-accessor-parameters setter c) (λ m. fault)) (λ xs c. bind-follows _ _ _ _ c (follow-body c) (λ ss d. made-follows _ d (λ _ _ _. refl))))
 
   pub follow-accessor : (at : ℕ) (setter : Bool) (s : Input5) → Runs (λ l. accessor (i' l) at setter) (accessor i at setter) s
   unfolding accessor
@@ -107,7 +104,7 @@ module _ (i : Inner5) (i' : ℕ → Inner5) (f : Follows i i') where
   unfolding properties
   follow-properties zero s = fault
   follow-properties (suc turns) s = on-follows (mark (codes "}")) (λ b e a. refl) _ _ _ _ s (λ t c h. returns-follows _ c) (λ m. bind-follows _ _ _ _ s (f.property s) (λ x c.
-    on-follows (mark (codes ",")) (λ b e a. refl) _ _ _ _ c
+      on-follows (mark (codes ",")) (λ b e a. refl) _ _ _ _ c
       (λ t d h. bind-follows _ _ _ _ d (follow-properties turns d) (λ xs k. returns-follows _ k))
       (λ m. bind-follows _ _ _ _ c (mark-follows _ c) (λ t d. returns-follows _ d))))
 
@@ -115,22 +112,22 @@ module _ (i : Inner5) (i' : ℕ → Inner5) (f : Follows i i') where
   unfolding elements
   follow-elements zero s = fault
   follow-elements (suc turns) s = on-follows (mark (codes "]")) (λ b e a. refl) _ _ _ _ s (λ t c h. returns-follows _ c) (λ m.
-    on-follows (mark (codes ",")) (λ b e a. refl) _ _ _ _ s (λ t c h. bind-follows _ _ _ _ c (follow-elements turns c) (λ xs d. returns-follows _ d))
+      on-follows (mark (codes ",")) (λ b e a. refl) _ _ _ _ s (λ t c h. bind-follows _ _ _ _ c (follow-elements turns c) (λ xs d. returns-follows _ d))
       (λ m. bind-follows _ _ _ _ s (f.assignment false s) (λ x c. on-follows (mark (codes ",")) (λ b e a. refl) _ _ _ _ c
-        (λ t d h. bind-follows _ _ _ _ d (follow-elements turns d) (λ xs k. returns-follows _ k))
-        (λ m. bind-follows _ _ _ _ c (mark-follows _ c) (λ t d. returns-follows _ d)))))
+      (λ t d h. bind-follows _ _ _ _ d (follow-elements turns d) (λ xs k. returns-follows _ k))
+      (λ m. bind-follows _ _ _ _ c (mark-follows _ c) (λ t d. returns-follows _ d)))))
 
   follow-more-arguments : (turns : ℕ) (s : Input5) → Runs (λ l. more_arguments (i' l) (plus turns l)) (more_arguments i turns) s
   unfolding more_arguments
   follow-more-arguments zero s = fault
   follow-more-arguments (suc turns) s = bind-follows _ _ _ _ s (f.assignment false s) (λ x c. on-follows (mark (codes ",")) (λ b e a. refl) _ _ _ _ c
-    (λ t d h. bind-follows _ _ _ _ d (follow-more-arguments turns d) (λ xs k. returns-follows _ k))
-    (λ m. bind-follows _ _ _ _ c (mark-follows _ c) (λ t d. returns-follows _ d)))
+      (λ t d h. bind-follows _ _ _ _ d (follow-more-arguments turns d) (λ xs k. returns-follows _ k))
+      (λ m. bind-follows _ _ _ _ c (mark-follows _ c) (λ t d. returns-follows _ d)))
 
   follow-arguments : (s : Input5) → Runs (λ l. arguments (i' l)) (arguments i) s
   unfolding arguments
   follow-arguments s = on-follows (mark (codes ")")) (λ b e a. refl) _ _ _ _ s (λ t c h. returns-follows _ c)
-    (λ m. spelled-follows _ (λ l. more_arguments (i' l) (plus i.fuel l)) s (λ l. ap (λ n. more_arguments (i' l) n) (f.fuel l)) (follow-more-arguments i.fuel s))
+      (λ m. spelled-follows _ (λ l. more_arguments (i' l) (plus i.fuel l)) s (λ l. ap (λ n. more_arguments (i' l) n) (f.fuel l)) (follow-more-arguments i.fuel s))
 
   -- ## Primary expressions
 
@@ -141,18 +138,18 @@ module _ (i : Inner5) (i' : ℕ → Inner5) (f : Follows i i') where
   follow-bracketed : (at : ℕ) (s : Input5) → Runs (λ l. bracketed (i' l) at) (bracketed i at) s
   unfolding bracketed
   follow-bracketed at s = group-follows i i' _ _ _ _ _ s f.opens
-    (λ o c. bind-follows _ _ _ _ c (spelled-follows _ (λ l. elements (i' l) (plus i.fuel l)) c (λ l. ap (λ n. elements (i' l) n) (f.fuel l)) (follow-elements i.fuel c)) (λ xs d. made-follows _ d (λ _ _ _. refl)))
-    (λ m. group-follows i i' _ _ _ _ _ s f.opens
+      (λ o c. bind-follows _ _ _ _ c (spelled-follows _ (λ l. elements (i' l) (plus i.fuel l)) c (λ l. ap (λ n. elements (i' l) n) (f.fuel l)) (follow-elements i.fuel c)) (λ xs d. made-follows _ d (λ _ _ _. refl)))
+      (λ m. group-follows i i' _ _ _ _ _ s f.opens
       (λ o c. bind-follows _ _ _ _ c (spelled-follows _ (λ l. properties (i' l) (plus i.fuel l)) c (λ l. ap (λ n. properties (i' l) n) (f.fuel l)) (follow-properties i.fuel c)) (λ xs d. made-follows _ d (λ _ _ _. refl)))
       (λ m. follow-none s))
 
   follow-primary : (at : ℕ) (s : Input5) → Runs (λ l. primary (i' l) at) (primary i at) s
   unfolding primary grouped
   follow-primary at s = on-follows (word (codes "this")) (λ b e a. refl) _ _ _ _ s (λ t c h. made-follows _ c (λ _ _ _. refl)) (λ m.
-    on-follows free_name (λ b e a. refl) _ _ _ _ s (λ name c h. made-follows _ c (λ _ _ _. refl)) (λ m.
-    on-follows literal_at (λ b e a. refl) _ _ _ _ s (λ value c h. made-follows _ c (λ _ _ _. refl)) (λ m.
-    on-follows (word (codes "function")) (λ b e a. refl) _ _ _ _ s (λ t c h. bind-follows _ _ _ _ c (follow-function at c) (λ g d. returns-follows _ d)) (λ m.
-    group-follows i i' _ _ _ _ _ s f.opens (λ o c. bind-follows _ _ _ _ c (f.sequence false c) (λ x d. bind-follows _ _ _ _ d (mark-follows _ d) (λ t k. returns-follows _ k))) (λ m. follow-bracketed at s)))))
+      on-follows free_name (λ b e a. refl) _ _ _ _ s (λ name c h. made-follows _ c (λ _ _ _. refl)) (λ m.
+      on-follows literal_at (λ b e a. refl) _ _ _ _ s (λ value c h. made-follows _ c (λ _ _ _. refl)) (λ m.
+      on-follows (word (codes "function")) (λ b e a. refl) _ _ _ _ s (λ t c h. bind-follows _ _ _ _ c (follow-function at c) (λ g d. returns-follows _ d)) (λ m.
+      group-follows i i' _ _ _ _ _ s f.opens (λ o c. bind-follows _ _ _ _ c (f.sequence false c) (λ x d. bind-follows _ _ _ _ d (mark-follows _ d) (λ t k. returns-follows _ k))) (λ m. follow-bracketed at s)))))
 
   -- ## Left-hand-side expressions
 
@@ -180,14 +177,14 @@ module _ (i : Inner5) (i' : ℕ → Inner5) (f : Follows i i') where
   unfolding links
   follow-links calls zero s = fault
   follow-links true (suc turns) s = from-follows (links_from i true (links i true turns)) (λ l. links_from (i' l) true (links (i' l) true (plus turns l))) s (λ l at at' b e a us last. refl) (on-follows (mark (codes ".")) (λ b e a. refl) _ _ _ _ s
-    (λ t c h. bind-follows _ _ _ _ c (follow-member _ c) (λ x d. bind-follows _ _ _ _ d (follow-links true turns d) (λ xs k. returns-follows _ k)))
-    (λ m. group-follows i i' _ _ _ _ _ s f.opens
+      (λ t c h. bind-follows _ _ _ _ c (follow-member _ c) (λ x d. bind-follows _ _ _ _ d (follow-links true turns d) (λ xs k. returns-follows _ k)))
+      (λ m. group-follows i i' _ _ _ _ _ s f.opens
       (λ o c. bind-follows _ _ _ _ c (follow-index _ c) (λ x d. bind-follows _ _ _ _ d (follow-links true turns d) (λ xs k. returns-follows _ k)))
       (λ m. group-follows i i' _ _ _ _ _ s f.opens
-        (λ o c. bind-follows _ _ _ _ c (follow-call _ c) (λ x d. bind-follows _ _ _ _ d (follow-links true turns d) (λ xs k. returns-follows _ k)))
-        (λ m. returns-follows _ s))))
+      (λ o c. bind-follows _ _ _ _ c (follow-call _ c) (λ x d. bind-follows _ _ _ _ d (follow-links true turns d) (λ xs k. returns-follows _ k)))
+      (λ m. returns-follows _ s))))
   follow-links false (suc turns) s = from-follows (links_from i false (links i false turns)) (λ l. links_from (i' l) false (links (i' l) false (plus turns l))) s (λ l at at' b e a us last. refl) (on-follows (mark (codes ".")) (λ b e a. refl) _ _ _ _ s
-    (λ t c h. bind-follows _ _ _ _ c (follow-member _ c) (λ x d. bind-follows _ _ _ _ d (follow-links false turns d) (λ xs k. returns-follows _ k)))
-    (λ m. group-follows i i' _ _ _ _ _ s f.opens
+      (λ t c h. bind-follows _ _ _ _ c (follow-member _ c) (λ x d. bind-follows _ _ _ _ d (follow-links false turns d) (λ xs k. returns-follows _ k)))
+      (λ m. group-follows i i' _ _ _ _ _ s f.opens
       (λ o c. bind-follows _ _ _ _ c (follow-index _ c) (λ x d. bind-follows _ _ _ _ d (follow-links false turns d) (λ xs k. returns-follows _ k)))
       (λ m. returns-follows _ s)))

@@ -1,31 +1,23 @@
 -- The readers of operators with insertion follow those without it.
-use Rattle.std.proofs.Common.{◌≡◌, ℕ, zero, suc, ◌+◌, Bool, true, false, List, [], ◌∷◌, ◌++◌, Option, Some, None, refl, sym, ap, subst, ◌∙◌}
+use Rattle.std.proofs.Common.{◌≡◌, ℕ, zero, suc, ◌+◌, Bool, true, false, List, ◌∷◌, Option, None, refl, sym, ap, ◌∙◌}
 use Rattle.std.specs.Prelude.{codes}
-use Rattle.es_text.specs.declared.Span.{Span}
-use Rattle.es5_ast.specs.declared.tree.Identifier5.{Identifier5}
 use Rattle.es5_ast.specs.declared.tree.PlacedKey5.{PlacedKey5}
-use Rattle.es5_ast.specs.declared.tree.Expr5.{Expr5}
-use Rattle.es5_ast.specs.declared.tree.Link5.{Link5}
-use Rattle.es5_ast.specs.declared.tree.Function5.{Function5, roll-Function5}
-use Rattle.es5_ast.specs.Lexical.{Token5, Kind5, Inserted}
+use Rattle.es5_ast.specs.Lexical.{Token5}
 use Rattle.es5_ast.specs.Grammar.{begin_of}
-use Rattle.es5_reading.specs.Parser.{Input5, Stop5, Syntax, Depth, Outcome5, Took, Fault, Parser, after, ◌>>=◌, on, choose, next_is, if_next, take_as, fails, returns, mark, word, next_mark, from, made, Read5, is_left, Inner5, on_group, group}
-use Rattle.es5_reading.specs.Expressions.{any_name, free_name, literal_at, key_at, accessor_at, unary_at, before_at, unless, look_up, after_at, assign_at, binary_at, begins_division, identifier, key, more_parameters, parameters, statements, body, rest_of_function, function_expression, no_parameter, one_parameter, accessor_parameters, accessor_function, accessor, value_of_key, plain_property, after_accessor_word, one_property, properties, elements, more_arguments, arguments, grouped, no_expression, bracketed, primary, after_callee, head, member_link, index_link, call_link, links, chained, chain, postfix, prefixed, updated, unary, operands, operated, binary_from, branches, conditional, assigned, assignment, parts, more_parts, sequence, unary_operators, binary_operators, assign_operators}
-use Rattle.es5_reading.proofs.Posts.{Holds, took, fault, if-holds}
-use Rattle.es5_reading.proofs.Follows.{plus, semi, Never, Followed, bind-follows}
-use Rattle.es5_reading.proofs.FollowChoices.{on-follows, take-follows, choose-follows, StopsAtSemi, if-follows, group-follows, PlaceFree, from-follows, made-follows, returns-follows, spelled-follows, Follows}
+use Rattle.es5_reading.specs.Parser.{Input5, Syntax, Fault, Parser, after, ◌>>=◌, on, choose, returns, mark, made, Read5, is_left, Inner5}
+use Rattle.es5_reading.specs.Expressions.{accessor_at, unary_at, before_at, after_at, assign_at, binary_at, key, accessor, value_of_key, plain_property, after_accessor_word, one_property, no_expression, bracketed, primary, head, links, chained, chain, postfix, prefixed, updated, unary, operands, operated, binary_from, branches, conditional, assigned, assignment, parts, more_parts, sequence, unary_operators, binary_operators, assign_operators}
+use Rattle.es5_reading.proofs.Posts.{fault}
+use Rattle.es5_reading.proofs.Follows.{plus, semi, bind-follows}
+use Rattle.es5_reading.proofs.FollowChoices.{on-follows, choose-follows, from-follows, made-follows, returns-follows, spelled-follows, Follows}
 use Rattle.es5_reading.proofs.FollowExpressions.{Runs, mark-follows, follow-key, follow-head, follow-links, follow-accessor}
 use Rattle.es5_ast.specs.declared.operators.Key5.TheVariants as keys
-use Rattle.es5_ast.specs.declared.operators.UpdateOperator5.TheVariants.{IncrementAfter, DecrementAfter}
 use Rattle.es5_ast.specs.declared.tree.Expr5.TheVariants as expr
 use Rattle.es5_ast.specs.declared.tree.Property5.{Property5}
-use Rattle.es5_ast.specs.declared.tree.Operand5.{Operand5}
 use Rattle.es5_ast.specs.declared.operators.UnaryOperator5.{UnaryOperator5}
 use Rattle.es5_ast.specs.declared.operators.UpdateOperator5.{UpdateOperator5}
 use Rattle.es5_ast.specs.declared.operators.BinaryOperator5.{BinaryOperator5}
 use Rattle.es5_ast.specs.declared.operators.AssignOperator5.{AssignOperator5}
 use Rattle.es5_reading.specs.Expressions.{other, accessor_name}
-use Rattle.es5_ast.specs.Grammar.{update_kind}
 
 -- ## No expression begins with an inserted semicolon
 
@@ -116,47 +108,47 @@ follow-operands : (operand : Parser Read5) (operand' : ℕ → Parser Read5) (h 
 unfolding operands
 follow-operands operand operand' h k level zero s = fault
 follow-operands operand operand' h k level (suc turns) s = on-follows (binary_at k level) (binary-none k level) _ _ _ _ s
-  (λ op c t. bind-follows _ _ _ _ c (h c) (λ x d. bind-follows _ _ _ _ d (follow-operands operand operand' h k level turns d) (λ rest e. returns-follows _ e)))
-  (λ m. returns-follows _ s)
+    (λ op c t. bind-follows _ _ _ _ c (h c) (λ x d. bind-follows _ _ _ _ d (follow-operands operand operand' h k level turns d) (λ rest e. returns-follows _ e)))
+    (λ m. returns-follows _ s)
 
 module _ (i : Inner5) (i' : ℕ → Inner5) (f : Follows i i') where
   pub follow-chain : (calls : Bool) (s : Input5) → Runs (λ l. chain (i' l) calls) (chain i calls) s
   unfolding chain
   follow-chain calls s = from-follows (chain_from i calls) (λ l. chain_from (i' l) calls) s (λ l at at' b e a us last. chain-semi (i' l) calls at b e a us last ∙ sym (chain-semi (i' l) calls at' b e a us last))
-    (bind-follows _ _ _ _ s (follow-head i i' f (begin_of s.tokens) s) (λ x c.
+      (bind-follows _ _ _ _ s (follow-head i i' f (begin_of s.tokens) s) (λ x c.
       bind-follows _ _ _ _ c (spelled-follows _ (λ l. links (i' l) calls (plus i.fuel l)) c (λ l. ap (λ n. links (i' l) calls n) (f.fuel l)) (follow-links i i' f calls i.fuel c)) (λ ls d. made-follows _ d (λ _ _ _. refl))))
 
   follow-postfix : (s : Input5) → Runs (λ l. postfix (i' l)) (postfix i) s
   unfolding postfix
   follow-postfix s = from-follows (postfix_from i) (λ l. postfix_from (i' l)) s (λ l at at' b e a us last. postfix-semi (i' l) at b e a us last ∙ sym (postfix-semi (i' l) at' b e a us last))
-    (bind-follows _ _ _ _ s (follow-chain true s) (λ x c. on-follows after_at after-none _ _ _ _ c (λ op d h. made-follows _ d (λ _ _ _. refl)) (λ m. returns-follows _ c)))
+      (bind-follows _ _ _ _ s (follow-chain true s) (λ x c. on-follows after_at after-none _ _ _ _ c (λ op d h. made-follows _ d (λ _ _ _. refl)) (λ m. returns-follows _ c)))
 
   pub follow-unary : (s : Input5) → Runs (λ l. unary (i' l)) (unary i) s
   unfolding unary prefixed updated
   follow-unary s = from-follows (unary_from i) (λ l. unary_from (i' l)) s (λ l at at' b e a us last. unary-semi (i' l) at b e a us last ∙ sym (unary-semi (i' l) at' b e a us last))
-    (on-follows unary_at unary-none _ _ _ _ s (λ op c h. bind-follows _ _ _ _ c (f.unary c) (λ x d. made-follows _ d (λ _ _ _. refl)))
+      (on-follows unary_at unary-none _ _ _ _ s (λ op c h. bind-follows _ _ _ _ c (f.unary c) (λ x d. made-follows _ d (λ _ _ _. refl)))
       (λ m. on-follows before_at (λ b e a. refl) _ _ _ _ s (λ op c h. bind-follows _ _ _ _ c (f.unary c) (λ x d. made-follows _ d (λ _ _ _. refl))) (λ m. follow-postfix s)))
 
   follow-binary : (k : Bool) (above level : ℕ) (s : Input5) → Runs (λ l. binary_from (i' l) k above level) (binary_from i k above level) s
   unfolding binary_from
   follow-binary k zero level s = follow-unary s
   follow-binary k (suc above) level s = from-follows (binary_body i k above level) (λ l. binary_body (i' l) k above level) s (λ l at at' b e a us last. binary-body-semi (i' l) k above level at b e a us last ∙ sym (binary-body-semi (i' l) k above level at' b e a us last))
-    (bind-follows _ _ _ _ s (follow-binary k above (level + 1) s) (λ x c. bind-follows _ _ _ _ c
+      (bind-follows _ _ _ _ s (follow-binary k above (level + 1) s) (λ x c. bind-follows _ _ _ _ c
       (spelled-follows _ (λ l. operands (binary_from (i' l) k above (level + 1)) k level (plus i.fuel l)) c (λ l. ap (λ n. operands (binary_from (i' l) k above (level + 1)) k level n) (f.fuel l))
-        (follow-operands (binary_from i k above (level + 1)) (λ l. binary_from (i' l) k above (level + 1)) (λ d. follow-binary k above (level + 1) d) k level i.fuel c))
+      (follow-operands (binary_from i k above (level + 1)) (λ l. binary_from (i' l) k above (level + 1)) (λ d. follow-binary k above (level + 1) d) k level i.fuel c))
       (λ rest d. made-follows _ d (λ _ _ _. refl))))
 
   follow-conditional : (k : Bool) (s : Input5) → Runs (λ l. conditional (i' l) k) (conditional i k) s
   unfolding conditional branches
   follow-conditional k s = from-follows (conditional_from i k) (λ l. conditional_from (i' l) k) s (λ l at at' b e a us last. conditional-semi (i' l) k at b e a us last ∙ sym (conditional-semi (i' l) k at' b e a us last))
-    (bind-follows _ _ _ _ s (follow-binary k 10 3 s) (λ x c. on-follows (mark (codes "?")) (λ b e a. refl) _ _ _ _ c
+      (bind-follows _ _ _ _ s (follow-binary k 10 3 s) (λ x c. on-follows (mark (codes "?")) (λ b e a. refl) _ _ _ _ c
       (λ t d h. bind-follows _ _ _ _ d (f.assignment false d) (λ y e. bind-follows _ _ _ _ e (mark-follows _ e) (λ u g. bind-follows _ _ _ _ g (f.assignment k g) (λ z j. made-follows _ j (λ _ _ _. refl)))))
       (λ m. returns-follows _ c)))
 
   pub follow-assignment : (k : Bool) (s : Input5) → Runs (λ l. assignment (i' l) k) (assignment i k) s
   unfolding assignment assigned
   follow-assignment k s = from-follows (assignment_from i k) (λ l. assignment_from (i' l) k) s (λ l at at' b e a us last. assignment-semi (i' l) k at b e a us last ∙ sym (assignment-semi (i' l) k at' b e a us last))
-    (bind-follows _ _ _ _ s (follow-conditional k s) (λ x c. choose-follows (is_left x.shape) _ _ _ _ c
+      (bind-follows _ _ _ _ s (follow-conditional k s) (λ x c. choose-follows (is_left x.shape) _ _ _ _ c
       (λ h. on-follows assign_at assign-none _ _ _ _ c (λ op d g. bind-follows _ _ _ _ d (f.assignment k d) (λ y e. made-follows _ e (λ _ _ _. refl))) (λ m. returns-follows _ c))
       (λ h. returns-follows _ c)))
 
@@ -164,12 +156,12 @@ module _ (i : Inner5) (i' : ℕ → Inner5) (f : Follows i i') where
   unfolding parts
   follow-parts k zero s = fault
   follow-parts k (suc turns) s = bind-follows _ _ _ _ s (follow-assignment k s) (λ x c. on-follows (mark (codes ",")) (λ b e a. refl) _ _ _ _ c
-    (λ t d h. bind-follows _ _ _ _ d (follow-parts k turns d) (λ xs e. returns-follows _ e)) (λ m. returns-follows _ c))
+      (λ t d h. bind-follows _ _ _ _ d (follow-parts k turns d) (λ xs e. returns-follows _ e)) (λ m. returns-follows _ c))
 
   pub follow-sequence : (k : Bool) (s : Input5) → Runs (λ l. sequence (i' l) k) (sequence i k) s
   unfolding sequence more_parts
   follow-sequence k s = from-follows (sequence_from i k) (λ l. sequence_from (i' l) k) s (λ l at at' b e a us last. sequence-from-semi (i' l) k at b e a us last ∙ sym (sequence-from-semi (i' l) k at' b e a us last))
-    (bind-follows _ _ _ _ s (follow-assignment k s) (λ x c. on-follows (mark (codes ",")) (λ b e a. refl) _ _ _ _ c
+      (bind-follows _ _ _ _ s (follow-assignment k s) (λ x c. on-follows (mark (codes ",")) (λ b e a. refl) _ _ _ _ c
       (λ t d h. bind-follows _ _ _ _ d (spelled-follows _ (λ l. parts (i' l) k (plus i.fuel l)) d (λ l. ap (λ n. parts (i' l) k n) (f.fuel l)) (follow-parts k i.fuel d)) (λ xs e. made-follows _ e (λ _ _ _. refl)))
       (λ m. returns-follows _ c)))
 
@@ -186,7 +178,7 @@ module _ (i : Inner5) (i' : ℕ → Inner5) (f : Follows i i') where
   follow-accessor-word : (at : ℕ) (setter : Bool) (s : Input5) → Runs (λ l. after_accessor_word (i' l) at setter) (after_accessor_word i at setter) s
   unfolding after_accessor_word
   follow-accessor-word at setter s = bind-follows _ _ _ _ s (made-follows (λ c. record { span = record { begin = at; end = c.last }; key = keys.WordKey (accessor_name setter) }) s (λ _ _ _. refl)) (λ k c.
-    on-follows (mark (codes ":")) (λ b e a. refl) (λ t. value_of_key i at k) (λ l t. value_of_key (i' l) at k) (accessor i at setter) (λ l. accessor (i' l) at setter) c (λ t d h. follow-value at k d) (λ m. follow-accessor i i' f at setter c))
+      on-follows (mark (codes ":")) (λ b e a. refl) (λ t. value_of_key i at k) (λ l t. value_of_key (i' l) at k) (accessor i at setter) (λ l. accessor (i' l) at setter) c (λ t d h. follow-value at k d) (λ m. follow-accessor i i' f at setter c))
 
   property-semi : (at : ℕ) (l b e : ℕ) (a : Bool) (us : List Token5) (last : ℕ) → property_from (i' l) at (at_semi b e a us last) ≡ Fault Syntax (semi b e a ∷ us)
   unfolding plain_property key
@@ -195,4 +187,4 @@ module _ (i : Inner5) (i' : ℕ → Inner5) (f : Follows i i') where
   pub follow-property : (s : Input5) → Runs (λ l. one_property (i' l)) (one_property i) s
   unfolding one_property
   follow-property s = from-follows (property_from i) (λ l. property_from (i' l)) s (λ l at at' b e a us last. property-semi at l b e a us last ∙ sym (property-semi at' l b e a us last))
-    (on-follows accessor_at (λ b e a. refl) _ _ _ _ s (λ setter c h. follow-accessor-word (begin_of s.tokens) setter c) (λ m. follow-plain (begin_of s.tokens) s))
+      (on-follows accessor_at (λ b e a. refl) _ _ _ _ s (λ setter c h. follow-accessor-word (begin_of s.tokens) setter c) (λ m. follow-plain (begin_of s.tokens) s))

@@ -1,11 +1,10 @@
 -- When a run that inserts semicolons is a run over the tokens with the semicolons put in, of the same reader without
 -- insertion. The reader without insertion is a family, in which more constructs may open and loops have more turns.
-use Rattle.std.proofs.Common.{◌≡◌, ℕ, zero, suc, Bool, true, false, List, [], ◌∷◌, ◌++◌, Option, Some, None, refl, sym, ap, subst, ◌∙◌, append_assoc}
-use Rattle.std.proofs.lemmas.Bool.{false≢true, true≢false}
-use Rattle.es5_ast.specs.Lexical.{Token5, Kind5, Inserted}
-use Rattle.es5_ast.specs.Grammar.{begin_of, end_of}
-use Rattle.es5_reading.specs.Parser.{Input5, Stop5, Outcome5, Took, Fault, Parser, after, ◌>>=◌, on, on_taken, choose, next_is, if_next, take_as, mark, next_mark, from, made, Inner5, on_group, group, is_insertable}
-use Rattle.es5_reading.proofs.Posts.{Holds, took, fault, of_took, bind, weaken, Taken, taken, Misses, on-holds, choose-holds, if-holds}
+use Rattle.std.proofs.Common.{◌≡◌, ℕ, zero, suc, Bool, true, false, List, [], ◌∷◌, ◌++◌, refl, sym, ap, subst, ◌∙◌, append_assoc}
+use Rattle.es5_ast.specs.Lexical.{Token5, Inserted}
+use Rattle.es5_ast.specs.Grammar.{end_of}
+use Rattle.es5_reading.specs.Parser.{Input5, Outcome5, Took, Parser, after, ◌>>=◌, is_insertable}
+use Rattle.es5_reading.proofs.Posts.{Holds, bind, weaken}
 use Rattle.es5_reading.proofs.Spans.{end-append}
 
 -- the sum, by recursion on the first number
@@ -78,7 +77,7 @@ gaps-map : (all : List Token5) (d e : List Token5 → List Token5 → Type 0) (l
 gaps-map all d e last f stop h = stop
 gaps-map all d e last {before = before} f (keep {t = t} g) h = keep (gaps-map all d e last f g (λ rest k. subst (λ us. Near all us) (sym (append_assoc before (t ∷ []) rest)) (h (t ∷ rest) same)))
 gaps-map all d e last {before = before} {ts = ts} f (insert at is k m g) h = insert at is (f before ts h k) m
-  (gaps-map all d e last f g (λ rest k. subst (λ us. Near all us) (sym (append_assoc before (semi at at false ∷ []) rest)) (seen-semi all before ts at at false h rest)))
+    (gaps-map all d e last f g (λ rest k. subst (λ us. Near all us) (sym (append_assoc before (semi at at false ∷ []) rest)) (seen-semi all before ts at at false h rest)))
 
 pub gaps-each : {d e : List Token5 → List Token5 → Type 0} {last : ℕ} {before ts us filled : List Token5} → ((before ts : List Token5) → d before ts → e before ts) → Gaps d last before ts us filled → Gaps e last before ts us filled
 gaps-each f stop = stop
@@ -119,21 +118,23 @@ bind-followed stands nears p q s b c x y r r' = record {
   filled = r.filled ++ r'.filled;
   ends = r'.ends ∙ ap (λ n. end_of n r'.filled) r.ends ∙ sym (end-append s.last r.filled r'.filled);
   gaps = gaps-append (Dead (λ l. ◌>>=◌ (p l) (q l)) s.last) s.last
-    (gaps-map s.tokens (Dead p s.last) (Dead (λ l. ◌>>=◌ (p l) (q l)) s.last) s.last (λ before ts seen dead l rest h. bind (dead l rest h) (λ z d e. absurd e)) r.gaps (seen-start s.tokens))
-    (subst (λ front. Gaps (Dead (λ l. ◌>>=◌ (p l) (q l)) s.last) s.last front b.tokens c.tokens r'.filled) (append-nil r.filled)
+      (gaps-map s.tokens (Dead p s.last) (Dead (λ l. ◌>>=◌ (p l) (q l)) s.last) s.last (λ before ts seen dead l rest h. bind (dead l rest h) (λ z d e. absurd e)) r.gaps (seen-start s.tokens))
+      (subst (λ front. Gaps (Dead (λ l. ◌>>=◌ (p l) (q l)) s.last) s.last front b.tokens c.tokens r'.filled) (append-nil r.filled)
       (gaps-shift (SeenDead) (Dead (λ l. ◌>>=◌ (p l) (q l)) s.last) b.last s.last r.filled r.ends later (gaps-map b.tokens (Dead (λ l. q l x) b.last) SeenDead b.last (λ before ts seen dead. (seen, dead)) r'.gaps (seen-start b.tokens))));
   run = λ l rest h. ap (λ ts. after (p l (record { tokens = ts; last = s.last })) (q l)) (append_assoc r.filled r'.filled rest)
-    ∙ ap (λ o. after o (q l)) (r.run l (r'.filled ++ rest) (near-through rest r'.gaps (nears c.tokens rest h))) ∙ r'.run l rest h;
+      ∙ ap (λ o. after o (q l)) (r.run l (r'.filled ++ rest) (near-through rest r'.gaps (nears c.tokens rest h))) ∙ r'.run l rest h;
 }
   where
     append-nil : (xs : List Token5) → xs ++ [] ≡ xs
     append-nil [] = refl
     append-nil (z ∷ xs) = ap (λ ys. z ∷ ys) (append-nil xs)
+
     SeenDead : List Token5 → List Token5 → Type 0
     SeenDead before ts = Seen b.tokens before ts × Dead (λ l. q l x) b.last before ts
+
     later : (before ts : List Token5) → SeenDead before ts → Dead (λ l. ◌>>=◌ (p l) (q l)) s.last (r.filled ++ before) ts
     later before ts (seen, dead) l rest h = subst (λ us. Never (after (p l (record { tokens = us; last = s.last })) (q l))) (sym (append_assoc r.filled before rest))
-      (subst (λ o. Never (after o (q l))) (sym (r.run l (before ++ rest) (seen rest h))) (dead l rest h))
+        (subst (λ o. Never (after o (q l))) (sym (r.run l (before ++ rest) (seen rest h))) (dead l rest h))
 
 pub bind-follows : {A B : Type 0} (p : Outcome5 A) (p' : ℕ → Parser A) (q : A → Parser B) (q' : ℕ → A → Parser B) (s : Input5)
     → Holds (Followed p' s) p → ((x : A) (c : Input5) → Holds (Followed (λ l. q' l x) c) (q x c)) → Holds (Followed (λ l. ◌>>=◌ (p' l) (q' l)) s) (after p q)

@@ -23,3 +23,4 @@ pub mod CompleteExpressions
 pub mod CompleteStatements
 pub mod CompleteCompound
 pub mod Completeness
+pub mod Filled

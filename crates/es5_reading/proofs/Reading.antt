@@ -1,9 +1,8 @@
 -- When a reader reads tokens up to others, if loops have turns enough and constructs enough may open.
-use Rattle.std.proofs.Common.{◌≡◌, ℕ, zero, suc, ◌+◌, ◌≤◌, Bool, true, false, List, [], ◌∷◌, Option, Some, None, refl, sym, ap, subst, ◌∙◌, arith}
-use Rattle.es_text.specs.declared.Span.{Span}
-use Rattle.es5_ast.specs.Lexical.{Token5, Kind5}
-use Rattle.es5_ast.specs.Grammar.{begin_of, is_mark}
-use Rattle.es5_reading.specs.Parser.{Input5, Stop5, Depth, Outcome5, Took, Fault, Parser, after, ◌>>=◌, on, on_taken, choose, next_is, if_next, fails, kept_if, mark, next_mark, from, made, Inner5, on_group}
+use Rattle.std.proofs.Common.{◌≡◌, ℕ, zero, suc, ◌+◌, ◌≤◌, Bool, true, false, List, [], ◌∷◌, Option, Some, refl, sym, ap, subst, ◌∙◌, arith}
+use Rattle.es5_ast.specs.Lexical.{Token5}
+use Rattle.es5_ast.specs.Grammar.{is_mark}
+use Rattle.es5_reading.specs.Parser.{Input5, Depth, Outcome5, Took, Parser, after, on, on_taken, choose, next_is, if_next, fails, kept_if, mark, next_mark, Inner5, on_group}
 use Rattle.es5_reading.proofs.Posts.{Misses}
 
 -- the outcome is such a value, and these tokens are left
@@ -51,9 +50,9 @@ choose-either false p q s x y = y refl
 group-is : {A : Type 0} (i : Inner5) (p : List ℕ) (inside otherwise : Parser A) (t : Token5) (us : List Token5) (last : ℕ) → is_mark p t.kind ≡ true → i.may_open ≡ true
     → on_group i p inside otherwise (record { tokens = t ∷ us; last = last }) ≡ inside (record { tokens = us; last = t.end })
 group-is i p inside otherwise t us last e m =
-  ap (λ v. choose v (choose i.may_open (on (mark p) (λ u. inside) otherwise) (fails Depth)) otherwise (record { tokens = t ∷ us; last = last })) e
-  ∙ ap (λ v. choose v (on (mark p) (λ u. inside) otherwise) (fails Depth) (record { tokens = t ∷ us; last = last })) m
-  ∙ ap (λ v. on_taken (kept_if v t) t us (λ u. inside) otherwise (record { tokens = t ∷ us; last = last })) e
+    ap (λ v. choose v (choose i.may_open (on (mark p) (λ u. inside) otherwise) (fails Depth)) otherwise (record { tokens = t ∷ us; last = last })) e
+    ∙ ap (λ v. choose v (on (mark p) (λ u. inside) otherwise) (fails Depth) (record { tokens = t ∷ us; last = last })) m
+    ∙ ap (λ v. on_taken (kept_if v t) t us (λ u. inside) otherwise (record { tokens = t ∷ us; last = last })) e
 
 pub group-hit : {A : Type 0} {Q : A → Type 0} {us : List Token5} (i : Inner5) (p : List ℕ) (inside otherwise : Parser A) (t : Token5) (ts : List Token5) (last : ℕ) → is_mark p t.kind ≡ true → i.may_open ≡ true → ReadsOf Q us (inside (record { tokens = ts; last = t.end })) → ReadsOf Q us (on_group i p inside otherwise (record { tokens = t ∷ ts; last = last }))
 group-hit i p inside otherwise t ts last e m r = reads-as (group-is i p inside otherwise t ts last e m) r
@@ -95,10 +94,13 @@ deeper {P = P} {Q = Q} e h = record { bound = suc e.bound; reads = λ t f r a b 
   where
     less : (n m : ℕ) → suc n ≤ m → n ≤ m
     less n m k = omega arith
+
     down : (n m : ℕ) → suc n ≤ suc m → n ≤ m
     down n m k = omega arith
+
     none : (n : ℕ) → suc n ≤ zero → ⊥
     none n k = omega arith
+
     at : (t f r : ℕ) → e.bound ≤ t → e.bound ≤ f → suc e.bound ≤ r → Q t f r
     at t f zero a b c = absurd (none e.bound c)
     at t f (suc r) a b c = h t f r (e.reads t f r a b (down e.bound r c))
@@ -109,10 +111,13 @@ turn {P = P} {Q = Q} e h = record { bound = suc e.bound; reads = λ t f r a b c.
   where
     less : (n m : ℕ) → suc n ≤ m → n ≤ m
     less n m k = omega arith
+
     down : (n m : ℕ) → suc n ≤ suc m → n ≤ m
     down n m k = omega arith
+
     none : (n : ℕ) → suc n ≤ zero → ⊥
     none n k = omega arith
+
     at : (t f r : ℕ) → suc e.bound ≤ t → e.bound ≤ f → e.bound ≤ r → Q t f r
     at zero f r a b c = absurd (none e.bound a)
     at (suc t) f r a b c = h t f r (e.reads t f r (down e.bound t a) b c)

@@ -1,9 +1,10 @@
 -- What is proved of the model, in the grammar's terms.
-use Rattle.std.specs.Prelude.{◌≡◌, ℕ, false, List}
+use Rattle.std.specs.Prelude.{◌≡◌, ℕ, ◌≤◌, true, false, List, []}
 use Rattle.es5_ast.specs.declared.tree.Stat5.{Stat5}
 use Rattle.es5_ast.specs.Lexical.{Token5}
-use Rattle.es5_ast.specs.Grammar.{Exact, IsProgram}
+use Rattle.es5_ast.specs.Grammar.{Mode5, Exact, IsProgram}
 use Rattle.es5_ast.specs.Depth.{ProgramWithin}
+use Rattle.es5_ast.specs.Script.{Fills}
 use Rattle.es5_reading.specs.Parser.{Input5, Took}
 use Rattle.es5_reading.specs.Programs.{readers, program}
 
@@ -13,3 +14,21 @@ abbrev pub IsSound : Type 0
 IsSound = (fuel room : ℕ) (tokens : List Token5) (last : ℕ) (statements : List Stat5) (after : Input5)
     → program (readers false fuel room) fuel (record { tokens = tokens; last = last }) ≡ Took statements after
     → (derived : IsProgram Exact tokens statements) × ProgramWithin derived room
+
+-- With inserted semicolons: the tokens with the semicolons put in are such that one stands only before a token that no
+-- program has there, and are a program's, with its spans; at most `room` constructs are open at once.
+pub record Reading5 (room : ℕ) (tokens : List Token5) (statements : List Stat5) : Type 0 where
+  pub filled : List Token5
+  pub fills : Fills [] tokens filled
+  pub derived : IsProgram Exact filled statements
+  pub within : ProgramWithin derived room
+
+abbrev pub IsFilled : Type 0
+IsFilled = (fuel room : ℕ) (tokens : List Token5) (statements : List Stat5) (after : Input5)
+    → program (readers true fuel room) fuel (record { tokens = tokens; last = 0 }) ≡ Took statements after → Reading5 room tokens statements
+
+-- Whatever the grammar derives, in any mode, is read to its end where loops have turns enough and constructs enough may open.
+abbrev pub IsComplete : Type 0
+IsComplete = (mode : Mode5) (tokens : List Token5) (statements : List Stat5) → IsProgram mode tokens statements
+    → (bound : ℕ) × ((fuel room last : ℕ) → bound ≤ fuel → bound ≤ room
+    → (read : List Stat5) × (end : ℕ) × (program (readers false fuel room) fuel (record { tokens = tokens; last = last }) ≡ Took read (record { tokens = []; last = end })))

@@ -4,9 +4,19 @@
 //! terms of the grammar of `es5_ast`. The functions here carry the laws as their contracts; they do nothing when they run.
 #![tactic(auto)]
 
-ghost use Rattle.es5_reading.specs.Laws.{IsSound};
+ghost use Rattle.es5_reading.specs.Laws.{IsSound, IsFilled, IsComplete};
 
 /// What is read without inserted semicolons is derived, with exact spans and with no more constructs open than may open.
 pub fn what_is_read_is_derived()
     ensures { IsSound }
+{}
+
+/// What the grammar derives is read to its end, if constructs enough may open.
+pub fn what_is_derived_is_read()
+    ensures { IsComplete }
+{}
+
+/// A semicolon is inserted only where no program goes on, and what is read so is derived from the filled tokens.
+pub fn semicolons_are_inserted_where_nothing_goes_on()
+    ensures { IsFilled }
 {}
