@@ -59,12 +59,12 @@ abbrev pub grouped : Bool → Write → Write
 grouped true w rest = mark (codes "(") (w (mark (codes ")") rest))
 grouped false w rest = w rest
 
--- whether a call with a site begins what is written
+-- whether a line may be broken before the first token, as it may where a call with a site begins
 abbrev pub begins_call : List Piece → Bool
 begins_call [] = false
 begins_call (Lexeme kind ∷ pieces) = false
 begins_call (Begins site ∷ pieces) = true
-begins_call (LineEnd ∷ pieces) = false
+begins_call (LineEnd ∷ pieces) = true
 
 -- whether the first token is `{` or `function`, with which an expression statement doesn't begin (12.4)
 abbrev pub opens : List Piece → Bool

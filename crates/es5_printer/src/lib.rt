@@ -1,6 +1,7 @@
 //! Prints a script of ECMAScript 5.1 as text, so that the text's tree is the script.
 #![tactic(auto)]
 
+mod laws;
 mod mark;
 mod print;
 mod shape;

@@ -476,7 +476,8 @@ fn print_continue(out: &mut Sheet, label: &Option<Identifier5>) -> Result<(), Al
 {
     out.word(b"continue")?;
     print_name(out, label)?;
-    print_end(out)
+    print_end(out)?;
+    Ok(())
 }
 
 fn print_break(out: &mut Sheet, label: &Option<Identifier5>) -> Result<(), AllocError>
@@ -491,7 +492,8 @@ fn print_debugger(out: &mut Sheet) -> Result<(), AllocError>
     ensures { OnOk result ((rest : List Piece) → written out.new rest ≡ written out.old (word (codes "debugger") (end_of rest))) }
 {
     out.word(b"debugger")?;
-    print_end(out)
+    print_end(out)?;
+    Ok(())
 }
 
 /// Writes a statement and the end of its line (12).
