@@ -12,6 +12,7 @@ use Rattle.es5_ast.specs.declared.operators.UnaryOperator5.TheVariants.{Delete, 
 use Rattle.es5_ast.specs.declared.operators.UpdateOperator5.{UpdateOperator5}
 use Rattle.es5_ast.specs.declared.operators.UpdateOperator5.TheVariants.{IncrementBefore, DecrementBefore, IncrementAfter, DecrementAfter}
 use Rattle.es5_ast.specs.declared.operators.BinaryOperator5.{BinaryOperator5}
+use Rattle.es5_ast.specs.declared.operators.BinaryOperator5.TheVariants as binary
 use Rattle.es5_ast.specs.declared.operators.Literal5.{Literal5}
 use Rattle.es5_ast.specs.declared.operators.Literal5.TheVariants as literals
 use Rattle.es5_ast.specs.declared.tree.Identifier5.{Identifier5}
@@ -38,7 +39,7 @@ use Rattle.es5_ast.specs.Grammar as g
 use Rattle.es5_ast.specs.Grammar.{Mode5, Aside, Marked, is_word, is_mark, IsWord, IsMark, IsEnd, IsOnLine, begins, begin_of, is_identifier, literal_kind, key_kind, update_kind, unary_kind, binary_kind, binary_level, assign_kind, is_before, is_in, ends, Sites, link_sites, some_site, IsIdentifier, IsKey, AreParameters, IsExpr, IsNode, IsNewCallee, AreElements, AreProperties, IsProperty, IsAccessor, AreLinks, AreArguments, AreOperands, AreParts, IsFunction, AreStats, IsStat, IsBlock, AreDeclared, IsDeclared, IsIf, IsCondition, IsForFirst, IsOptional, IsClosed, IsLabel, IsReturned, AreCases, AreInCase, IsCatch, IsProgram}
 use Rattle.es5_printer.specs.Pieces.{Piece, Lexeme, Begins, LineEnd, Write, Shown, ShownLink, ShownOperand, ShownFunction, word, mark, all, comma, separated, grouped, whole, placed, is_bare, in_place, maybe, name_of, function_of, element_of, elements_of, sites_of, begins_of, links_of, has_call, operands_of, any_in, level_of, arguments_of, parenthesized_arguments, parts_of, parameters_of, parenthesized_parameters, declared_of, update_level, update_of, key_of, end_of, header_of, more_of, otherwise_of, value_of, opened_of, returned_of, finally_of, catch_of, body_of, case_test, init_of, begins_call, opens, element_shown, shown, for_first_shown, link_shown, property_shown, stat_shown, block_shown, case_shown, catch_shown, condition_shown, declared_shown, function_shown, operand_shown}
 use Rattle.es5_printer.proofs.Shown as s
-use Rattle.es5_printer.proofs.Tokens.{Spot, Spots, tokens, AreMarked, IsSpelled, or_false, IsKnown, AreKnown, AreSpelled, known_word, literal_spelled, key_spelled, unary_spelled, update_spelled, binary_spelled, assign_spelled, sign, free_else, free_if}
+use Rattle.es5_printer.proofs.Tokens.{Spot, Spots, tokens, AreMarked, is_token_first, IsSpelled, or_false, IsKnown, AreKnown, AreSpelled, after_line, known_word, literal_spelled, key_spelled, unary_spelled, update_spelled, binary_spelled, assign_spelled, sign, free_else, free_if}
 use Rattle.es5_printer.proofs.Starting.{begins_else, begins_if, StartsStat, stat_starts}
 
 and_false : (a b : Bool) → a && b ≡ false → (c : Bool) → a && (b || c) ≡ false → (a && c ≡ false)
@@ -72,7 +73,18 @@ module _ (spots : Spots) (marks : List (ℕ × Site)) where
   -- a node is spelled by what is written for it, before `rest`; the marks in the rest hold still; the source's tokens after
   -- the node are known; and what is written are spelled tokens
   abbrev Out : Type 0 → List Piece → List Token5 → List Piece → Type 0
-  Out R rest us ps = R × Good rest × AreKnown us × (AreSpelled rest → AreSpelled ps)
+  Out R rest us ps = R × Good rest × AreKnown us × (AreSpelled false rest → AreSpelled false ps)
+
+  -- the same of a statement, after which the line ends
+  abbrev OutLine : Type 0 → List Piece → List Token5 → List Piece → Type 0
+  OutLine R rest us ps = R × Good rest × AreKnown us × (AreSpelled true rest → AreSpelled false ps)
+
+  -- the same of statements, before which a line has ended
+  abbrev OutBody : Type 0 → List Piece → List Token5 → List Piece → Type 0
+  OutBody R rest us ps = R × Good rest × AreKnown us × (AreSpelled false rest → AreSpelled true ps)
+
+  abbrev OutLines : Type 0 → List Piece → List Token5 → List Piece → Type 0
+  OutLines R rest us ps = R × Good rest × AreKnown us × (AreSpelled true rest → AreSpelled true ps)
 
   abbrev ExprP : Shown → Expr5 → List Token5 → Type 0
   ExprP w x us = (no_in : Bool) (least : ℕ) (line : Bool) (rest : List Piece) → Good (in_place w no_in least rest) → Out (IsExpr M no_in least (toks line (in_place w no_in least rest)) x (toks false rest)) rest us (in_place w no_in least rest)
@@ -193,13 +205,109 @@ module _ (spots : Spots) (marks : List (ℕ × Site)) where
       let (hs, good2) = held_begins ls rest good1 in
       ((subst (λ at. Held at l.sites) (begin_begins ls rest) h, hs), good2)
 
-  sites_spelled : (ss : List Site) (rest : List Piece) → AreSpelled rest → AreSpelled (sites_of ss rest)
-  sites_spelled [] rest q = q
-  sites_spelled (site ∷ ss) rest q = sites_spelled ss rest q
+  -- the sites of the links
+  abbrev joined_sites : List ShownLink → List Site
+  joined_sites [] = []
+  joined_sites (l ∷ ls) = l.sites ++ joined_sites ls
 
-  begins_spelled : (ls : List ShownLink) (rest : List Piece) → AreSpelled rest → AreSpelled (begins_of ls rest)
-  begins_spelled [] rest q = q
-  begins_spelled (l ∷ ls) rest q = sites_spelled l.sites (begins_of ls rest) (begins_spelled ls rest q)
+  sites_joined : (ss rr : List Site) (rest : List Piece) → sites_of (ss ++ rr) rest ≡ sites_of ss (sites_of rr rest)
+  sites_joined [] rr rest = refl
+  sites_joined (site ∷ ss) rr rest = ap (λ ps. Begins site ∷ ps) (sites_joined ss rr rest)
+
+  begins_joined : (ls : List ShownLink) (rest : List Piece) → begins_of ls rest ≡ sites_of (joined_sites ls) rest
+  begins_joined [] rest = refl
+  begins_joined (l ∷ ls) rest = ap (sites_of l.sites) (begins_joined ls rest) ∙ sym (sites_joined l.sites (joined_sites ls) rest)
+
+  -- at most one site, before a token
+  few_spelled : (ss : List Site) (rest : List Piece) → length ss ≤ 1 → is_token_first rest ≡ true → AreSpelled false rest → AreSpelled false (sites_of ss rest)
+  few_spelled [] rest few first q = q
+  few_spelled (site ∷ []) rest few first q = (first, q)
+  few_spelled (site ∷ other ∷ ss) rest few first q = absurd (omega arith)
+
+  begins_spelled : (ls : List ShownLink) (rest : List Piece) → length (joined_sites ls) ≤ 1 → is_token_first rest ≡ true → AreSpelled false rest → AreSpelled false (begins_of ls rest)
+  begins_spelled ls rest few first q = subst (AreSpelled false) (sym (begins_joined ls rest)) (few_spelled (joined_sites ls) rest few first q)
+
+  joined_call : (span : Span) (arguments : List Expr5) (site : Option Site) (links : List Link5) (ss : List Site) → link_sites links ≡ ss → link_sites (link.Call span arguments site ∷ links) ≡ some_site site ++ ss
+  joined_call span arguments None links ss h = rw (link.outs-Call span arguments None) h
+  joined_call span arguments (Some site) links ss h = rw (link.outs-Call span arguments (Some site)) (ap (λ rr. site ∷ rr) h)
+
+  joined_is : {calls : Bool} {ts : List Token5} {xs : List Link5} {us : List Token5} → AreLinks Aside calls ts xs us → link_sites xs ≡ joined_sites (map link_shown xs)
+  joined_is g.no_link = refl
+  joined_is (g.member_link {links = links} span name el sp md w ds) =
+      subst (λ z. link_sites (z ∷ links) ≡ joined_sites (link_shown z ∷ map link_shown links)) (sym el) (subst (λ z. link_sites (link.Member span name ∷ links) ≡ joined_sites (z ∷ map link_shown links)) (sym (s.link_shown-Member span name)) (rw (link.outs-Member span name) (joined_is ds)))
+  joined_is (g.index_link {links = links} span index el sp mo dx mc ds) =
+      subst (λ z. link_sites (z ∷ links) ≡ joined_sites (link_shown z ∷ map link_shown links)) (sym el) (subst (λ z. link_sites (link.Index span index ∷ links) ≡ joined_sites (z ∷ map link_shown links)) (sym (s.link_shown-Index span index)) (rw (link.outs-Index span index) (joined_is ds)))
+  joined_is (g.call_link {links = links} span arguments site el sp mo da ds) =
+      subst (λ z. link_sites (z ∷ links) ≡ joined_sites (link_shown z ∷ map link_shown links)) (sym el) (subst (λ z. link_sites (link.Call span arguments site ∷ links) ≡ joined_sites (z ∷ map link_shown links)) (sym (s.link_shown-Call span arguments site)) (joined_call span arguments site links (joined_sites (map link_shown links)) (joined_is ds)))
+
+  -- what a chain may begin with without parentheses begins with a token
+  abbrev TokenFirst : Shown → Type 0
+  TokenFirst w = (no_in : Bool) (rest : List Piece) → nat_le g.level_primary w.level ≡ true → is_token_first (w.node no_in rest) ≡ true
+
+  at_first : {x n : Expr5} {w : Shown} → x ≡ n → shown n ≡ w → TokenFirst w → TokenFirst (shown x)
+  at_first e f p = subst TokenFirst (sym (ap shown e ∙ f)) p
+
+  low : {A : Type 0} → false ≡ true → A
+  low e = absurd (false≢true e)
+
+  chain_low : (b : Bool) → nat_le g.level_primary (g.chain_level b) ≡ false
+  chain_low true = refl
+  chain_low false = refl
+
+  update_low : (b : Bool) → nat_le g.level_primary (update_level b) ≡ false
+  update_low true = refl
+  update_low false = refl
+
+  binary_low : (op : BinaryOperator5) → nat_le g.level_primary (binary_level op) ≡ false
+  binary_low binary.Or = refl
+  binary_low binary.And = refl
+  binary_low binary.BitOr = refl
+  binary_low binary.BitXor = refl
+  binary_low binary.BitAnd = refl
+  binary_low binary.Equal = refl
+  binary_low binary.NotEqual = refl
+  binary_low binary.Same = refl
+  binary_low binary.NotSame = refl
+  binary_low binary.Less = refl
+  binary_low binary.Greater = refl
+  binary_low binary.AtMost = refl
+  binary_low binary.AtLeast = refl
+  binary_low binary.InstanceOf = refl
+  binary_low binary.In = refl
+  binary_low binary.ShiftLeft = refl
+  binary_low binary.ShiftRight = refl
+  binary_low binary.ShiftRightUnsigned = refl
+  binary_low binary.Add = refl
+  binary_low binary.Subtract = refl
+  binary_low binary.Multiply = refl
+  binary_low binary.Divide = refl
+  binary_low binary.Remainder = refl
+
+  node_first : {no_in : Bool} {level : ℕ} {ts : List Token5} {x : Expr5} {us : List Token5} → IsNode Aside no_in level ts x us → TokenFirst (shown x)
+  node_first (g.this span e sp w) = at_first e (s.shown-This span) (λ no_in rest h. refl)
+  node_first (g.identifier span name e sp w free) = at_first e (s.shown-Name span name) (λ no_in rest h. refl)
+  node_first (g.literal span value e sp k) = at_first e (s.shown-Literal span value) (λ no_in rest h. refl)
+  node_first (g.array span elements e sp m ds) = at_first e (s.shown-ArrayList span elements) (λ no_in rest h. refl)
+  node_first (g.object span properties e sp m ds) = at_first e (s.shown-ObjectList span properties) (λ no_in rest h. refl)
+  node_first (g.function f e d) = at_first e (s.shown-Function f) (λ no_in rest h. refl)
+  node_first (g.chain calls span head l links e sp ss dh dl) = at_first e (s.shown-Chain span head (l ∷ links)) (λ no_in rest h. low (sym (chain_low (has_call (map link_shown (l ∷ links)))) ∙ h))
+  node_first (g.new_call span callee arguments e sp w dc m da) = at_first e (s.shown-New span callee arguments) (λ no_in rest h. refl)
+  node_first (g.new_bare span callee e sp w dc) = at_first e (s.shown-New span callee []) (λ no_in rest h. refl)
+  node_first (g.update_after span operator target e sp b dt k l) = at_first e (s.shown-Update span operator target) (λ no_in rest h. low (sym (update_low (is_before operator)) ∙ h))
+  node_first (g.update_before span operator target e sp b k dt) = at_first e (s.shown-Update span operator target) (λ no_in rest h. low (sym (update_low (is_before operator)) ∙ h))
+  node_first (g.unary span operator operand e sp k d) = at_first e (s.shown-Unary span operator operand) (λ no_in rest h. low h)
+  node_first (g.binary_chain level span first o operands e sp df ds) = at_first e (s.shown-Binary span first (o ∷ operands)) (λ no_in rest h. low (sym (binary_low (operand_shown o).operator) ∙ h))
+  node_first (g.conditional span test yes_ no_ e sp dt mq dy mc dn) = at_first e (s.shown-Conditional span test yes_ no_) (λ no_in rest h. low h)
+  node_first (g.assignment span operator target value e sp dt k dv) = at_first e (s.shown-Assign span operator target value) (λ no_in rest h. low h)
+  node_first (g.sequence span first y parts e sp df dp) = at_first e (s.shown-Sequence span first (y ∷ parts)) (λ no_in rest h. low h)
+
+  placed_first : (w : Shown) → TokenFirst w → (rest : List Piece) (b : Bool) → is_bare w false g.level_primary ≡ b → is_token_first (placed b w false rest) ≡ true
+  placed_first w p rest true e = p false rest (and_true (nat_le g.level_primary w.level) true e).0
+  placed_first w p rest false e = refl
+
+  head_first : {no_in : Bool} {least : ℕ} {ts : List Token5} {x : Expr5} {us : List Token5} → IsExpr Aside no_in least ts x us → (rest : List Piece) → is_token_first (in_place (shown x) false g.level_primary rest) ≡ true
+  head_first (g.bare level {x = x} le d) rest = placed_first (shown x) (node_first d) rest (is_bare (shown x) false g.level_primary) refl
+  head_first (g.group mo d mc) rest = head_first d rest
 
   sites_line : (ss : List Site) (line : Bool) (rest : List Piece) → (last : Bool) × (toks line (sites_of ss rest) ≡ toks last rest)
   sites_line [] line rest = (line, refl)
@@ -256,14 +364,14 @@ module _ (spots : Spots) (marks : List (ℕ × Site)) where
   at_accessor us {setter = setter} {x = x} e f p = subst (λ z. AccessorP setter z x us) (sym (ap function_shown e ∙ f)) p
 
   abbrev StatsP : Bool → Bool → List Stat5 → List Token5 → Type 0
-  StatsP inside top xs us = (rest : List Piece) → Good (all (map stat_shown xs) (mark (codes "}") rest)) → Out (AreStats M inside top (toks true (all (map stat_shown xs) (mark (codes "}") rest))) xs (toks false rest)) rest us (all (map stat_shown xs) (mark (codes "}") rest))
+  StatsP inside top xs us = (rest : List Piece) → Good (all (map stat_shown xs) (mark (codes "}") rest)) → OutBody (AreStats M inside top (toks true (all (map stat_shown xs) (mark (codes "}") rest))) xs (toks false rest)) rest us (all (map stat_shown xs) (mark (codes "}") rest))
 
   -- what follows a statement begins with `else` only if that of the source does
   abbrev KeepsElse : List Token5 → List Piece → Type 0
   KeepsElse us rest = begins_else us ≡ false → begins_else (toks true rest) ≡ false
 
   abbrev StatP : Bool → Bool → Write → Stat5 → List Token5 → Type 0
-  StatP inside top w x us = (line : Bool) (rest : List Piece) → KeepsElse us rest → Good (w rest) → Out (IsStat M inside top (toks line (w rest)) x (toks true rest)) rest us (w rest)
+  StatP inside top w x us = (line : Bool) (rest : List Piece) → KeepsElse us rest → Good (w rest) → OutLine (IsStat M inside top (toks line (w rest)) x (toks true rest)) rest us (w rest)
 
   at_stat : (us : List Token5) {inside top : Bool} {w : Write} {x n : Stat5} → x ≡ n → stat_shown n ≡ w → StatP inside top w x us → StatP inside top (stat_shown x) x us
   at_stat us {inside} {top} {x = x} e f p = subst (λ z. StatP inside top z x us) (sym (ap stat_shown e ∙ f)) p
@@ -284,13 +392,13 @@ module _ (spots : Spots) (marks : List (ℕ × Site)) where
   DeclaredListP no_in xs us = (rest : List Piece) → Good (declared_of no_in false (map declared_shown xs) rest) → Out (AreDeclared M no_in (toks false (declared_of no_in false (map declared_shown xs) rest)) xs (toks false rest)) rest us (declared_of no_in false (map declared_shown xs) rest)
 
   abbrev ConditionP : Bool → Write → Condition5 → List Token5 → Type 0
-  ConditionP inside w x us = (line : Bool) (rest : List Piece) → KeepsElse us rest → Good (w rest) → Out (IsCondition M inside (toks line (w rest)) x (toks true rest)) rest us (w rest)
+  ConditionP inside w x us = (line : Bool) (rest : List Piece) → KeepsElse us rest → Good (w rest) → OutLine (IsCondition M inside (toks line (w rest)) x (toks true rest)) rest us (w rest)
 
   at_condition : (us : List Token5) {inside : Bool} {w : Write} {x n : Condition5} → x ≡ n → condition_shown n ≡ w → ConditionP inside w x us → ConditionP inside (condition_shown x) x us
   at_condition us {inside} {x = x} e f p = subst (λ z. ConditionP inside z x us) (sym (ap condition_shown e ∙ f)) p
 
   abbrev IfP : Bool → Condition5 → List Condition5 → Option Stat5 → List Token5 → Type 0
-  IfP inside c more otherwise us = (line : Bool) (rest : List Piece) → KeepsElse us rest → Good (condition_shown c (more_of (map condition_shown more) (otherwise_of (option_map stat_shown otherwise) rest))) → Out (IsIf M inside (toks line (condition_shown c (more_of (map condition_shown more) (otherwise_of (option_map stat_shown otherwise) rest)))) c more otherwise (toks true rest)) rest us (condition_shown c (more_of (map condition_shown more) (otherwise_of (option_map stat_shown otherwise) rest)))
+  IfP inside c more otherwise us = (line : Bool) (rest : List Piece) → KeepsElse us rest → Good (condition_shown c (more_of (map condition_shown more) (otherwise_of (option_map stat_shown otherwise) rest))) → OutLine (IsIf M inside (toks line (condition_shown c (more_of (map condition_shown more) (otherwise_of (option_map stat_shown otherwise) rest)))) c more otherwise (toks true rest)) rest us (condition_shown c (more_of (map condition_shown more) (otherwise_of (option_map stat_shown otherwise) rest)))
 
   abbrev ForFirstP : Write → ForFirst5 → List Token5 → Type 0
   ForFirstP w x us = (rest : List Piece) → Good (w rest) → Out (IsForFirst M (toks false (w rest)) x (toks false rest)) rest us (w rest)
@@ -308,14 +416,14 @@ module _ (spots : Spots) (marks : List (ℕ × Site)) where
   ReturnedP x us = (rest : List Piece) → Good (returned_of (option_map shown x) rest) → Out (IsReturned M (toks false (returned_of (option_map shown x) rest)) x (toks false rest)) rest us (returned_of (option_map shown x) rest)
 
   abbrev CasesP : Bool → Bool → List Case5 → List Token5 → Type 0
-  CasesP inside may xs us = (rest : List Piece) → Good (all (map case_shown xs) (mark (codes "}") rest)) → Out (AreCases M inside may (toks true (all (map case_shown xs) (mark (codes "}") rest))) xs (toks false rest)) rest us (all (map case_shown xs) (mark (codes "}") rest))
+  CasesP inside may xs us = (rest : List Piece) → Good (all (map case_shown xs) (mark (codes "}") rest)) → OutBody (AreCases M inside may (toks true (all (map case_shown xs) (mark (codes "}") rest))) xs (toks false rest)) rest us (all (map case_shown xs) (mark (codes "}") rest))
 
-  at_case : (us : List Token5) {inside may : Bool} {w : Write} {x n : Case5} (xs : List Case5) → x ≡ n → case_shown n ≡ w → ((rest : List Piece) → Good (w (all (map case_shown xs) (mark (codes "}") rest))) → Out (AreCases M inside may (toks true (w (all (map case_shown xs) (mark (codes "}") rest)))) (x ∷ xs) (toks false rest)) rest us (w (all (map case_shown xs) (mark (codes "}") rest)))) → CasesP inside may (x ∷ xs) us
-  at_case us {inside} {may} {x = x} xs e f p = subst (λ z. (rest : List Piece) → Good (z (all (map case_shown xs) (mark (codes "}") rest))) → Out (AreCases M inside may (toks true (z (all (map case_shown xs) (mark (codes "}") rest)))) (x ∷ xs) (toks false rest)) rest us (z (all (map case_shown xs) (mark (codes "}") rest)))) (sym (ap case_shown e ∙ f)) p
+  at_case : (us : List Token5) {inside may : Bool} {w : Write} {x n : Case5} (xs : List Case5) → x ≡ n → case_shown n ≡ w → ((rest : List Piece) → Good (w (all (map case_shown xs) (mark (codes "}") rest))) → OutBody (AreCases M inside may (toks true (w (all (map case_shown xs) (mark (codes "}") rest)))) (x ∷ xs) (toks false rest)) rest us (w (all (map case_shown xs) (mark (codes "}") rest)))) → CasesP inside may (x ∷ xs) us
+  at_case us {inside} {may} {x = x} xs e f p = subst (λ z. (rest : List Piece) → Good (z (all (map case_shown xs) (mark (codes "}") rest))) → OutBody (AreCases M inside may (toks true (z (all (map case_shown xs) (mark (codes "}") rest)))) (x ∷ xs) (toks false rest)) rest us (z (all (map case_shown xs) (mark (codes "}") rest)))) (sym (ap case_shown e ∙ f)) p
 
   -- the statements of a clause, before another clause or a brace
   abbrev InCaseP : Bool → List Stat5 → List Token5 → Type 0
-  InCaseP inside xs us = (rest : List Piece) → begins_else (toks true rest) ≡ false → Good (all (map stat_shown xs) rest) → Out (AreInCase M inside (toks true (all (map stat_shown xs) rest)) xs (toks true rest)) rest us (all (map stat_shown xs) rest)
+  InCaseP inside xs us = (rest : List Piece) → begins_else (toks true rest) ≡ false → Good (all (map stat_shown xs) rest) → OutLines (AreInCase M inside (toks true (all (map stat_shown xs) rest)) xs (toks true rest)) rest us (all (map stat_shown xs) rest)
 
   abbrev CatchP : Bool → Write → Catch5 → List Token5 → Type 0
   CatchP inside w x us = (rest : List Piece) → Good (w rest) → Out (IsCatch M inside (toks false (w rest)) x (toks false rest)) rest us (w rest)
@@ -364,7 +472,7 @@ module _ (spots : Spots) (marks : List (ℕ × Site)) where
   grouped_on_line w rest true e = refl
   grouped_on_line w rest false e = on_line (whole w rest) e
 
-  label_printed : {ts : List Token5} {x : Option Identifier5} {us : List Token5} → IsLabel Aside ts x us → AreKnown ts → (rest : List Piece) → IsLabel M (toks false (name_of x rest)) x (toks false rest) × AreKnown us × (AreSpelled rest → AreSpelled (name_of x rest))
+  label_printed : {ts : List Token5} {x : Option Identifier5} {us : List Token5} → IsLabel Aside ts x us → AreKnown ts → (rest : List Piece) → IsLabel M (toks false (name_of x rest)) x (toks false rest) × AreKnown us × (AreSpelled false rest → AreSpelled false (name_of x rest))
   label_printed g.no_label v rest = (g.no_label, v, λ q. q)
   label_printed (g.label {x = x} l d) v rest =
       let (k, v1) = known_identifier d v in
@@ -419,8 +527,9 @@ module _ (spots : Spots) (marks : List (ℕ × Site)) where
         let (line1, le) = begins_line ws line after in
         let (d1, good1, v1, r1) = expr_printed dh v false g.level_primary line1 (links_of ws rest) good0 in
         let (d2, good2, v2, r2) = links_printed dl v1 rest good1 in
+        let few = subst (λ z. length z ≤ 1) (joined_is dl) ss in
         let sites = links_held dl (toks line1 after) (begin_of (toks false after)) (begin_same line1 after) held in
-        (subst (λ ts. IsNode M no_in (g.chain_level (has_call ws)) ts x (toks false rest)) (sym le) (g.chain (has_call ws) span head l links e tt sites d1 d2), good2, v2, λ q. begins_spelled ws after (r1 (r2 q))))
+        (subst (λ ts. IsNode M no_in (g.chain_level (has_call ws)) ts x (toks false rest)) (sym le) (g.chain (has_call ws) span head l links e tt sites d1 d2), good2, v2, λ q. begins_spelled ws after few (head_first dh (links_of ws rest)) (r1 (r2 q))))
     node_printed (g.new_call span callee arguments e sp w dc m da) v = at_node _ e (s.shown-New span callee arguments) (λ no_in h line rest good.
         let (d1, good1, v1, r1) = expr_printed dc v.1 false g.level_member false (parenthesized_arguments (map shown arguments) rest) good in
         let (d2, good2, v2, r2) = arguments_printed da v1.1 rest good1 in
@@ -548,10 +657,10 @@ module _ (spots : Spots) (marks : List (ℕ × Site)) where
 
     stats_printed : {inside top : Bool} {ts : List Token5} {xs : List Stat5} {us : List Token5} → AreStats Aside inside top ts xs us → AreKnown ts → StatsP inside top xs us
     stats_printed (g.no_stat m) v = λ rest good. (g.no_stat refl, good, v.1, λ q. (sign.right_brace, q))
-    stats_printed (g.next_stat d ds) v = λ rest good.
+    stats_printed (g.next_stat {s = x} {ss = ss} d ds) v = λ rest good.
         let (d1, good1, v1, r1) = stat_printed d v true _ (λ h0. stats_no_else ds rest) good in
         let (d2, good2, v2, r2) = stats_printed ds v1 rest good1 in
-        (g.next_stat d1 d2, good2, v2, λ q. r1 (r2 q))
+        (g.next_stat d1 d2, good2, v2, λ q. after_line (stat_shown x (all (map stat_shown ss) (mark (codes "}") rest))) (r1 (r2 q)))
 
     pub stat_printed : {inside top : Bool} {ts : List Token5} {x : Stat5} {us : List Token5} → IsStat Aside inside top ts x us → AreKnown ts → StatP inside top (stat_shown x) x us
     stat_printed (g.block b e d) v = at_stat _ e (s.stat_shown-Block b) (λ line rest keeps good.
@@ -704,10 +813,10 @@ module _ (spots : Spots) (marks : List (ℕ × Site)) where
 
     in_case_printed : {inside : Bool} {ts : List Token5} {xs : List Stat5} {us : List Token5} → AreInCase Aside inside ts xs us → AreKnown ts → InCaseP inside xs us
     in_case_printed g.no_more_in_case v = λ rest none good. (g.no_more_in_case, good, v, λ q. q)
-    in_case_printed (g.next_in_case d ds) v = λ rest none good.
+    in_case_printed (g.next_in_case {s = x} {ss = ss} d ds) v = λ rest none good.
         let (d1, good1, v1, r1) = stat_printed d v true _ (λ h0. in_case_no_else ds rest none) good in
         let (d2, good2, v2, r2) = in_case_printed ds v1 rest none good1 in
-        (g.next_in_case d1 d2, good2, v2, λ q. r1 (r2 q))
+        (g.next_in_case d1 d2, good2, v2, λ q. after_line (stat_shown x (all (map stat_shown ss) rest)) (r1 (r2 q)))
 
     catch_printed : {inside : Bool} {ts : List Token5} {x : Catch5} {us : List Token5} → IsCatch Aside inside ts x us → AreKnown ts → CatchP inside (catch_shown x) x us
     catch_printed (g.handler span parameter body e sp w mo di mc db) v = at_catch _ e (s.catch_shown-roll span parameter body) (λ rest good.
@@ -720,9 +829,9 @@ module _ (spots : Spots) (marks : List (ℕ × Site)) where
   program_no_else (g.one_more {ss = ss} d ds) = (stat_starts spots d).no_else true (all (map stat_shown ss) [])
 
   -- what is written for a program's statements
-  pub program_printed : {ts : List Token5} {xs : List Stat5} → IsProgram Aside ts xs → AreKnown ts → (line : Bool) → Good (all (map stat_shown xs) []) → IsProgram M (toks line (all (map stat_shown xs) [])) xs × AreSpelled (all (map stat_shown xs) [])
+  pub program_printed : {ts : List Token5} {xs : List Stat5} → IsProgram Aside ts xs → AreKnown ts → (line : Bool) → Good (all (map stat_shown xs) []) → IsProgram M (toks line (all (map stat_shown xs) [])) xs × AreSpelled true (all (map stat_shown xs) [])
   program_printed g.no_more v line good = (g.no_more, tt)
-  program_printed (g.one_more d ds) v line good =
+  program_printed (g.one_more {s = x} {ss = ss} d ds) v line good =
       let (d1, good1, v1, r1) = stat_printed d v line _ (λ h0. program_no_else ds) good in
       let (d2, r2) = program_printed ds v1 true good1 in
-      (g.one_more d1 d2, r1 r2)
+      (g.one_more d1 d2, after_line (stat_shown x (all (map stat_shown ss) [])) (r1 r2))

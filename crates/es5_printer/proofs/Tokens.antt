@@ -1,8 +1,8 @@
 -- The tokens of what is written, wherever they stand: for each number of pieces that follow a token, a `Spot` says where it
 -- begins and ends, and for a marked call, whether its line is broken before it.
 use Rattle.std.proofs.Common.{◌≡◌, ℕ, ◌≤◌, ◌<◌, Bool, true, false, ◌||◌, ◌&&◌, not, List, [], ◌∷◌, length, refl, sym, ap, subst, ◌∙◌, Decides, cond}
-use Rattle.std.specs.Prelude.{codes, All}
-use Rattle.std.specs.List.{Contains, list_any}
+use Rattle.std.specs.Prelude.{codes, nat_lt}
+use Rattle.std.specs.List.{Contains, list_all, list_any}
 use Rattle.std.specs.Str.{bytes_eq}
 use Rattle.std.proofs.lemmas.Slice.Eq.{bytes_eq-Decides}
 use Rattle.std.proofs.lemmas.Bool.{false≢true}
@@ -48,7 +48,7 @@ AreMarked spots marks (LineEnd ∷ ps) = AreMarked spots marks ps
 abbrev pub IsSpelled : Kind5 → Type 0
 IsSpelled (Word name) = is_identifier_name name ≡ true
 IsSpelled (Integer value) = value ≤ 9007199254740991
-IsSpelled (Text units) = All (λ u. u < 65536) units
+IsSpelled (Text units) = list_all (λ u. nat_lt u 65536) units ≡ true
 IsSpelled (Punctuator p) = is_one_of p punctuators ≡ true
 IsSpelled Inserted = ⊥
 
@@ -56,7 +56,7 @@ IsSpelled Inserted = ⊥
 abbrev pub IsKnown : Kind5 → Type 0
 IsKnown (Word name) = is_identifier_name name ≡ true
 IsKnown (Integer value) = value ≤ 9007199254740991
-IsKnown (Text units) = All (λ u. u < 65536) units
+IsKnown (Text units) = list_all (λ u. nat_lt u 65536) units ≡ true
 IsKnown (Punctuator p) = is_one_of p punctuators ≡ true
 IsKnown Inserted = Unit {0}
 
@@ -64,11 +64,27 @@ abbrev pub AreKnown : List Token5 → Type 0
 AreKnown [] = Unit {0}
 AreKnown (t ∷ ts) = IsKnown t.kind × AreKnown ts
 
-abbrev pub AreSpelled : List Piece → Type 0
-AreSpelled [] = Unit {0}
-AreSpelled (Lexeme kind ∷ ps) = IsSpelled kind × AreSpelled ps
-AreSpelled (Begins site ∷ ps) = AreSpelled ps
-AreSpelled (LineEnd ∷ ps) = AreSpelled ps
+-- whether a token comes first
+abbrev pub is_token_first : List Piece → Bool
+is_token_first [] = false
+is_token_first (Lexeme kind ∷ ps) = true
+is_token_first (Begins site ∷ ps) = false
+is_token_first (LineEnd ∷ ps) = false
+
+-- Characters spell each token, each mark stands before a token, and a line ends last. The flag says that a line has just
+-- ended.
+abbrev pub AreSpelled : Bool → List Piece → Type 0
+AreSpelled true [] = Unit {0}
+AreSpelled false [] = ⊥
+AreSpelled ended (Lexeme kind ∷ ps) = IsSpelled kind × AreSpelled false ps
+AreSpelled ended (Begins site ∷ ps) = (is_token_first ps ≡ true) × AreSpelled false ps
+AreSpelled ended (LineEnd ∷ ps) = AreSpelled true ps
+
+pub after_line : (ps : List Piece) → AreSpelled false ps → AreSpelled true ps
+after_line [] q = absurd q
+after_line (Lexeme kind ∷ ps) q = q
+after_line (Begins site ∷ ps) q = q
+after_line (LineEnd ∷ ps) q = q
 
 pub known_word : (t : Token5) (name : List ℕ) → t.kind ≡ Word name → IsKnown t.kind → is_identifier_name name ≡ true
 known_word t name e k = subst IsKnown e k
