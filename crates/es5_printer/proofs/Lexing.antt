@@ -137,7 +137,7 @@ settled_lexed true line broken s at next rest ts eb en d =
 settled_lexed false line broken s at next rest ts eb en d =
     subst (λ l. Tokens5 at line (space (gap s.last 0) ++ rest) (ts l)) (sym (ap (λ z. line || z) eb ∙ or_false line)) (space_lexed (gap s.last 0) line at rest (ts line) (subst (λ n. Tokens5 n line rest (ts line)) en (d line)))
 
-piece_length : (s : Written) (p : Piece) → length (with_piece s p).bytes ≡ length s.bytes + length (added s p)
+pub piece_length : (s : Written) (p : Piece) → length (with_piece s p).bytes ≡ length s.bytes + length (added s p)
 piece_length s p = ap length (piece_bytes s p) ∙ length-append s.bytes (added s p)
 
 pub lexed : (ended : Bool) (spots : Spots) (s : Written) (ps : List Piece) (at : ℕ) (line : Bool) → at ≡ length s.bytes → Agrees spots s ps → AreSpelled ended ps → Tokens5 at line (text s ps) (tokens spots line ps)

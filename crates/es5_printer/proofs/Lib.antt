@@ -5,3 +5,5 @@ pub mod Starting
 pub mod Spelling
 pub mod Chars
 pub mod Lexing
+pub mod Placing
+pub mod Source

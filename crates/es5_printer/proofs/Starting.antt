@@ -155,7 +155,7 @@ module _ (spots : Spots) where
   if_of : {ts us : List Token5} {c : Condition5} {mode : Mode5} {inside : Bool} → IsCondition mode inside ts c us → begins_if ts ≡ false → ⊥
   if_of (g.condition {t = t} span test body e sp w mo dx mc ds) h = false≢true (sym h ∙ ap (is_word (codes "if")) w)
 
-  if_of_if : {ts us : List Token5} {c : Condition5} {more : List Condition5} {otherwise : Option Stat5} {inside : Bool} → IsIf Aside inside ts c more otherwise us → begins_if ts ≡ false → ⊥
+  pub if_of_if : {ts us : List Token5} {c : Condition5} {more : List Condition5} {otherwise : Option Stat5} {inside : Bool} → IsIf Aside inside ts c more otherwise us → begins_if ts ≡ false → ⊥
   if_of_if (g.no_else d b) = if_of d
   if_of_if (g.last_else d w b ds) = if_of d
   if_of_if (g.else_if d w di) = if_of d

@@ -1,4 +1,4 @@
-use Rattle.es5_printer.proofs.Lexing.{lexed}
+use Rattle.es5_printer.proofs.Placing.{marks_placed}
 use Rattle.es5_printer.proofs.Spelling.{program_printed}
 use Rattle.es5_printer.proofs.laws.law.Goals as goal
 
