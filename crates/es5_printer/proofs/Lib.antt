@@ -7,3 +7,4 @@ pub mod Chars
 pub mod Lexing
 pub mod Placing
 pub mod Source
+pub mod Whole

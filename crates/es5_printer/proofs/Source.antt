@@ -229,7 +229,7 @@ binary_goes_on binary.Remainder = refl
 
 -- a token that goes on doesn't end
 goes_on : {A : Type 0} (k m : Kind5) → k ≡ m → ends m ≡ false → ends k ≡ true → A
-goes_on k m e no yes_ = absurd (false≢true (sym no ∙ ap ends (sym e) ∙ yes_))
+goes_on k m e more stops = absurd (false≢true (sym more ∙ ap ends (sym e) ∙ stops))
 
 links_go_on : {A : Type 0} {calls : Bool} {ts : List Token5} {l : Link5} {links : List Link5} {us : List Token5} → AreLinks Aside calls ts (l ∷ links) us → begins ends ts ≡ true → A
 links_go_on (g.member_link {dot = dot} span name e sp md w ds) h = goes_on dot.kind (Punctuator (codes ".")) md refl h
@@ -274,7 +274,7 @@ block_is_none units (g.braces {t = t} span body e sp m d) h = mark_is_none t.kin
 
 if_is_none : {inside : Bool} {ts : List Token5} {c : Condition5} {more : List Condition5} {otherwise : Option Stat5} {us : List Token5} (units : List ℕ) → IsIf Aside inside ts c more otherwise us → first_kind ts ≡ Text units → ⊥
 if_is_none {ts = []} units d h = cc
-if_is_none {ts = t ∷ ts} units d h = if_of_if d (ap (is_word (codes "if")) h)
+if_is_none {ts = t ∷ ts} units d h = if_of_if (λ n. record { begin = 0; end = 0; broken = false }) d (ap (is_word (codes "if")) h)
 
 label_is_none : {ts : List Token5} {x : Identifier5} {us : List Token5} (units : List ℕ) → IsIdentifier Aside ts x us → first_kind ts ≡ Text units → ⊥
 label_is_none {x = x} units d h = word_is_none d.token.kind x.name units d.word (ap first_kind (sym d.first) ∙ h)
