@@ -104,3 +104,11 @@ printed script tree =
       printable = placed.printable;
       ended = ends_line_by false blank ps (λ e. absurd (false≢true e)) (not_empty ps start q);
     }
+
+-- what the code has written is that
+pub printed_as : (script : Script) → IsTree script → (stats : List Stat5) (start out : Written) (bytes : List ℕ) (marks : List Mark) → stats ≡ script.statements → start ≡ blank → ((rest : List Piece) → written out rest ≡ written start (all (map stat_shown stats) rest)) → bytes ≡ out.bytes → marks ≡ out.marks → IsPrinted script bytes marks
+unfolding written
+printed_as script tree stats start out bytes marks es eb h ebytes emarks =
+    let same : out ≡ written blank (stats_pieces script.statements) = h [] ∙ ap (λ z. written z (all (map stat_shown stats) [])) eb ∙ ap (λ xs. written blank (all (map stat_shown xs) [])) es in
+    let whole_ = printed script tree in
+    subst (λ z. IsPrinted script z marks) (sym (ebytes ∙ ap (λ w. w.bytes) same)) (subst (λ z. IsPrinted script (written blank (stats_pieces script.statements)).bytes z) (sym (emarks ∙ ap (λ w. w.marks) same)) whole_)
