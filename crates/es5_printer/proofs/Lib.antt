@@ -8,3 +8,5 @@ pub mod Lexing
 pub mod Placing
 pub mod Source
 pub mod Whole
+pub mod SitesShown
+pub mod Marking

@@ -25,6 +25,7 @@ use Rattle.es5_printer.proofs.Tokens.{Spot, Spots, tokens, AreMarked, AreKnown, 
 use Rattle.es5_printer.proofs.Spelling.{program_printed}
 use Rattle.es5_printer.proofs.Lexing.{text, written_bytes, spot_of, spots_from, Agrees, agrees, lexed}
 use Rattle.es5_printer.proofs.Placing.{marks_from, calls_from, token_calls, all_marked, calls_same, written_marks, written_placed, blank_placed, marks_placed, calls_rise, ends_line_by, printable_ascii}
+use Rattle.es5_printer.proofs.Marking.{program_gives, call_sites}
 use Rattle.es5_printer.proofs.Source.{first_kind, second_ends, IsTextStat, text_stat, source_known}
 
 -- tokens to which no semicolon is added
@@ -99,6 +100,7 @@ printed script tree =
         spans = tt;
         legal = source.legal;
       };
+      sites = call_sites spots ps ∙ program_gives source.parsed;
       marked = subst (λ cs. AreMarksOf cs calls (written blank ps).marks) (sym same_chars) (subst (λ c. AreMarksOf bytes c (written blank ps).marks) (sym same_calls) (subst (AreMarksOf bytes (calls_from blank ps)) (sym same_marks) (marks_placed true bytes blank ps is_text ascii blank_placed q)));
       rising = subst (IsRising 0) (sym same_calls) (calls_rise true blank ps q);
       printable = placed.printable;

@@ -1,3 +1,4 @@
 pub mod Pieces
 pub mod Layout
+pub mod Sites
 pub mod Printed

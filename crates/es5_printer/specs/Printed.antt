@@ -9,6 +9,7 @@ use Rattle.es5_ast.specs.Grammar.{Marked}
 use Rattle.es5_ast.specs.Script.{Spells}
 use Rattle.es5_printer.specs.declared.mark.Mark.{Mark}
 use Rattle.es5_printer.specs.Layout.{limit}
+use Rattle.es5_printer.specs.Sites.{script_sites}
 
 -- a call: the offset of its first token, and its site
 abbrev pub Call : Type 0
@@ -40,11 +41,12 @@ is_printable c = (nat_le 32 c && nat_le c 126) || (c == 10)
 abbrev pub EndsLine : List ℕ → Type 0
 EndsLine bytes = (front : List ℕ) × (bytes ≡ front ++ 10 ∷ [])
 
--- The bytes are spelled by the script, spans and sites aside: each site of a call stands in the list of calls with the
--- offset of that call's first token. The marks are those of the calls, in order of place.
+-- The bytes are spelled by the script, spans and sites aside. The calls are exactly those that carry a site, in text order,
+-- and each site stands among them with the offset of its own call's first token. The marks are those of the calls.
 pub record IsPrinted (script : Script) (bytes : List ℕ) (marks : List Mark) : Type 0 where
   pub calls : List Call
   pub spelled : Spells (Marked calls) bytes script
+  pub sites : map (λ c. c.1) calls ≡ script_sites script
   pub marked : AreMarksOf (chars bytes) calls marks
   pub rising : IsRising 0 calls
   pub printable : list_all is_printable bytes ≡ true
