@@ -68,8 +68,8 @@ start_clean : (c : ℕ) → is_identifier_start c ≡ true → is_clean c ≡ tr
 start_clean c e =
     or_elim (is_ascii_alphabetic c || (c == 95)) (c == 36) e
     (λ e1. or_elim (is_ascii_alphabetic c) (c == 95) e1
-        (λ e2. or_elim (nat_le 65 c && nat_le c 90) (nat_le 97 c && nat_le c 122) e2 (in_range_clean 65 90 c (omega arith) (omega arith)) (in_range_clean 97 122 c (omega arith) (omega arith)))
-        (at_char (λ z. is_clean z ≡ true) c 95 refl))
+    (λ e2. or_elim (nat_le 65 c && nat_le c 90) (nat_le 97 c && nat_le c 122) e2 (in_range_clean 65 90 c (omega arith) (omega arith)) (in_range_clean 97 122 c (omega arith) (omega arith)))
+    (at_char (λ z. is_clean z ≡ true) c 95 refl))
     (at_char (λ z. is_clean z ≡ true) c 36 refl)
 
 part_clean : (c : ℕ) → is_identifier_part c ≡ true → is_clean c ≡ true
@@ -264,27 +264,27 @@ sign_follow P c e p32 p10 p41 p93 p59 p44 =
     or_elim ((c == 32) || (c == 10)) (not (not (is_closer c))) e
     (λ e1. or_elim (c == 32) (c == 10) e1 (at_char P c 32 p32) (at_char P c 10 p10))
     (λ e1. or_elim ((c == 41) || (c == 93) || (c == 59)) (c == 44) (not_not (is_closer c) e1)
-        (λ e2. or_elim ((c == 41) || (c == 93)) (c == 59) e2 (λ e3. or_elim (c == 41) (c == 93) e3 (at_char P c 41 p41) (at_char P c 93 p93)) (at_char P c 59 p59))
-        (at_char P c 44 p44))
+    (λ e2. or_elim ((c == 41) || (c == 93)) (c == 59) e2 (λ e3. or_elim (c == 41) (c == 93) e3 (at_char P c 41 p41) (at_char P c 93 p93)) (at_char P c 59 p59))
+    (at_char P c 44 p44))
 
 word_follow : (P : ℕ → Type 0) (c : ℕ) → may_follow last.Word c ≡ true → P 32 → P 10 → P 41 → P 93 → P 59 → P 44 → P 40 → P 91 → P 46 → P 58 → P c
 word_follow P c e p32 p10 p41 p93 p59 p44 p40 p91 p46 p58 =
     or_elim ((c == 32) || (c == 10)) (not (not (is_closer c || is_follower c))) e
     (λ e1. or_elim (c == 32) (c == 10) e1 (at_char P c 32 p32) (at_char P c 10 p10))
     (λ e1. or_elim (is_closer c) (is_follower c) (not_not (is_closer c || is_follower c) e1)
-        (λ e4. or_elim ((c == 41) || (c == 93) || (c == 59)) (c == 44) e4
-            (λ e2. or_elim ((c == 41) || (c == 93)) (c == 59) e2 (λ e3. or_elim (c == 41) (c == 93) e3 (at_char P c 41 p41) (at_char P c 93 p93)) (at_char P c 59 p59))
-            (at_char P c 44 p44))
-        (λ e4. or_elim ((c == 40) || (c == 91) || (c == 46)) (c == 58) e4
-            (λ e2. or_elim ((c == 40) || (c == 91)) (c == 46) e2 (λ e3. or_elim (c == 40) (c == 91) e3 (at_char P c 40 p40) (at_char P c 91 p91)) (at_char P c 46 p46))
-            (at_char P c 58 p58)))
+    (λ e4. or_elim ((c == 41) || (c == 93) || (c == 59)) (c == 44) e4
+    (λ e2. or_elim ((c == 41) || (c == 93)) (c == 59) e2 (λ e3. or_elim (c == 41) (c == 93) e3 (at_char P c 41 p41) (at_char P c 93 p93)) (at_char P c 59 p59))
+    (at_char P c 44 p44))
+    (λ e4. or_elim ((c == 40) || (c == 91) || (c == 46)) (c == 58) e4
+    (λ e2. or_elim ((c == 40) || (c == 91)) (c == 46) e2 (λ e3. or_elim (c == 40) (c == 91) e3 (at_char P c 40 p40) (at_char P c 91 p91)) (at_char P c 46 p46))
+    (at_char P c 58 p58)))
 
 abbrev whole_mark : List ℕ → List ℕ → Bool
 whole_mark rest p = is_whole (Punctuator p) p rest
 
--- `(`, `[`, `)` and `]` are whole before anything
+-- `(`, `[`, `)`, `]` and `}` are whole before anything
 abbrev bracket : List ℕ → Bool
-bracket p = ((first_of p == 40) || (first_of p == 91)) || ((first_of p == 41) || (first_of p == 93))
+bracket p = ((first_of p == 40) || (first_of p == 91)) || ((first_of p == 41) || (first_of p == 93) || (first_of p == 125))
 
 brackets_whole : (rest : List ℕ) → list_all (λ p. not (bracket p) || whole_mark rest p) punctuators ≡ true
 unfolding punctuators
@@ -384,14 +384,14 @@ or_right false b e = e
 or_left : (a b : Bool) → a ≡ true → (a || b) ≡ true
 or_left a b e = ap (λ x. x || b) e
 
-mark_whole : (p rest : List ℕ) → is_one_of p punctuators ≡ true → (b1 b2 b3 : Bool) → ((first_of p == 40) || (first_of p == 91)) ≡ b1 → (first_of p == 46) ≡ b2 → ((first_of p == 41) || (first_of p == 93)) ≡ b3 → Follows (if b1 then last.Space else (if b2 then last.Point else (if b3 then last.Word else last.Sign))) rest → whole_mark rest p ≡ true
+mark_whole : (p rest : List ℕ) → is_one_of p punctuators ≡ true → (b1 b2 b3 : Bool) → ((first_of p == 40) || (first_of p == 91)) ≡ b1 → (first_of p == 46) ≡ b2 → ((first_of p == 41) || (first_of p == 93) || (first_of p == 125)) ≡ b3 → Follows (if b1 then last.Space else (if b2 then last.Point else (if b3 then last.Word else last.Sign))) rest → whole_mark rest p ≡ true
 mark_whole p rest i true b2 b3 e1 e2 e3 h =
-    implied (bracket p) (whole_mark rest p) (in_table (λ q. not (bracket q) || whole_mark rest q) p punctuators i (brackets_whole rest)) (or_left ((first_of p == 40) || (first_of p == 91)) ((first_of p == 41) || (first_of p == 93)) e1)
+    implied (bracket p) (whole_mark rest p) (in_table (λ q. not (bracket q) || whole_mark rest q) p punctuators i (brackets_whole rest)) (or_left ((first_of p == 40) || (first_of p == 91)) ((first_of p == 41) || (first_of p == 93) || (first_of p == 125)) e1)
 mark_whole p rest i false true b3 e1 e2 e3 h =
     let same = equal_bytes p (codes ".") (implied (first_of p == 46) (bytes_eq p (codes ".")) (in_table (λ q. not (first_of q == 46) || bytes_eq q (codes ".")) p punctuators i points) e2) in
     subst (λ z. whole_mark rest z ≡ true) (sym same) (point_whole rest h)
 mark_whole p rest i false false true e1 e2 e3 h =
-    implied (bracket p) (whole_mark rest p) (in_table (λ q. not (bracket q) || whole_mark rest q) p punctuators i (brackets_whole rest)) (or_right ((first_of p == 40) || (first_of p == 91)) ((first_of p == 41) || (first_of p == 93)) e3)
+    implied (bracket p) (whole_mark rest p) (in_table (λ q. not (bracket q) || whole_mark rest q) p punctuators i (brackets_whole rest)) (or_right ((first_of p == 40) || (first_of p == 91)) ((first_of p == 41) || (first_of p == 93) || (first_of p == 125)) e3)
 mark_whole p rest i false false false e1 e2 e3 h = sign_whole p rest i h
 
 number_whole : (value : ℕ) (rest : List ℕ) → Follows last.Number rest → is_whole (Integer value) (decimal value) rest ≡ true
@@ -410,5 +410,5 @@ pub whole_before : (kind : Kind5) → IsSpelled kind → (rest : List ℕ) → F
 whole_before (Word name) i rest h = word_whole name rest h
 whole_before (Integer value) i rest h = number_whole value rest h
 whole_before (Text units) i rest h = refl
-whole_before (Punctuator p) i rest h = mark_whole p rest i ((first_of p == 40) || (first_of p == 91)) (first_of p == 46) ((first_of p == 41) || (first_of p == 93)) refl refl refl h
+whole_before (Punctuator p) i rest h = mark_whole p rest i ((first_of p == 40) || (first_of p == 91)) (first_of p == 46) ((first_of p == 41) || (first_of p == 93) || (first_of p == 125)) refl refl refl h
 whole_before Inserted i rest h = absurd i

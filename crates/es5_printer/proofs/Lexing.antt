@@ -121,7 +121,7 @@ token_lexed : (kind : Kind5) (cs rest : List ℕ) (ts : List Token5) (line : Boo
 token_lexed kind cs rest ts line at begin end next sp wh eb ee en d =
     subst (λ b. Tokens5 at line (cs ++ rest) (record { begin = b; end = end; after_line = line; kind = kind } ∷ ts)) eb
     (subst (λ z. Tokens5 at line (cs ++ rest) (record { begin = at; end = z; after_line = line; kind = kind } ∷ ts)) ee
-        (token cs rest kind sp wh (subst (λ n. Tokens5 n false rest ts) (sym en) d)))
+    (token cs rest kind sp wh (subst (λ n. Tokens5 n false rest ts) (sym en) d)))
 
 gap_lexed : (g : Bool) (line : Bool) (at : ℕ) (cs rest : List ℕ) (ts : List Token5) → Tokens5 (at + length (space g)) line (cs ++ rest) ts → Tokens5 at line ((space g ++ cs) ++ rest) ts
 gap_lexed true line at cs rest ts d = white_space refl d

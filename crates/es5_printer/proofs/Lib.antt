@@ -2,6 +2,7 @@ pub mod Shown
 pub mod Starts
 pub mod Tokens
 pub mod Starting
+pub mod Heads
 pub mod Spelling
 pub mod Chars
 pub mod Lexing

@@ -173,7 +173,7 @@ element_gives : (x : Expr5) (xs : List Element5) (rest : List Piece) → GivesEx
 element_gives x xs rest h hs =
     subst (λ w. piece_sites (elements_of false (w ∷ map element_shown xs) rest) ≡ every (map element_sites (element.Element x ∷ xs)) (piece_sites rest)) (sym (s.element_shown-Element x))
     (subst (λ f. piece_sites (in_place (shown x) false g.level_assignment (elements_of true (map element_shown xs) rest)) ≡ f (every (map element_sites xs) (piece_sites rest))) (sym (z.element_sites-Element x))
-        (h false g.level_assignment (elements_of true (map element_shown xs) rest) ∙ ap (expr_sites x) (elements_again (map element_shown xs) rest ∙ hs)))
+    (h false g.level_assignment (elements_of true (map element_shown xs) rest) ∙ ap (expr_sites x) (elements_again (map element_shown xs) rest ∙ hs)))
 
 mutual
   expr_gives : {no_in : Bool} {least : ℕ} {ts : List Token5} {x : Expr5} {us : List Token5} → IsExpr Aside no_in least ts x us → GivesExpr (shown x) (expr_sites x)

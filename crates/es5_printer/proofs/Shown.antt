@@ -189,4 +189,3 @@ function_shown-roll span name parameters body = fold-roll-Function5 (Option Show
 
 pub operand_shown-roll : (operator : BinaryOperator5) (value : Expr5) → operand_shown (roll-Operand5 (record { operator = operator; value = value })) ≡ operand_step (record { operator = operator; value = shown value })
 operand_shown-roll operator value = fold-roll-Operand5 (Option Shown) Shown Write ShownLink Write Write Write Write Write Write (Bool → Write) ShownFunction ShownOperand element_step expr_step for_first_step link_step property_step stat_step block_step case_step catch_step condition_step declared_step function_step operand_step (record { operator = operator; value = value })
-

@@ -189,4 +189,3 @@ function_sites-roll span name parameters body = fold-roll-Function5 Sites Sites 
 
 pub operand_sites-roll : (operator : BinaryOperator5) (value : Expr5) → operand_sites (roll-Operand5 (record { operator = operator; value = value })) ≡ operand_step (record { operator = operator; value = expr_sites value })
 operand_sites-roll operator value = fold-roll-Operand5 Sites Sites Sites LinkSites Sites Sites Sites Sites Sites Sites Sites Sites Sites element_step expr_step for_first_step link_step property_step stat_step block_step case_step catch_step condition_step declared_step function_step operand_step (record { operator = operator; value = value })
-

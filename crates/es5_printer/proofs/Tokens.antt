@@ -165,7 +165,6 @@ assign_spelled assign.BitAndAssign = refl
 assign_spelled assign.BitXorAssign = refl
 assign_spelled assign.BitOrAssign = refl
 
-
 -- the punctuators that are written for the nodes themselves
 pub record Signs : Type 0 where
   pub left_paren : is_one_of (codes "(") punctuators ≡ true

@@ -58,7 +58,7 @@ gap last.Sign c = not (is_closer c)
 
 -- what a punctuator is to what follows, by its first character
 abbrev pub last_of_mark : ℕ → Last
-last_of_mark c = (if (c == 40) || (c == 91) then last.Space else (if c == 46 then last.Point else (if (c == 41) || (c == 93) then last.Word else last.Sign)))
+last_of_mark c = (if (c == 40) || (c == 91) then last.Space else (if c == 46 then last.Point else (if (c == 41) || (c == 93) || (c == 125) then last.Word else last.Sign)))
 
 abbrev pub last_of : Kind5 → Last
 last_of (Word name) = last.Word

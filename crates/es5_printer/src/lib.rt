@@ -8,13 +8,15 @@ ghost use Rattle.es5_ast.specs.Script.{IsTree};
 ghost use Rattle.es5_printer.specs.Printed.{IsPrinted};
 
 mod mark;
+mod operators;
 mod print;
 mod shape;
 mod sheet;
-
-pub use mark::Mark;
+#[cfg(test)]
+mod tests;
 
 use es5_ast::Script;
+pub use mark::Mark;
 use sheet::Sheet;
 use std::alloc::{AllocError, Global};
 

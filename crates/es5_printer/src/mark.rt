@@ -17,7 +17,7 @@ pub(crate) enum Last {
     Space,
     /// the point of a property access
     Point,
-    /// a word, a text, or a closing parenthesis or bracket
+    /// a word, a text, or a closing parenthesis, bracket or brace
     Word,
     Number,
     /// any other punctuator

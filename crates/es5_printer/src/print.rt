@@ -1,18 +1,20 @@
 //! Writes a script node by node. The numbers are sections of ECMA-262, 5.1 edition.
 
 ghost use Rattle.std.specs.Prelude.{◌≡◌, ◌∷◌, ◌<◌, List, map, false, OnOk, is_some, codes};
-ghost use Rattle.es5_ast.specs.Grammar.{some_site, literal_kind, unary_kind, update_kind, binary_kind, assign_kind};
+ghost use Rattle.es5_ast.specs.Grammar.{some_site};
 ghost use Rattle.std.specs.Option.{option_map};
 ghost use Rattle.es5_printer.specs.Layout.{written};
 ghost use Rattle.es5_printer.specs.Pieces.{Piece, Lexeme, LineEnd, word, mark, all, comma, separated, grouped, whole, placed, in_place, maybe, name_of, function_of, element_of, elements_of, begins_of, sites_of, links_of, operands_of, arguments_of, parenthesized_arguments, parts_of, parameters_of, parenthesized_parameters, declared_of, key_of, end_of, header_of, more_of, otherwise_of, value_of, opened_of, returned_of, finally_of, catch_of, body_of, case_test, init_of, element_shown, shown, for_first_shown, link_shown, property_shown, stat_shown, block_shown, case_shown, catch_shown, condition_shown, declared_shown, function_shown, operand_shown};
 
+use crate::operators::{
+    print_assign, print_binary, print_key, print_literal, print_unary, print_update,
+};
 use crate::shape;
 use crate::sheet::Sheet;
 use es_outside::Site;
 use es5_ast::{
-    AssignOperator5, BinaryOperator5, Block5, Case5, Catch5, Condition5, Declared5, Element5,
-    Expr5, ForFirst5, Function5, Identifier5, Key5, Link5, Literal5, Operand5, Property5, Stat5,
-    UnaryOperator5, UpdateOperator5,
+    Block5, Case5, Catch5, Condition5, Declared5, Element5, Expr5, ForFirst5, Function5,
+    Identifier5, Link5, Operand5, Property5, Stat5,
 };
 use sqlite_items::Boxed;
 use std::alloc::AllocError;
@@ -57,14 +59,18 @@ fn print_node(out: &mut Sheet, x: &Expr5, no_in: bool) -> Result<(), AllocError>
             print_links(out, links.as_slice())
         }
         Expr5::New {
-            callee, arguments, ..
+            callee,
+            arguments,
+            ..
         } => {
             out.word(b"new")?;
             print_expr(out, callee.get(), false, shape::MEMBER)?;
             print_arguments(out, arguments.as_slice())
         }
         Expr5::Update {
-            operator, target, ..
+            operator,
+            target,
+            ..
         } => {
             if shape::is_before(*operator) {
                 print_update(out, *operator)?;
@@ -75,7 +81,9 @@ fn print_node(out: &mut Sheet, x: &Expr5, no_in: bool) -> Result<(), AllocError>
             }
         }
         Expr5::Unary {
-            operator, operand, ..
+            operator,
+            operand,
+            ..
         } => {
             print_unary(out, *operator)?;
             print_expr(out, operand.get(), false, shape::UNARY)
@@ -106,18 +114,6 @@ fn print_node(out: &mut Sheet, x: &Expr5, no_in: bool) -> Result<(), AllocError>
             print_expr(out, first.get(), no_in, shape::ASSIGNMENT)?;
             print_parts(out, rest.as_slice(), no_in)
         }
-    }
-}
-
-fn print_literal(out: &mut Sheet, literal: &Literal5) -> Result<(), AllocError>
-    ensures { OnOk result ((rest : List Piece) → written out.new rest ≡ written out.old (Lexeme (literal_kind literal.now) ∷ rest)) }
-{
-    match literal {
-        Literal5::Null => out.word(b"null"),
-        Literal5::Truth(true) => out.word(b"true"),
-        Literal5::Truth(false) => out.word(b"false"),
-        Literal5::Integer(value) => out.integer(*value),
-        Literal5::Text(units) => out.text(units),
     }
 }
 
@@ -196,16 +192,6 @@ fn print_property(out: &mut Sheet, property: &Property5) -> Result<(), AllocErro
             print_key(out, &key.key)?;
             print_after(out, function.get())
         }
-    }
-}
-
-fn print_key(out: &mut Sheet, key: &Key5) -> Result<(), AllocError>
-    ensures { OnOk result ((rest : List Piece) → written out.new rest ≡ written out.old (key_of key.now rest)) }
-{
-    match key {
-        Key5::WordKey(name) => out.word(name.bytes()),
-        Key5::TextKey(units) => out.text(units),
-        Key5::IntegerKey(value) => out.integer(*value),
     }
 }
 
@@ -765,79 +751,5 @@ fn print_finally(out: &mut Sheet, finally: &Option<Block5>) -> Result<(), AllocE
             out.word(b"finally")?;
             print_block(out, finally)
         }
-    }
-}
-
-fn print_update(out: &mut Sheet, operator: UpdateOperator5) -> Result<(), AllocError>
-    ensures { OnOk result ((rest : List Piece) → written out.new rest ≡ written out.old (Lexeme (update_kind operator) ∷ rest)) }
-{
-    match operator {
-        UpdateOperator5::IncrementBefore => out.mark(b"++"),
-        UpdateOperator5::DecrementBefore => out.mark(b"--"),
-        UpdateOperator5::IncrementAfter => out.mark(b"++"),
-        UpdateOperator5::DecrementAfter => out.mark(b"--"),
-    }
-}
-
-fn print_unary(out: &mut Sheet, operator: UnaryOperator5) -> Result<(), AllocError>
-    ensures { OnOk result ((rest : List Piece) → written out.new rest ≡ written out.old (Lexeme (unary_kind operator) ∷ rest)) }
-{
-    match operator {
-        UnaryOperator5::Delete => out.word(b"delete"),
-        UnaryOperator5::Void => out.word(b"void"),
-        UnaryOperator5::Typeof => out.word(b"typeof"),
-        UnaryOperator5::Plus => out.mark(b"+"),
-        UnaryOperator5::Minus => out.mark(b"-"),
-        UnaryOperator5::BitNot => out.mark(b"~"),
-        UnaryOperator5::Not => out.mark(b"!"),
-    }
-}
-
-fn print_binary(out: &mut Sheet, operator: BinaryOperator5) -> Result<(), AllocError>
-    ensures { OnOk result ((rest : List Piece) → written out.new rest ≡ written out.old (Lexeme (binary_kind operator) ∷ rest)) }
-{
-    match operator {
-        BinaryOperator5::Or => out.mark(b"||"),
-        BinaryOperator5::And => out.mark(b"&&"),
-        BinaryOperator5::BitOr => out.mark(b"|"),
-        BinaryOperator5::BitXor => out.mark(b"^"),
-        BinaryOperator5::BitAnd => out.mark(b"&"),
-        BinaryOperator5::Equal => out.mark(b"=="),
-        BinaryOperator5::NotEqual => out.mark(b"!="),
-        BinaryOperator5::Same => out.mark(b"==="),
-        BinaryOperator5::NotSame => out.mark(b"!=="),
-        BinaryOperator5::Less => out.mark(b"<"),
-        BinaryOperator5::Greater => out.mark(b">"),
-        BinaryOperator5::AtMost => out.mark(b"<="),
-        BinaryOperator5::AtLeast => out.mark(b">="),
-        BinaryOperator5::InstanceOf => out.word(b"instanceof"),
-        BinaryOperator5::In => out.word(b"in"),
-        BinaryOperator5::ShiftLeft => out.mark(b"<<"),
-        BinaryOperator5::ShiftRight => out.mark(b">>"),
-        BinaryOperator5::ShiftRightUnsigned => out.mark(b">>>"),
-        BinaryOperator5::Add => out.mark(b"+"),
-        BinaryOperator5::Subtract => out.mark(b"-"),
-        BinaryOperator5::Multiply => out.mark(b"*"),
-        BinaryOperator5::Divide => out.mark(b"/"),
-        BinaryOperator5::Remainder => out.mark(b"%"),
-    }
-}
-
-fn print_assign(out: &mut Sheet, operator: AssignOperator5) -> Result<(), AllocError>
-    ensures { OnOk result ((rest : List Piece) → written out.new rest ≡ written out.old (Lexeme (assign_kind operator) ∷ rest)) }
-{
-    match operator {
-        AssignOperator5::Assign => out.mark(b"="),
-        AssignOperator5::MultiplyAssign => out.mark(b"*="),
-        AssignOperator5::DivideAssign => out.mark(b"/="),
-        AssignOperator5::RemainderAssign => out.mark(b"%="),
-        AssignOperator5::AddAssign => out.mark(b"+="),
-        AssignOperator5::SubtractAssign => out.mark(b"-="),
-        AssignOperator5::ShiftLeftAssign => out.mark(b"<<="),
-        AssignOperator5::ShiftRightAssign => out.mark(b">>="),
-        AssignOperator5::ShiftRightUnsignedAssign => out.mark(b">>>="),
-        AssignOperator5::BitAndAssign => out.mark(b"&="),
-        AssignOperator5::BitXorAssign => out.mark(b"^="),
-        AssignOperator5::BitOrAssign => out.mark(b"|="),
     }
 }

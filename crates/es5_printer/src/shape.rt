@@ -11,13 +11,21 @@ use shared_text::Name;
 
 /// The levels of the grammar of expressions, each of which includes the next (11.14 to 11.1).
 pub(crate) const SEQUENCE: u8 = 0;
+
 pub(crate) const ASSIGNMENT: u8 = 1;
+
 pub(crate) const CONDITIONAL: u8 = 2;
+
 pub(crate) const UNARY: u8 = 13;
+
 pub(crate) const POSTFIX: u8 = 14;
+
 pub(crate) const LEFT_HAND_SIDE: u8 = 15;
+
 pub(crate) const CALL: u8 = 16;
+
 pub(crate) const MEMBER: u8 = 17;
+
 pub(crate) const PRIMARY: u8 = 18;
 
 /// The level of an expression.
@@ -193,7 +201,11 @@ pub(crate) fn begins_call(x: &Expr5, least: u8) -> bool
         Expr5::Chain { head, links, .. } => {
             has_site(links.as_slice()) | begins_call(head.get(), PRIMARY)
         }
-        Expr5::Update { operator, target, .. } => {
+        Expr5::Update {
+            operator,
+            target,
+            ..
+        } => {
             if is_before(*operator) {
                 false
             } else {
@@ -265,7 +277,11 @@ pub(crate) fn opens(x: &Expr5, least: u8) -> bool
         Expr5::ObjectList { .. } => true,
         Expr5::Function(_) => true,
         Expr5::Chain { head, .. } => opens(head.get(), PRIMARY),
-        Expr5::Update { operator, target, .. } => {
+        Expr5::Update {
+            operator,
+            target,
+            ..
+        } => {
             if is_before(*operator) {
                 false
             } else {

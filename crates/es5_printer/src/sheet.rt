@@ -193,7 +193,7 @@ fn last_of_mark(first: u8) -> Last
     if first == b'.' {
         return Last::Point;
     }
-    if first == b')' || first == b']' {
+    if first == b')' || first == b']' || first == b'}' {
         return Last::Word;
     }
     Last::Sign
