@@ -131,8 +131,8 @@ tokens_known (token text rest kind sp wh d) h = let p = split_chars text rest h 
 fills_known : {before ts filled : List Token5} → Fills before ts filled → AreKnown ts → AreKnown filled
 fills_known at_end v = tt
 fills_known (keeps d) v = (v.0, fills_known d v.1)
-fills_known (inserts b a d) v = (tt, (v.0, fills_known d v.1))
-fills_known (inserts_at_end w) v = (tt, tt)
+fills_known (inserts b a d) v = (tt, fills_known d v)
+fills_known (inserts_at_end w d) v = (tt, fills_known d v)
 
 scalars_all : (cs : List ℕ) → scalars cs ≡ true → AreChars cs
 scalars_all [] e = refl
