@@ -2,7 +2,7 @@
 use Rattle.std.proofs.Common.{◌≡◌, ℕ, zero, suc, ◌≤◌, true, false, List, [], ◌∷◌, ◌++◌, refl, sym, ap, subst, append_assoc, arith}
 use Rattle.es5_ast.specs.declared.tree.Stat5.{Stat5}
 use Rattle.es5_ast.specs.Lexical.{Token5}
-use Rattle.es5_ast.specs.Grammar.{Aside, IsProgram, end_of}
+use Rattle.es5_ast.specs.Grammar.{Exact, Aside, IsProgram, end_of}
 use Rattle.es5_ast.specs.Depth.{ProgramWithin}
 use Rattle.es5_ast.specs.Script.{Begins, IsWhole, inserted, Fills, at_end, keeps, inserts, inserts_at_end}
 use Rattle.es5_reading.specs.Parser.{Input5, Outcome5, Took, Parser, is_insertable}
@@ -19,7 +19,7 @@ plus-zero : (n : ℕ) → plus n zero ≡ n
 plus-zero zero = refl
 plus-zero (suc n) = ap (λ m. suc m) (plus-zero n)
 
-plus-more : (n l : ℕ) → l ≤ plus n l
+pub plus-more : (n l : ℕ) → l ≤ plus n l
 plus-more zero l = self l
   where
     self : (l : ℕ) → l ≤ l
@@ -47,7 +47,7 @@ not-begins : (fuel room : ℕ) (before : List Token5) (t : Token5) (ts : List To
 not-begins fuel room before t ts dead b =
     no-program fuel room (before ++ t ∷ b.0) b.1 (subst (λ us. IsProgram Aside us b.1) (append_assoc before (t ∷ []) b.0) b.2) (λ l. dead l (t ∷ b.0) same)
 
-append-nil : (xs : List Token5) → xs ++ [] ≡ xs
+pub append-nil : (xs : List Token5) → xs ++ [] ≡ xs
 append-nil [] = refl
 append-nil (x ∷ xs) = ap (λ ys. x ∷ ys) (append-nil xs)
 
@@ -71,16 +71,22 @@ pub followed-program : (fuel room : ℕ) (tokens : List Token5) (statements : Li
 followed-program fuel room tokens statements after_ e = of_took (subst (λ o. Holds (λ xs c. (c.tokens ≡ []) × FollowedBy SameHead (plain_program fuel room) (record { tokens = tokens; last = 0 }) xs c) o) e
     (follow-program (readers true fuel room) (plain_readers fuel room) (readers-follow fuel room) fuel (record { tokens = tokens; last = 0 })))
 
-same-end : (us : List Token5) → us ≡ [] → SameHead us []
+pub same-end : (us : List Token5) → us ≡ [] → SameHead us []
 same-end us e = subst (λ vs. SameHead vs []) (sym e) nothing
+
+pub derived-of : (fuel room : ℕ) (tokens : List Token5) (statements : List Stat5) (after_ : Input5) (r : (after_.tokens ≡ []) × FollowedBy SameHead (plain_program fuel room) (record { tokens = tokens; last = 0 }) statements after_)
+    → (d : IsProgram Exact r.1.filled statements) × ProgramWithin d room
+derived-of fuel room tokens statements after_ r =
+    let ran = r.1.run zero [] (same-end after_.tokens r.0) in
+    let d = soundness (plus fuel zero) (plus room zero) r.1.filled 0 statements (record { tokens = []; last = after_.last })
+    (subst (λ us. plain_program fuel room zero (record { tokens = us; last = 0 }) ≡ Took statements (record { tokens = []; last = after_.last })) (append-nil r.1.filled) ran) in
+    (d.0, subst (λ n. ProgramWithin d.0 n) (plus-zero room) d.1)
 
 pub filled : IsFilled
 filled fuel room tokens statements after_ e =
     let r = followed-program fuel room tokens statements after_ e in
-    let ran = r.1.run zero [] (same-end after_.tokens r.0) in
-    let d = soundness (plus fuel zero) (plus room zero) r.1.filled 0 statements (record { tokens = []; last = after_.last })
-    (subst (λ us. plain_program fuel room zero (record { tokens = us; last = 0 }) ≡ Took statements (record { tokens = []; last = after_.last })) (append-nil r.1.filled) ran) in
-    record { filled = r.1.filled; fills = gaps-fill fuel room r.1.gaps r.0; derived = d.0; within = subst (λ n. ProgramWithin d.0 n) (plus-zero room) d.1 }
+    let d = derived-of fuel room tokens statements after_ r in
+    record { filled = r.1.filled; fills = gaps-fill fuel room r.1.gaps r.0; derived = d.0; within = d.1 }
 
 taken-of : {A : Type 0} {Q : A → Type 0} {us : List Token5} {o : Outcome5 A} → ReadsOf Q us o → (x : A) × (end : ℕ) × (o ≡ Took x (record { tokens = us; last = end }))
 taken-of (reads_ {x = x} {end = end} q) = (x, end, refl)

@@ -172,7 +172,7 @@ pub record Follows (i : Inner5) (i' : ℕ → Inner5) : Type 0 where
   pub statement : (inside top : Bool) (s : Input5) → Holds (Followed (λ l. (i' l).statement inside top) s) (i.statement inside top s)
   pub statement_stops : (inside top : Bool) → StopsAtSemi (λ l. (i' l).statement inside top)
 
-semicolon-none : (i : Inner5) (ts : List Token5) (last : ℕ) → i.inserting ≡ false → Misses ending ts → Never (semicolon i (record { tokens = ts; last = last }))
+pub semicolon-none : (i : Inner5) (ts : List Token5) (last : ℕ) → i.inserting ≡ false → Misses ending ts → Never (semicolon i (record { tokens = ts; last = last }))
 unfolding semicolon
 semicolon-none i [] last e m = choose-holds inserts (fails Syntax) i.inserting (record { tokens = []; last = last }) (λ h. absurd (true≢false (sym h ∙ e))) (λ h. fault)
 semicolon-none i (t ∷ ts) last e m = subst (λ o. Never (on_taken o t ts (λ u. returns tt) (choose i.inserting inserts (fails Syntax)) (record { tokens = t ∷ ts; last = last }))) (sym m)

@@ -36,7 +36,7 @@ statement_from i inside top at = if_next (next_mark (codes "{")) (block_statemen
 statement-from-semi : (i : Inner5) (inside top : Bool) (at b e : ℕ) (a : Bool) (us : List Token5) (last : ℕ) → statement_from i inside top at (at_semi b e a us last) ≡ Fault Syntax (semi b e a ∷ us)
 statement-from-semi i inside top at b e a us last = compound-semi i inside top at b e a us last
 
-statement-semi : (i : Inner5) (inside top : Bool) (b e : ℕ) (a : Bool) (us : List Token5) (last : ℕ) → statement i inside top (at_semi b e a us last) ≡ Fault Syntax (semi b e a ∷ us)
+pub statement-semi : (i : Inner5) (inside top : Bool) (b e : ℕ) (a : Bool) (us : List Token5) (last : ℕ) → statement i inside top (at_semi b e a us last) ≡ Fault Syntax (semi b e a ∷ us)
 unfolding statement
 statement-semi i inside top b e a us last = statement-from-semi i inside top b b e a us last
 

@@ -24,3 +24,4 @@ pub mod CompleteStatements
 pub mod CompleteCompound
 pub mod Completeness
 pub mod Filled
+pub mod Scripts

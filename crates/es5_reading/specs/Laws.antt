@@ -4,9 +4,9 @@ use Rattle.es5_ast.specs.declared.tree.Stat5.{Stat5}
 use Rattle.es5_ast.specs.Lexical.{Token5}
 use Rattle.es5_ast.specs.Grammar.{Mode5, Exact, IsProgram}
 use Rattle.es5_ast.specs.Depth.{ProgramWithin}
-use Rattle.es5_ast.specs.Script.{Fills}
+use Rattle.es5_ast.specs.Script.{Fills, IsStrict}
 use Rattle.es5_reading.specs.Parser.{Input5, Took}
-use Rattle.es5_reading.specs.Programs.{readers, program}
+use Rattle.es5_reading.specs.Programs.{readers, program, most_open, script}
 
 -- Without inserted semicolons: statements that are read are derived from all of the tokens, with their spans, and at most
 -- `room` constructs are open at once.
@@ -32,3 +32,15 @@ abbrev pub IsComplete : Type 0
 IsComplete = (mode : Mode5) (tokens : List Token5) (statements : List Stat5) → IsProgram mode tokens statements
     → (bound : ℕ) × ((fuel room last : ℕ) → bound ≤ fuel → bound ≤ room
     → (read : List Stat5) × (end : ℕ) × (program (readers false fuel room) fuel (record { tokens = tokens; last = last }) ≡ Took read (record { tokens = []; last = end })))
+
+-- A script that is read: its tokens, with the semicolons put in, begin with the directive of strict code and are its statements,
+-- and no construct opens beyond those that may.
+pub record ScriptReading5 (tokens : List Token5) (statements : List Stat5) : Type 0 where
+  pub filled : List Token5
+  pub fills : Fills [] tokens filled
+  pub strict : IsStrict filled
+  pub derived : IsProgram Exact filled statements
+  pub within : ProgramWithin derived most_open
+
+abbrev pub IsScript : Type 0
+IsScript = (fuel : ℕ) (tokens : List Token5) (statements : List Stat5) (after : Input5) → script fuel tokens ≡ Took statements after → ScriptReading5 tokens statements

@@ -4,7 +4,7 @@
 //! terms of the grammar of `es5_ast`. The functions here carry the laws as their contracts; they do nothing when they run.
 #![tactic(auto)]
 
-ghost use Rattle.es5_reading.specs.Laws.{IsSound, IsFilled, IsComplete};
+ghost use Rattle.es5_reading.specs.Laws.{IsComplete, IsFilled, IsScript, IsSound};
 
 /// What is read without inserted semicolons is derived, with exact spans and with no more constructs open than may open.
 pub fn what_is_read_is_derived()
@@ -19,4 +19,9 @@ pub fn what_is_derived_is_read()
 /// A semicolon is inserted only where no program goes on, and what is read so is derived from the filled tokens.
 pub fn semicolons_are_inserted_where_nothing_goes_on()
     ensures { IsFilled }
+{}
+
+/// The statements of a script are spelled by its tokens, of which the first is the directive of strict code.
+pub fn scripts_are_spelled()
+    ensures { IsScript }
 {}
