@@ -25,3 +25,4 @@ pub mod CompleteCompound
 pub mod Completeness
 pub mod Filled
 pub mod Scripts
+pub mod Places

@@ -1,11 +1,11 @@
 -- What is proved of the model, in the grammar's terms.
-use Rattle.std.specs.Prelude.{◌≡◌, ℕ, ◌≤◌, true, false, List, []}
+use Rattle.std.specs.Prelude.{◌≡◌, ℕ, ◌≤◌, true, false, List, [], ◌++◌}
 use Rattle.es5_ast.specs.declared.tree.Stat5.{Stat5}
 use Rattle.es5_ast.specs.Lexical.{Token5}
 use Rattle.es5_ast.specs.Grammar.{Mode5, Exact, IsProgram}
 use Rattle.es5_ast.specs.Depth.{ProgramWithin}
 use Rattle.es5_ast.specs.Script.{Fills, IsStrict}
-use Rattle.es5_reading.specs.Parser.{Input5, Took}
+use Rattle.es5_reading.specs.Parser.{Input5, Stop5, Took, Fault}
 use Rattle.es5_reading.specs.Programs.{readers, program, most_open, script}
 
 -- Without inserted semicolons: statements that are read are derived from all of the tokens, with their spans, and at most
@@ -44,3 +44,7 @@ pub record ScriptReading5 (tokens : List Token5) (statements : List Stat5) : Typ
 
 abbrev pub IsScript : Type 0
 IsScript = (fuel : ℕ) (tokens : List Token5) (statements : List Stat5) (after : Input5) → script fuel tokens ≡ Took statements after → ScriptReading5 tokens statements
+
+-- A fault stands at one of the tokens, or at the end.
+abbrev pub FaultsAreInside : Type 0
+FaultsAreInside = (fuel : ℕ) (tokens : List Token5) (stop : Stop5) (rest : List Token5) → script fuel tokens ≡ Fault stop rest → (front : List Token5) × (tokens ≡ front ++ rest)

@@ -4,7 +4,7 @@
 //! terms of the grammar of `es5_ast`. The functions here carry the laws as their contracts; they do nothing when they run.
 #![tactic(auto)]
 
-ghost use Rattle.es5_reading.specs.Laws.{IsComplete, IsFilled, IsScript, IsSound};
+ghost use Rattle.es5_reading.specs.Laws.{FaultsAreInside, IsComplete, IsFilled, IsScript, IsSound};
 
 /// What is read without inserted semicolons is derived, with exact spans and with no more constructs open than may open.
 pub fn what_is_read_is_derived()
@@ -24,4 +24,9 @@ pub fn semicolons_are_inserted_where_nothing_goes_on()
 /// The statements of a script are spelled by its tokens, of which the first is the directive of strict code.
 pub fn scripts_are_spelled()
     ensures { IsScript }
+{}
+
+/// A fault of a script stands at one of its tokens, or at the end.
+pub fn faults_stand_at_tokens()
+    ensures { FaultsAreInside }
 {}
