@@ -26,3 +26,4 @@ pub mod Completeness
 pub mod Filled
 pub mod Scripts
 pub mod Places
+pub mod Examples

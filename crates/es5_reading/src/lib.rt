@@ -4,6 +4,7 @@
 //! terms of the grammar of `es5_ast`. The functions here carry the laws as their contracts; they do nothing when they run.
 #![tactic(auto)]
 
+ghost use Rattle.es5_reading.specs.Examples.{AreRead};
 ghost use Rattle.es5_reading.specs.Laws.{FaultsAreInside, IsComplete, IsFilled, IsScript, IsSound};
 
 /// What is read without inserted semicolons is derived, with exact spans and with no more constructs open than may open.
@@ -29,4 +30,9 @@ pub fn scripts_are_spelled()
 /// A fault of a script stands at one of its tokens, or at the end.
 pub fn faults_stand_at_tokens()
     ensures { FaultsAreInside }
+{}
+
+/// Small scripts are read, and texts that are none stop where they should.
+pub fn small_scripts_are_read()
+    ensures { AreRead }
 {}
