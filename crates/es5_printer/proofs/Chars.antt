@@ -1,7 +1,7 @@
 -- The characters of tokens: what spells each kind, that all are printable ASCII, and that what follows makes no longer token.
-use Rattle.std.proofs.Common.{◌≡◌, ℕ, zero, suc, ◌+◌, ◌-◌, ◌^◌, ◌*◌, ◌/◌, ◌%◌, ◌≤◌, ◌<◌, Bool, true, false, ◌||◌, ◌&&◌, not, nat_le, nat_lt, ◌==◌, List, [], ◌∷◌, ◌++◌, length, refl, sym, ap, subst, ◌∙◌, arith, ◌⊎◌, inl, inr, length-append, cond}
+use Rattle.std.proofs.Common.{◌≡◌, ℕ, zero, suc, ◌+◌, ◌-◌, ◌^◌, ◌*◌, ◌/◌, ◌%◌, ◌≤◌, ◌<◌, Bool, true, false, ◌||◌, ◌&&◌, not, nat_le, nat_lt, ◌==◌, List, [], ◌∷◌, ◌++◌, length, refl, sym, ap, subst, ◌∙◌, arith}
 use Rattle.std.specs.Prelude.{codes, if◌then◌else◌}
-use Rattle.std.specs.List.{list_all, list_any}
+use Rattle.std.specs.List.{list_all}
 use Rattle.std.specs.Fmt.{decimal}
 use Rattle.std.specs.Str.{bytes_eq}
 use Rattle.std.specs.Str.Parse.{AllDigits}
@@ -17,7 +17,7 @@ use Rattle.std.proofs.lemmas.List.Folds.{list_all-append}
 use Rattle.es5_ast.specs.Lexical.{Kind5, Word, Integer, Text, Punctuator, Inserted, is_one_of, is_identifier_name, is_identifier_start, is_identifier_part, is_line_terminator, punctuators, hex_value, units_of, width, next_is, is_whole, is_hexadecimal, StringCharacters, none, itself, unicode, SpellsToken, word, decimal_integer, double_quoted, punctuator}
 use Rattle.es5_printer.specs.declared.mark.Last.{Last}
 use Rattle.es5_printer.specs.declared.mark.Last.TheVariants as last
-use Rattle.es5_printer.specs.Layout.{hex_digit, is_plain_unit, escaped, unit_text, units_text, spelling, first_of, is_closer, is_follower, gap, last_of_mark, last_of}
+use Rattle.es5_printer.specs.Layout.{hex_digit, is_plain_unit, escaped, unit_text, units_text, spelling, first_of, is_closer, is_follower, gap, last_of}
 use Rattle.es5_printer.proofs.Tokens.{IsSpelled}
 
 -- printable ASCII

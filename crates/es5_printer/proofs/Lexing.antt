@@ -1,16 +1,14 @@
 -- The characters that are laid out have exactly the tokens of the pieces, each where its `Spot` says.
-use Rattle.std.proofs.Common.{◌≡◌, ℕ, zero, suc, ◌+◌, ◌-◌, ◌≤◌, ◌<◌, Bool, true, false, ◌||◌, ◌&&◌, not, nat_le, ◌==◌, List, [], ◌∷◌, ◌++◌, length, refl, sym, ap, subst, ◌∙◌, arith, length-append, append_assoc, cond, eqb}
-use Rattle.std.specs.List.{list_all}
-use Rattle.std.proofs.lemmas.Bool.{false≢true, eqb-true}
+use Rattle.std.proofs.Common.{◌≡◌, ℕ, ◌+◌, ◌<◌, Bool, true, false, ◌||◌, not, ◌==◌, List, [], ◌∷◌, ◌++◌, length, refl, sym, ap, subst, ◌∙◌, arith, length-append, append_assoc, cond, eqb}
+use Rattle.std.proofs.lemmas.Bool.{eqb-true}
 use Rattle.std.proofs.lemmas.List.{append-nil}
-use Rattle.es_outside.specs.declared.events.Site.{Site}
 use Rattle.es5_ast.specs.Lexical.{Kind5, Token5, width, next_is, is_whole, SpellsToken, Tokens5, finished, white_space, line_terminator, token}
 use Rattle.es5_printer.specs.declared.mark.Last.{Last}
 use Rattle.es5_printer.specs.declared.mark.Last.TheVariants as last
 use Rattle.es5_printer.specs.Pieces.{Piece, Lexeme, Begins, LineEnd}
-use Rattle.es5_printer.specs.Layout.{Written, spelling, first_of, gap, last_of, space, with_token, with_line, with_gap, with_mark, is_full, settled, with_piece, written}
-use Rattle.es5_printer.proofs.Tokens.{Spot, Spots, tokens, IsSpelled, AreSpelled}
-use Rattle.es5_printer.proofs.Chars.{is_clean, clean_width, spelling_clean, spelling_nonempty, spells, may_follow, whole_before}
+use Rattle.es5_printer.specs.Layout.{Written, spelling, first_of, gap, space, is_full, settled, with_piece, written}
+use Rattle.es5_printer.proofs.Tokens.{Spot, Spots, tokens, AreSpelled}
+use Rattle.es5_printer.proofs.Chars.{clean_width, spelling_clean, spelling_nonempty, spells, may_follow, whole_before}
 
 -- what is written for a piece
 abbrev pub settled_text : Bool → Written → List ℕ

@@ -1,44 +1,30 @@
 -- The pieces carry the sites of the tree's calls, in text order: by induction over a derivation of the tree.
-use Rattle.std.proofs.Common.{◌≡◌, ℕ, zero, suc, ◌+◌, ◌≤◌, ◌<◌, Bool, true, false, ◌||◌, ◌&&◌, not, nat_le, List, [], ◌∷◌, ◌++◌, length, map, Option, Some, None, refl, sym, ap, subst, ◌∙◌, arith}
+use Rattle.std.proofs.Common.{◌≡◌, ℕ, ◌+◌, Bool, true, false, List, [], ◌∷◌, map, Option, Some, None, refl, sym, ap, subst, ◌∙◌}
 use Rattle.std.specs.Prelude.{codes}
 use Rattle.std.specs.Option.{option_map}
-use Rattle.std.specs.List.{Contains}
-use Rattle.std.proofs.lemmas.Bool.{false≢true, leb-true}
-use Rattle.es_text.specs.declared.Span.{Span}
 use Rattle.es_outside.specs.declared.events.Site.{Site}
-use Rattle.es5_ast.specs.declared.operators.UnaryOperator5.{UnaryOperator5}
-use Rattle.es5_ast.specs.declared.operators.UnaryOperator5.TheVariants.{Delete, Void, Typeof, Plus, Minus, BitNot, Not}
 use Rattle.es5_ast.specs.declared.operators.UpdateOperator5.{UpdateOperator5}
-use Rattle.es5_ast.specs.declared.operators.UpdateOperator5.TheVariants.{IncrementBefore, DecrementBefore, IncrementAfter, DecrementAfter}
-use Rattle.es5_ast.specs.declared.operators.BinaryOperator5.{BinaryOperator5}
-use Rattle.es5_ast.specs.declared.operators.Literal5.{Literal5}
-use Rattle.es5_ast.specs.declared.operators.Literal5.TheVariants as literals
 use Rattle.es5_ast.specs.declared.tree.Identifier5.{Identifier5}
-use Rattle.es5_ast.specs.declared.tree.PlacedKey5.{PlacedKey5}
 use Rattle.es5_ast.specs.declared.tree.Stat5.{Stat5}
-use Rattle.es5_ast.specs.declared.tree.Stat5.TheVariants as stat
 use Rattle.es5_ast.specs.declared.tree.Declared5.{Declared5}
 use Rattle.es5_ast.specs.declared.tree.Block5.{Block5}
-use Rattle.es5_ast.specs.declared.tree.Condition5.{Condition5, roll-Condition5}
+use Rattle.es5_ast.specs.declared.tree.Condition5.{Condition5}
 use Rattle.es5_ast.specs.declared.tree.ForFirst5.{ForFirst5}
 use Rattle.es5_ast.specs.declared.tree.Case5.{Case5}
 use Rattle.es5_ast.specs.declared.tree.Catch5.{Catch5}
 use Rattle.es5_ast.specs.declared.tree.Function5.{Function5, roll-Function5}
 use Rattle.es5_ast.specs.declared.tree.Expr5.{Expr5}
-use Rattle.es5_ast.specs.declared.tree.Expr5.TheVariants as expr
 use Rattle.es5_ast.specs.declared.tree.Element5.{Element5}
 use Rattle.es5_ast.specs.declared.tree.Element5.TheVariants as element
 use Rattle.es5_ast.specs.declared.tree.Property5.{Property5}
 use Rattle.es5_ast.specs.declared.tree.Link5.{Link5}
-use Rattle.es5_ast.specs.declared.tree.Link5.TheVariants as link
 use Rattle.es5_ast.specs.declared.tree.Operand5.{Operand5}
-use Rattle.es5_ast.specs.Lexical.{Kind5, Word, Integer, Text, Punctuator, Inserted, Token5}
+use Rattle.es5_ast.specs.Lexical.{Token5}
 use Rattle.es5_ast.specs.Grammar as g
-use Rattle.es5_ast.specs.Grammar.{Mode5, Aside, Marked, is_word, is_mark, IsWord, IsMark, IsEnd, IsOnLine, begins, begin_of, is_identifier, literal_kind, key_kind, update_kind, unary_kind, binary_kind, assign_kind, is_before, is_in, ends, some_site, IsIdentifier, IsKey, AreParameters, IsExpr, IsNode, IsNewCallee, AreElements, AreProperties, IsProperty, IsAccessor, AreLinks, AreArguments, AreOperands, AreParts, IsFunction, AreStats, IsStat, IsBlock, AreDeclared, IsDeclared, IsIf, IsCondition, IsForFirst, IsOptional, IsClosed, IsLabel, IsReturned, AreCases, AreInCase, IsCatch, IsProgram}
-use Rattle.es5_printer.specs.Pieces.{Piece, Lexeme, Begins, LineEnd, Write, Shown, ShownLink, ShownOperand, ShownFunction, word, mark, all, comma, separated, grouped, whole, placed, is_bare, in_place, maybe, name_of, function_of, element_of, elements_of, sites_of, begins_of, links_of, has_call, operands_of, any_in, level_of, arguments_of, parenthesized_arguments, parts_of, parameters_of, parenthesized_parameters, declared_of, update_of, key_of, end_of, header_of, more_of, otherwise_of, value_of, opened_of, returned_of, finally_of, catch_of, body_of, case_test, init_of, begins_call, opens, element_shown, shown, for_first_shown, link_shown, property_shown, stat_shown, block_shown, case_shown, catch_shown, condition_shown, declared_shown, function_shown, operand_shown}
+use Rattle.es5_ast.specs.Grammar.{Aside, update_kind, is_before, some_site, IsExpr, IsNode, IsNewCallee, AreElements, AreProperties, IsProperty, IsAccessor, AreLinks, AreArguments, AreOperands, AreParts, IsFunction, AreStats, IsStat, IsBlock, AreDeclared, IsDeclared, IsIf, IsCondition, IsForFirst, IsOptional, IsClosed, IsReturned, AreCases, AreInCase, IsCatch, IsProgram}
+use Rattle.es5_printer.specs.Pieces.{Piece, Lexeme, Begins, LineEnd, Write, Shown, ShownLink, ShownOperand, ShownFunction, mark, all, separated, grouped, whole, placed, is_bare, in_place, maybe, name_of, function_of, elements_of, sites_of, begins_of, links_of, operands_of, level_of, arguments_of, parenthesized_arguments, parts_of, parameters_of, parenthesized_parameters, declared_of, update_of, end_of, more_of, otherwise_of, returned_of, body_of, begins_call, opens, element_shown, shown, for_first_shown, link_shown, property_shown, stat_shown, block_shown, case_shown, catch_shown, condition_shown, declared_shown, function_shown, operand_shown}
 use Rattle.es5_printer.proofs.Shown as s
 use Rattle.es5_printer.specs.Sites.{Sites, LinkSites, every, any, own_site, own_sites, inner_sites, element_sites, expr_sites, for_first_sites, link_sites as sites_of_link, property_sites, stat_sites, block_sites, case_sites, catch_sites, condition_sites, declared_sites, function_sites, operand_sites}
-use Rattle.es5_printer.specs.Printed.{Call}
 use Rattle.es5_printer.proofs.SitesShown as z
 use Rattle.es5_printer.proofs.Tokens.{Spots}
 use Rattle.es5_printer.proofs.Placing.{token_calls}

@@ -1,28 +1,27 @@
 -- The marks that are laid out stand where their calls begin, and all characters are printable.
-use Rattle.std.proofs.Common.{◌≡◌, ℕ, zero, suc, ◌+◌, ◌-◌, ◌/◌, ◌%◌, ◌≤◌, ◌<◌, Bool, true, false, ◌||◌, ◌&&◌, not, nat_le, ◌==◌, List, [], ◌∷◌, ◌++◌, length, take, refl, sym, ap, subst, ◌∙◌, arith, length-append, append_assoc, cond, eqb, get_or}
-use Rattle.std.specs.Prelude.{nat_lt, slice_index, if◌then◌else◌}
+use Rattle.std.proofs.Common.{◌≡◌, ℕ, zero, suc, ◌+◌, ◌-◌, ◌/◌, ◌%◌, ◌≤◌, ◌<◌, Bool, true, false, ◌||◌, ◌&&◌, nat_le, ◌==◌, List, [], ◌∷◌, ◌++◌, length, take, refl, sym, ap, subst, ◌∙◌, arith, length-append, append_assoc, cond}
+use Rattle.std.specs.Prelude.{if◌then◌else◌}
 use Rattle.std.specs.List.{list_all, Contains}
-use Rattle.std.specs.Str.{chars, IsUtf8, IsAscii, encode_utf8_all}
-use Rattle.std.proofs.lemmas.Bool.{false≢true, eqb-true, leb-true, leb-false, le-leb, and_parts}
+use Rattle.std.specs.Str.{IsAscii}
+use Rattle.std.proofs.lemmas.Bool.{false≢true, eqb-true, leb-false, le-leb, and_parts}
 use Rattle.std.proofs.lemmas.Bool.Decides.{nat_tests}
-use Rattle.std.proofs.lemmas.List.{append-nil, take-append-le}
-use Rattle.std.proofs.lemmas.Str.{chars-IsAscii, IsUtf8-from_ascii, encodes-IsAscii, IsAscii-take}
+use Rattle.std.proofs.lemmas.List.{append-nil}
+use Rattle.std.proofs.lemmas.Str.{encodes-IsAscii, IsAscii-take}
 use Rattle.std.proofs.Math.Seq.{take-append_seam, get_or-append_seam}
 use Rattle.es_text.specs.declared.Place.{Place}
 use Rattle.es_text.specs.Units.{units_of_code_point}
-use Rattle.es_text.specs.Places.{ends_line, place_after, place_from, place_at, offset_at, IsPlace}
+use Rattle.es_text.specs.Places.{ends_line, place_after, place_from, IsPlace}
 use Rattle.es_outside.specs.declared.events.Site.{Site}
 use Rattle.es5_ast.specs.Lexical.{Kind5}
 use Rattle.es5_ast.specs.Grammar.{begin_of}
 use Rattle.es5_printer.specs.declared.mark.Mark.{Mark}
-use Rattle.es5_printer.specs.declared.mark.Last.{Last}
 use Rattle.es5_printer.specs.declared.mark.Last.TheVariants as last
 use Rattle.es5_printer.specs.Pieces.{Piece, Lexeme, Begins, LineEnd}
-use Rattle.es5_printer.specs.Layout.{Written, spelling, first_of, gap, last_of, space, with_token, with_line, with_gap, with_mark, limit, is_full, settled, with_piece, written, blank}
+use Rattle.es5_printer.specs.Layout.{Written, spelling, first_of, gap, space, with_line, with_gap, with_mark, limit, is_full, settled, with_piece, written, blank}
 use Rattle.es5_printer.specs.Printed.{Call, IsMarkOf, AreMarksOf, IsRising, is_printable, EndsLine}
-use Rattle.es5_printer.proofs.Tokens.{Spot, Spots, tokens, AreMarked, IsSpelled, AreSpelled, is_token_first}
+use Rattle.es5_printer.proofs.Tokens.{Spots, tokens, AreMarked, IsSpelled, AreSpelled, is_token_first}
 use Rattle.es5_printer.proofs.Chars.{is_clean, clean_bounds, spelling_clean, spelling_nonempty}
-use Rattle.es5_printer.proofs.Lexing.{settled_text, added, text, piece_bytes, written_bytes, spot_of, Agrees, piece_length}
+use Rattle.es5_printer.proofs.Lexing.{added, text, piece_bytes, Agrees, piece_length}
 
 -- a place after a printable character, and after several
 abbrev pub step : Place → ℕ → Place

@@ -1,5 +1,5 @@
 -- The sites of each node, by those of its children.
-use Rattle.std.proofs.Common.{◌≡◌, ℕ, Bool, List, Option, Some, None, map, sym, ap, ◌∙◌}
+use Rattle.std.proofs.Common.{◌≡◌, ℕ, List, Option, Some, None, map, sym, ap, ◌∙◌}
 use Rattle.std.specs.Option.{option_map}
 use Rattle.es_text.specs.declared.Span.{Span}
 use Rattle.es_outside.specs.declared.events.Site.{Site}
@@ -11,18 +11,17 @@ use Rattle.es5_ast.specs.declared.operators.Literal5.{Literal5}
 use Rattle.es5_ast.specs.declared.tree.Identifier5.{Identifier5}
 use Rattle.es5_ast.specs.declared.tree.PlacedKey5.{PlacedKey5}
 use Rattle.es5_ast.specs.declared.tree.Element5.TheOpen as layer
-use Rattle.es5_ast.specs.declared.tree.Element5.TheOpen.{Element5-F, Expr5-F, ForFirst5-F, Link5-F, Property5-F, Stat5-F, Block5-F, Case5-F, Catch5-F, Condition5-F, Declared5-F, Function5-F, Operand5-F}
-use Rattle.es5_ast.specs.declared.tree.Element5.{Element5, roll-Element5, fold-roll-Element5}
+use Rattle.es5_ast.specs.declared.tree.Element5.{Element5, fold-roll-Element5}
 use Rattle.es5_ast.specs.declared.tree.Element5.TheVariants as element
-use Rattle.es5_ast.specs.declared.tree.Expr5.{Expr5, roll-Expr5, fold-roll-Expr5}
+use Rattle.es5_ast.specs.declared.tree.Expr5.{Expr5, fold-roll-Expr5}
 use Rattle.es5_ast.specs.declared.tree.Expr5.TheVariants as expr
-use Rattle.es5_ast.specs.declared.tree.ForFirst5.{ForFirst5, roll-ForFirst5, fold-roll-ForFirst5}
+use Rattle.es5_ast.specs.declared.tree.ForFirst5.{ForFirst5, fold-roll-ForFirst5}
 use Rattle.es5_ast.specs.declared.tree.ForFirst5.TheVariants as for_first
-use Rattle.es5_ast.specs.declared.tree.Link5.{Link5, roll-Link5, fold-roll-Link5}
+use Rattle.es5_ast.specs.declared.tree.Link5.{Link5, fold-roll-Link5}
 use Rattle.es5_ast.specs.declared.tree.Link5.TheVariants as link
-use Rattle.es5_ast.specs.declared.tree.Property5.{Property5, roll-Property5, fold-roll-Property5}
+use Rattle.es5_ast.specs.declared.tree.Property5.{Property5, fold-roll-Property5}
 use Rattle.es5_ast.specs.declared.tree.Property5.TheVariants as property
-use Rattle.es5_ast.specs.declared.tree.Stat5.{Stat5, roll-Stat5, fold-roll-Stat5}
+use Rattle.es5_ast.specs.declared.tree.Stat5.{Stat5, fold-roll-Stat5}
 use Rattle.es5_ast.specs.declared.tree.Stat5.TheVariants as stat
 use Rattle.es5_ast.specs.declared.tree.Block5.{Block5, roll-Block5, fold-roll-Block5}
 use Rattle.es5_ast.specs.declared.tree.Case5.{Case5, roll-Case5, fold-roll-Case5}

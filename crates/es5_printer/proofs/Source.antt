@@ -1,12 +1,12 @@
 -- What a text of the script says of its tokens: characters spell each, and the directive comes first.
-use Rattle.std.proofs.Common.{◌≡◌, ℕ, zero, suc, ◌+◌, ◌-◌, ◌*◌, ◌/◌, ◌%◌, ◌≤◌, ◌<◌, Bool, true, false, ◌||◌, ◌&&◌, not, nat_le, nat_lt, ◌==◌, List, [], ◌∷◌, ◌++◌, length, Option, Some, None, refl, sym, ap, subst, ◌∙◌, arith, cond, inl, inr}
+use Rattle.std.proofs.Common.{◌≡◌, ℕ, suc, ◌+◌, ◌-◌, ◌/◌, ◌%◌, ◌<◌, Bool, true, false, ◌||◌, ◌&&◌, nat_le, nat_lt, ◌==◌, List, [], ◌∷◌, ◌++◌, Option, refl, sym, ap, subst, ◌∙◌, arith, inl, inr}
 use Rattle.std.specs.Prelude.{codes, if◌then◌else◌}
-use Rattle.std.specs.List.{list_all, list_any}
-use Rattle.std.specs.Str.{chars, IsUtf8, bytes_eq}
+use Rattle.std.specs.List.{list_all}
+use Rattle.std.specs.Str.{chars, IsUtf8}
 use Rattle.std.specs.Char.{digit_value, is_ascii_hexdigit}
 use Rattle.std.proofs.lemmas.Str.{scalars-chars}
 use Rattle.std.proofs.Math.Utf8.{scalar, scalars, scalar_cases}
-use Rattle.std.proofs.lemmas.Bool.{false≢true, eqb-true, leb-true, leb-false, le-leb, and_parts}
+use Rattle.std.proofs.lemmas.Bool.{false≢true, eqb-true, leb-true, le-leb, and_parts}
 use Rattle.std.proofs.lemmas.Bool.Decides.{nat_tests}
 use Rattle.std.proofs.lemmas.List.Folds.{list_all-append}
 use Rattle.es_text.specs.declared.Span.{Span}
@@ -30,12 +30,12 @@ use Rattle.es5_ast.specs.declared.tree.Expr5.{Expr5}
 use Rattle.es5_ast.specs.declared.tree.Expr5.TheVariants as expr
 use Rattle.es5_ast.specs.declared.tree.Link5.{Link5}
 use Rattle.es5_ast.specs.declared.tree.Operand5.{Operand5}
-use Rattle.es5_ast.specs.Lexical.{Kind5, Word, Integer, Text, Punctuator, Inserted, Token5, is_single_escape, single_escapes, units_of, hex_value, StringCharacters, none, itself, single, non_escape, null_unit, hexadecimal, unicode, continuation, SpellsToken, word, decimal_integer, hexadecimal_integer, double_quoted, single_quoted, punctuator, Tokens5, finished, white_space, line_terminator, single_line_comment, multi_line_comment, token}
+use Rattle.es5_ast.specs.Lexical.{Kind5, Word, Integer, Text, Punctuator, Inserted, Token5, is_single_escape, units_of, hex_value, StringCharacters, none, itself, single, non_escape, null_unit, hexadecimal, unicode, continuation, SpellsToken, word, decimal_integer, hexadecimal_integer, double_quoted, single_quoted, punctuator, Tokens5, finished, white_space, line_terminator, single_line_comment, multi_line_comment, token}
 use Rattle.es5_ast.specs.Grammar as g
-use Rattle.es5_ast.specs.Grammar.{Aside, is_word, IsWord, IsMark, IsEnd, begins, ends, literal_kind, update_kind, unary_kind, binary_kind, assign_kind, IsIdentifier, IsExpr, IsNode, IsNewCallee, AreLinks, AreOperands, AreParts, IsFunction, IsStat, IsBlock, IsIf, IsCondition, IsProgram}
+use Rattle.es5_ast.specs.Grammar.{Aside, is_word, begins, ends, literal_kind, update_kind, unary_kind, binary_kind, assign_kind, IsIdentifier, IsExpr, IsNode, AreLinks, AreOperands, AreParts, IsFunction, IsStat, IsBlock, IsIf}
 use Rattle.es5_ast.specs.Script.{Fills, at_end, keeps, inserts, inserts_at_end}
 use Rattle.es5_printer.proofs.Tokens.{IsKnown, AreKnown}
-use Rattle.es5_printer.proofs.Starting.{begins_if, if_of_if}
+use Rattle.es5_printer.proofs.Starting.{if_of_if}
 
 abbrev is_unit : ℕ → Bool
 is_unit u = nat_lt u 65536

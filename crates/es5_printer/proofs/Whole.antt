@@ -1,29 +1,27 @@
 -- What is printed for a script that is the tree of some text.
-use Rattle.std.proofs.Common.{◌≡◌, ℕ, ◌+◌, ◌≤◌, Bool, true, false, List, [], ◌∷◌, ◌++◌, length, map, refl, sym, ap, subst, ◌∙◌, arith}
+use Rattle.std.proofs.Common.{◌≡◌, ℕ, ◌+◌, Bool, true, false, List, [], ◌∷◌, ◌++◌, map, refl, sym, ap, subst, ◌∙◌}
 use Rattle.std.specs.Prelude.{codes}
-use Rattle.std.specs.List.{list_all}
-use Rattle.std.specs.Str.{chars, IsUtf8, IsAscii}
+use Rattle.std.specs.Str.{chars, IsAscii}
 use Rattle.std.proofs.lemmas.Bool.{false≢true}
 use Rattle.std.proofs.lemmas.Str.{chars-IsAscii, IsUtf8-from_ascii}
 use Rattle.es_text.specs.declared.Span.{Span}
 use Rattle.es5_ast.specs.declared.operators.Literal5.TheVariants as literals
-use Rattle.es5_ast.specs.declared.tree.Expr5.{Expr5}
 use Rattle.es5_ast.specs.declared.tree.Expr5.TheVariants as expr
 use Rattle.es5_ast.specs.declared.tree.Stat5.{Stat5}
 use Rattle.es5_ast.specs.declared.tree.Stat5.TheVariants as stat
 use Rattle.es5_ast.specs.declared.tree.Script.{Script}
-use Rattle.es5_ast.specs.Lexical.{Kind5, Text, Punctuator, Token5, Tokens5}
+use Rattle.es5_ast.specs.Lexical.{Text, Token5, Tokens5}
 use Rattle.es5_ast.specs.Grammar as g
-use Rattle.es5_ast.specs.Grammar.{Aside, Marked, begins, ends, IsProgram}
-use Rattle.es5_ast.specs.Script.{Fills, keeps, at_end, IsStrict, Spells, IsTree}
+use Rattle.es5_ast.specs.Grammar.{Aside, ends, IsProgram}
+use Rattle.es5_ast.specs.Script.{Fills, keeps, at_end, IsStrict, IsTree}
 use Rattle.es5_printer.specs.declared.mark.Mark.{Mark}
-use Rattle.es5_printer.specs.Pieces.{Piece, Lexeme, Begins, LineEnd, all, mark, end_of, whole, opened_of, shown, stat_shown, stats_pieces}
-use Rattle.es5_printer.specs.Layout.{Written, with_piece, written, blank}
-use Rattle.es5_printer.specs.Printed.{Call, AreMarksOf, IsRising, is_printable, EndsLine, IsPrinted}
+use Rattle.es5_printer.specs.Pieces.{Piece, Lexeme, all, end_of, opened_of, stat_shown, stats_pieces}
+use Rattle.es5_printer.specs.Layout.{Written, written, blank}
+use Rattle.es5_printer.specs.Printed.{Call, AreMarksOf, IsRising, IsPrinted}
 use Rattle.es5_printer.proofs.Shown as s
-use Rattle.es5_printer.proofs.Tokens.{Spot, Spots, tokens, AreMarked, AreKnown, AreSpelled}
+use Rattle.es5_printer.proofs.Tokens.{Spots, tokens, AreKnown, AreSpelled}
 use Rattle.es5_printer.proofs.Spelling.{program_printed}
-use Rattle.es5_printer.proofs.Lexing.{text, written_bytes, spot_of, spots_from, Agrees, agrees, lexed}
+use Rattle.es5_printer.proofs.Lexing.{text, written_bytes, spots_from, Agrees, agrees, lexed}
 use Rattle.es5_printer.proofs.Placing.{marks_from, calls_from, token_calls, all_marked, calls_same, written_marks, written_placed, blank_placed, marks_placed, calls_rise, ends_line_by, printable_ascii}
 use Rattle.es5_printer.proofs.Marking.{program_gives, call_sites}
 use Rattle.es5_printer.proofs.Source.{first_kind, second_ends, IsTextStat, text_stat, source_known}

@@ -1,8 +1,6 @@
 -- What is written for each node of a script: tokens, the places where a call that carries a site begins, and the ends of
 -- lines. A `Write` puts what is written for a node before what follows it.
-use Rattle.std.specs.Prelude.{ℕ, ◌+◌, Bool, true, false, ◌&&◌, ◌||◌, not, nat_le, List, [], ◌∷◌, ◌++◌, codes, map, Option, Some, None, is_some}
-use Rattle.std.specs.List.{list_any}
-use Rattle.es_text.specs.declared.Span.{Span}
+use Rattle.std.specs.Prelude.{ℕ, ◌+◌, Bool, true, false, ◌&&◌, ◌||◌, not, nat_le, List, [], ◌∷◌, codes, map, Option, Some, None, is_some}
 use Rattle.es_outside.specs.declared.events.Site.{Site}
 use Rattle.es5_ast.specs.declared.operators.BinaryOperator5.{BinaryOperator5}
 use Rattle.es5_ast.specs.declared.operators.UpdateOperator5.{UpdateOperator5}
@@ -23,7 +21,7 @@ use Rattle.es5_ast.specs.declared.tree.Function5.{Function5, fold-Function5}
 use Rattle.es5_ast.specs.declared.tree.Operand5.{Operand5, fold-Operand5}
 use Rattle.es5_ast.specs.declared.tree.Element5.TheOpen as layer
 use Rattle.es5_ast.specs.declared.tree.Element5.TheOpen.{Element5-F, Expr5-F, ForFirst5-F, Link5-F, Property5-F, Stat5-F, Block5-F, Case5-F, Catch5-F, Condition5-F, Declared5-F, Function5-F, Operand5-F}
-use Rattle.es5_ast.specs.Lexical.{Kind5, Word, Integer, Text, Punctuator, Inserted}
+use Rattle.es5_ast.specs.Lexical.{Kind5, Word, Punctuator}
 use Rattle.es5_ast.specs.Grammar.{is_word, is_mark, some_site, literal_kind, key_kind, unary_kind, update_kind, binary_kind, binary_level, assign_kind, is_before, is_in, chain_level, level_sequence, level_assignment, level_conditional, level_unary, level_postfix, level_left_hand_side, level_member, level_primary}
 
 pub data Piece : Type 0 where

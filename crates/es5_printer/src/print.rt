@@ -1,10 +1,10 @@
 //! Writes a script node by node. The numbers are sections of ECMA-262, 5.1 edition.
 
-ghost use Rattle.std.specs.Prelude.{◌≡◌, ◌∷◌, ◌<◌, List, map, false, OnOk, is_some, codes};
+ghost use Rattle.std.specs.Prelude.{◌≡◌, ◌<◌, List, map, false, OnOk, is_some, codes};
 ghost use Rattle.es5_ast.specs.Grammar.{some_site};
 ghost use Rattle.std.specs.Option.{option_map};
 ghost use Rattle.es5_printer.specs.Layout.{written};
-ghost use Rattle.es5_printer.specs.Pieces.{Piece, Lexeme, LineEnd, word, mark, all, comma, separated, grouped, whole, placed, in_place, maybe, name_of, function_of, element_of, elements_of, begins_of, sites_of, links_of, operands_of, arguments_of, parenthesized_arguments, parts_of, parameters_of, parenthesized_parameters, declared_of, key_of, end_of, header_of, more_of, otherwise_of, value_of, opened_of, returned_of, finally_of, catch_of, body_of, case_test, init_of, element_shown, shown, for_first_shown, link_shown, property_shown, stat_shown, block_shown, case_shown, catch_shown, condition_shown, declared_shown, function_shown, operand_shown};
+ghost use Rattle.es5_printer.specs.Pieces.{Piece, word, mark, all, comma, separated, grouped, whole, in_place, maybe, name_of, function_of, element_of, elements_of, begins_of, sites_of, links_of, operands_of, arguments_of, parenthesized_arguments, parts_of, parameters_of, parenthesized_parameters, declared_of, end_of, header_of, more_of, otherwise_of, value_of, opened_of, returned_of, finally_of, catch_of, body_of, case_test, init_of, element_shown, shown, for_first_shown, link_shown, property_shown, stat_shown, block_shown, case_shown, catch_shown, condition_shown, declared_shown, function_shown, operand_shown};
 
 use crate::operators::{
     print_assign, print_binary, print_key, print_literal, print_unary, print_update,

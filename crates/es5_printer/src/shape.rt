@@ -3,7 +3,7 @@
 ghost use Rattle.std.specs.Prelude.{◌≡◌, ◌||◌, List, map, false, codes};
 ghost use Rattle.std.specs.Str.{bytes_eq};
 ghost use Rattle.es5_ast.specs.Grammar.{chain_level, binary_level, is_in, is_before, some_site};
-ghost use Rattle.es5_printer.specs.Pieces.{Piece, Write, shown, link_shown, operand_shown, has_call, level_of, any_in, is_bare, in_place, begins_call, begins_of, sites_of, update_level, opens};
+ghost use Rattle.es5_printer.specs.Pieces.{Piece, shown, link_shown, operand_shown, has_call, level_of, any_in, is_bare, in_place, begins_call, begins_of, sites_of, update_level, opens};
 
 use es_outside::Site;
 use es5_ast::{BinaryOperator5, Expr5, Link5, Operand5, UpdateOperator5};

@@ -1,9 +1,9 @@
 //! The text under way, token by token: spaces, lines and marks.
 
-ghost use Rattle.std.specs.Prelude.{◌≡◌, ◌∷◌, ◌++◌, [], List, ℕ, OnOk, ◌<◌};
+ghost use Rattle.std.specs.Prelude.{◌≡◌, ◌∷◌, ◌++◌, List, OnOk, ◌<◌};
 ghost use Rattle.es5_ast.specs.Lexical.{Integer, Text};
 ghost use Rattle.es5_printer.specs.Pieces.{Piece, Lexeme, Begins, LineEnd, word, mark};
-ghost use Rattle.es5_printer.specs.Layout.{Written, gap, is_closer, is_follower, last_of_mark, first_of, is_plain_unit, hex_digit, escaped, unit_text, units_text, with_token, with_line, with_gap, written, blank};
+ghost use Rattle.es5_printer.specs.Layout.{Written, gap, is_closer, is_follower, last_of_mark, first_of, is_plain_unit, hex_digit, escaped, unit_text, units_text, with_token, with_line, written, blank};
 
 use crate::mark::{Last, Mark};
 use es_outside::Site;
