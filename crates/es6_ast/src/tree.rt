@@ -103,9 +103,9 @@ pub enum Statement {
     Debugger {
         span: Span,
     },
-    /// 14.1, 14.4: a function has a name, but in `export default`
+    /// 14.1, 14.4, with a name
     FunctionDeclaration(Boxed<Function>),
-    /// 14.5: a class has a name, but in `export default`
+    /// 14.5, with a name
     ClassDeclaration(Boxed<Class>),
 }
 
@@ -315,9 +315,11 @@ pub enum Expression {
         literal: Literal,
     },
     Template(Template),
+    /// 12.2.5: `ends_in_comma` says that a comma follows the last element, which a rest in a pattern may not have
     ArrayList {
         span: Span,
         elements: Items<Element>,
+        ends_in_comma: bool,
     },
     ObjectList {
         span: Span,

@@ -1,0 +1,7 @@
+pub mod Tokens
+pub mod Targets
+pub mod Grammar
+pub mod Modules
+pub mod Semicolons
+pub mod Depth
+pub mod Dead
