@@ -5,3 +5,5 @@ pub mod Modules
 pub mod Semicolons
 pub mod Depth
 pub mod Dead
+pub mod Findings
+pub mod Early
