@@ -7,3 +7,4 @@ pub mod Depth
 pub mod Dead
 pub mod Findings
 pub mod Early
+pub mod Outside
