@@ -8,3 +8,5 @@ pub mod Dead
 pub mod Findings
 pub mod Early
 pub mod Outside
+pub mod Endings
+pub mod Graphs
