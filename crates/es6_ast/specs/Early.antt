@@ -1,6 +1,6 @@
 -- The early errors of modules (ECMA-262, 6th edition, 12 to 15, each row with its section), as pairs of a rule and a place.
 -- docs/PROFILE.md has the table.
-use Rattle.std.specs.Prelude.{◌≡◌, ℕ, ◌-◌, Bool, true, false, ◌&&◌, ◌||◌, not, ◌==◌, List, [], ◌∷◌, ◌++◌, codes, cond, Option, Some, None, is_some, map}
+use Rattle.std.specs.Prelude.{ℕ, ◌-◌, Bool, true, false, ◌&&◌, ◌||◌, not, ◌==◌, List, [], ◌∷◌, ◌++◌, codes, cond, Option, Some, None, is_some, map}
 use Rattle.std.specs.Str.{bytes_eq}
 use Rattle.es_text.specs.declared.Span.{Span}
 use Rattle.es_outside.specs.HostNames.{is_among}
@@ -13,7 +13,7 @@ use Rattle.es6_ast.specs.declared.operators.Literal.TheVariants as literals
 use Rattle.es6_ast.specs.declared.operators.VariableKind.{VariableKind}
 use Rattle.es6_ast.specs.declared.operators.VariableKind.TheVariants.{Var, Let, Const}
 use Rattle.es6_ast.specs.declared.operators.MethodKind.{MethodKind}
-use Rattle.es6_ast.specs.declared.operators.MethodKind.TheVariants.{PlainMethod, GetterMethod, SetterMethod, GeneratorMethod}
+use Rattle.es6_ast.specs.declared.operators.MethodKind.TheVariants.{PlainMethod}
 use Rattle.es6_ast.specs.declared.tree.Identifier.{Identifier}
 use Rattle.es6_ast.specs.declared.tree.Expression.{Expression, fold-Expression}
 use Rattle.es6_ast.specs.declared.tree.Statement.{Statement, fold-Statement}
@@ -551,10 +551,12 @@ item_found (item.Statement s) = of_statement (statement_found s)
 abbrev pub undeclared : List Identifier → List Identifier → List Pair
 undeclared declared xs = joined (λ x. when (not (is_name_of x.name declared)) 24 x.span.begin) xs
 
--- the pairs of a module, in no order of their own; E23 (15.2.1.1)
-abbrev pub early_pairs : Module → List Pair
-early_pairs m =
-    let found = map item_found m.items in
+-- the pairs of a module by its items, in no order of their own; E23 (15.2.1.1)
+abbrev pub module_pairs : List ItemFound → List Pair
+module_pairs found =
     let lexical = joined (λ x. x.lexical) found in
     let vars = joined (λ x. x.vars) found in
     scope_pairs lexical vars ++ repeated 23 [] (joined (λ x. x.exported) found) ++ undeclared (lexical ++ vars) (joined (λ x. x.local) found) ++ joined (λ x. x.pairs) found
+
+abbrev pub early_pairs : Module → List Pair
+early_pairs m = module_pairs (map item_found m.items)

@@ -1,6 +1,6 @@
 -- Where the names that modules export end, over a graph, and graphs that are linked. The rule is this project's own, in place of
 -- ResolveExport (ECMA-262, 6th edition, 15.2.1.16.3): a module's own exports hide its star exports, and every path counts.
-use Rattle.std.specs.Prelude.{◌≡◌, ℕ, Bool, true, false, List, [], ◌∷◌, ◌++◌, codes, cond, map, Option, Some, None, Contains, slice_get}
+use Rattle.std.specs.Prelude.{◌≡◌, ℕ, Bool, false, List, [], ◌∷◌, ◌++◌, codes, cond, map, Option, Some, None, Contains, slice_get}
 use Rattle.std.specs.List.{list_any}
 use Rattle.std.specs.Str.{bytes_eq}
 use Rattle.es6_ast.specs.declared.tree.Identifier.{Identifier}
@@ -9,7 +9,6 @@ use Rattle.es6_ast.specs.declared.module.Item.{Item}
 use Rattle.es6_ast.specs.declared.module.Item.TheVariants as item
 use Rattle.es6_ast.specs.declared.module.ImportedNames.{ImportedNames}
 use Rattle.es6_ast.specs.declared.module.ImportedNames.TheVariants.{NoNames, Namespace, Listed}
-use Rattle.es6_ast.specs.declared.module.ImportName.{ImportName}
 use Rattle.es6_ast.specs.declared.module.ExportName.{ExportName}
 use Rattle.es6_ast.specs.declared.module.Specifier.{Specifier}
 use Rattle.es6_ast.specs.declared.module.DefaultExport.{DefaultExport}

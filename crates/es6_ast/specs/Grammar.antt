@@ -1,12 +1,11 @@
 -- The grammar of module code (ECMA-262, 6th edition, 12 to 15, without annex B, and for `**` the 7th edition, 12.6) over
 -- tokens among which every semicolon stands. Each relation says which tokens spell a node, and which follow it:
 -- `IsStatement f ts s us` says that `ts` begin with tokens that spell `s`, and go on with `us`.
-use Rattle.std.specs.Prelude.{◌≡◌, ℕ, ℤ, ◌+◌, ◌≤◌, Bool, true, false, ◌&&◌, ◌||◌, not, List, [], ◌∷◌, codes, Option, Some, None}
+use Rattle.std.specs.Prelude.{◌≡◌, ℕ, ℤ, ◌+◌, ◌≤◌, Bool, true, false, ◌||◌, not, List, [], ◌∷◌, codes, Option, Some, None}
 use Rattle.es_text.specs.declared.Span.{Span}
 use Rattle.es6_lexer.specs.declared.token.TokenKind.{TokenKind}
-use Rattle.es6_lexer.specs.declared.token.TokenKind.TheVariants.{Word, Punctuator, Number, Text, Template, End}
+use Rattle.es6_lexer.specs.declared.token.TokenKind.TheVariants.{Word, Punctuator, Number, Text, Template}
 use Rattle.es6_lexer.specs.declared.token.NumberToken.TheVariants.{Whole}
-use Rattle.es6_lexer.specs.declared.token.Punctuator.{Punctuator as Mark}
 use Rattle.es6_lexer.specs.declared.token.Punctuator.TheVariants as mark
 use Rattle.es6_ast.specs.declared.operators.UnaryOperator.{UnaryOperator}
 use Rattle.es6_ast.specs.declared.operators.UnaryOperator.TheVariants as unaries
@@ -23,7 +22,6 @@ use Rattle.es6_ast.specs.declared.operators.VariableKind.TheVariants.{Var, Let, 
 use Rattle.es6_ast.specs.declared.operators.MethodKind.{MethodKind}
 use Rattle.es6_ast.specs.declared.operators.MethodKind.TheVariants.{PlainMethod, GetterMethod, SetterMethod, GeneratorMethod}
 use Rattle.es6_ast.specs.declared.tree.Identifier.{Identifier}
-use Rattle.es6_ast.specs.declared.tree.Stretch.{Stretch}
 use Rattle.es6_ast.specs.declared.tree.Expression.{Expression}
 use Rattle.es6_ast.specs.declared.tree.Expression.TheVariants as expr
 use Rattle.es6_ast.specs.declared.tree.Statement.{Statement}
@@ -52,7 +50,7 @@ use Rattle.es6_ast.specs.declared.tree.ForFirst.{ForFirst}
 use Rattle.es6_ast.specs.declared.tree.ForFirst.TheVariants.{NoFirst, FirstVariables, FirstExpression}
 use Rattle.es6_ast.specs.declared.tree.ForTarget.{ForTarget}
 use Rattle.es6_ast.specs.declared.tree.ForTarget.TheVariants.{Declared, Assigned}
-use Rattle.es6_ast.specs.declared.tree.Arrow.{Arrow, roll-Arrow}
+use Rattle.es6_ast.specs.declared.tree.Arrow.{roll-Arrow}
 use Rattle.es6_ast.specs.declared.tree.Block.{Block, roll-Block}
 use Rattle.es6_ast.specs.declared.tree.Case.{Case, roll-Case}
 use Rattle.es6_ast.specs.declared.tree.Catch.{Catch, roll-Catch}

@@ -1,5 +1,5 @@
 -- Graphs that are loaded, and graphs that are linked.
-use Rattle.std.specs.Prelude.{◌≡◌, ℕ, ◌<◌, ◌≤◌, Bool, List, [], ◌∷◌, ◌++◌, codes, cond, length, map, Option, Some, None, All, AllPairs, sum_by}
+use Rattle.std.specs.Prelude.{◌≡◌, ℕ, ◌<◌, ◌≤◌, List, [], ◌∷◌, codes, length, map, Option, Some, None, All, AllPairs, sum_by}
 use Rattle.std.specs.Str.{chars, IsUtf8}
 use Rattle.es6_lexer.specs.declared.token.Token.{Token}
 use Rattle.es6_lexer.specs.Lexes.{Lexes}

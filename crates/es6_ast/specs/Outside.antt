@@ -1,6 +1,6 @@
 -- The constructs outside the profile that are found on trees, as pairs of a rule and a place. docs/PROFILE.md has the table. Which
 -- names are free follows the scopes of ECMA-262, 6th edition, 8.1, 13, 14 and 15.2.
-use Rattle.std.specs.Prelude.{◌≡◌, ℕ, Bool, true, false, ◌&&◌, ◌||◌, not, List, [], ◌∷◌, ◌++◌, codes, cond, map, nat_eq, Option, Some, None, is_some}
+use Rattle.std.specs.Prelude.{ℕ, Bool, true, false, ◌&&◌, ◌||◌, not, List, [], ◌∷◌, ◌++◌, codes, cond, map, nat_eq, Option, Some, None, is_some}
 use Rattle.std.specs.List.{starts_with}
 use Rattle.std.specs.Str.{bytes_eq}
 use Rattle.es_text.specs.declared.Span.{Span}
@@ -23,7 +23,6 @@ use Rattle.es6_ast.specs.declared.module.Item.{Item}
 use Rattle.es6_ast.specs.declared.module.Item.TheVariants as item
 use Rattle.es6_ast.specs.declared.module.ImportedNames.{ImportedNames}
 use Rattle.es6_ast.specs.declared.module.ImportedNames.TheVariants.{NoNames, Namespace, Listed}
-use Rattle.es6_ast.specs.declared.module.ImportName.{ImportName}
 use Rattle.es6_ast.specs.declared.module.ExportName.{ExportName}
 use Rattle.es6_ast.specs.declared.module.DefaultExport.{DefaultExport}
 use Rattle.es6_ast.specs.declared.module.DefaultExport.TheVariants.{DefaultFunction, DefaultClass, DefaultValue}
@@ -491,8 +490,9 @@ item_found (item.ExportDeclaration span s) = of_statement (statement_found s)
 item_found (item.ExportDefault span word x) = default_found x
 item_found (item.Statement s) = of_statement (statement_found s)
 
--- the pairs of a module, in no order of their own
+-- the pairs of a module by its items, in no order of their own
+abbrev pub module_pairs : List ItemFound → List Pair
+module_pairs found = joined (λ x. x.pairs (record { known = joined (λ y. y.known) found; in_object = false })) found
+
 abbrev pub outside_pairs : Module → List Pair
-outside_pairs m =
-    let found = map item_found m.items in
-    joined (λ x. x.pairs (record { known = joined (λ y. y.known) found; in_object = false })) found
+outside_pairs m = module_pairs (map item_found m.items)

@@ -1,6 +1,6 @@
 -- What an expression is as a target: whether it is a simple one (ECMA-262, 6th edition, 12.14.1 and the rules that it cites),
 -- and which of its parts no AssignmentPattern spells (12.14.5).
-use Rattle.std.specs.Prelude.{◌≡◌, ℕ, Bool, true, false, ◌&&◌, List, [], ◌∷◌, cond, Option, Some, None, is_none, map}
+use Rattle.std.specs.Prelude.{ℕ, Bool, true, false, ◌&&◌, List, [], ◌∷◌, cond, Option, Some, None, is_none, map}
 use Rattle.es_text.specs.declared.Span.{Span}
 use Rattle.es6_ast.specs.declared.operators.AssignOperator.{AssignOperator}
 use Rattle.es6_ast.specs.declared.operators.AssignOperator.TheVariants as assign

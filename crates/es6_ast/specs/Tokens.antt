@@ -6,7 +6,7 @@ use Rattle.es_text.specs.declared.Span.{Span}
 use Rattle.es_outside.specs.HostNames.{reserved_words, is_among}
 use Rattle.es6_lexer.specs.declared.token.Token.{Token}
 use Rattle.es6_lexer.specs.declared.token.TokenKind.{TokenKind}
-use Rattle.es6_lexer.specs.declared.token.TokenKind.TheVariants.{Word, Punctuator, Number, Text, Template, Fault, End}
+use Rattle.es6_lexer.specs.declared.token.TokenKind.TheVariants.{Word, Punctuator}
 use Rattle.es6_lexer.specs.declared.token.Punctuator.{Punctuator as Mark}
 use Rattle.es6_lexer.specs.declared.token.Punctuator.TheVariants.{LeftBrace, Star}
 
