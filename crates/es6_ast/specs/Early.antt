@@ -1,6 +1,7 @@
 -- The early errors of modules (ECMA-262, 6th edition, 12 to 15, each row with its section), as pairs of a rule and a place.
 -- docs/PROFILE.md has the table.
-use Rattle.std.specs.Prelude.{ℕ, ◌-◌, Bool, true, false, ◌&&◌, ◌||◌, not, ◌==◌, List, [], ◌∷◌, ◌++◌, codes, cond, Option, Some, None, is_some, map}
+use Rattle.std.specs.Prelude.{◌≡◌, ℕ, ◌-◌, Bool, true, false, ◌&&◌, ◌||◌, not, ◌==◌, List, [], ◌∷◌, ◌++◌, codes, cond, Option, Some, None, is_some, map}
+use Rattle.std.specs.List.{list_any}
 use Rattle.std.specs.Str.{bytes_eq}
 use Rattle.es_text.specs.declared.Span.{Span}
 use Rattle.es_outside.specs.HostNames.{is_among}
@@ -13,7 +14,7 @@ use Rattle.es6_ast.specs.declared.operators.Literal.TheVariants as literals
 use Rattle.es6_ast.specs.declared.operators.VariableKind.{VariableKind}
 use Rattle.es6_ast.specs.declared.operators.VariableKind.TheVariants.{Var, Let, Const}
 use Rattle.es6_ast.specs.declared.operators.MethodKind.{MethodKind}
-use Rattle.es6_ast.specs.declared.operators.MethodKind.TheVariants.{PlainMethod}
+use Rattle.es6_ast.specs.declared.operators.MethodKind.TheVariants.{PlainMethod, GetterMethod, SetterMethod, GeneratorMethod}
 use Rattle.es6_ast.specs.declared.tree.Identifier.{Identifier}
 use Rattle.es6_ast.specs.declared.tree.Expression.{Expression, fold-Expression}
 use Rattle.es6_ast.specs.declared.tree.Statement.{Statement, fold-Statement}
@@ -33,13 +34,16 @@ use Rattle.es6_ast.specs.declared.module.Specifier.{Specifier}
 use Rattle.es6_ast.specs.Findings.{Pair, when, joined, maybe, is_name_of, repeated, shared, clashes}
 use Rattle.es6_ast.specs.Targets.{AsTarget, AsElement, NoElement, OneElement, LastElement, expression_target}
 
--- What is round a place, inside the innermost function, arrow, method or accessor: the labels, those that label loops, those
--- that stand directly before the statement, and whether a loop, or a loop or switch, is there. And whether a super call, a
--- super property and `new.target` may stand there, and whether it is in parameters.
+-- a label, and whether it labels a loop
+pub record Label : Type 0 where
+  pub name : List ℕ
+  pub is_loop : Bool
+
+-- What is round a place, inside the innermost function, arrow, method or accessor: the labels, and whether a loop, or a loop
+-- or switch, is there. And whether a super call, a super property and `new.target` may stand there, and whether it is in
+-- parameters.
 pub record Around : Type 0 where
-  pub labels : List (List ℕ)
-  pub loops : List (List ℕ)
-  pub before : List (List ℕ)
+  pub labels : List Label
   pub in_loop : Bool
   pub in_switch : Bool
   pub super_call : Bool
@@ -52,7 +56,7 @@ Inside = Around → List Pair
 
 -- in a function with these rights, and at the top level
 abbrev pub of_function : Bool → Bool → Around
-of_function super_call super_property = record { labels = []; loops = []; before = []; in_loop = false; in_switch = false; super_call = super_call; super_property = super_property; new_target = true; in_parameters = false }
+of_function super_call super_property = record { labels = []; in_loop = false; in_switch = false; super_call = super_call; super_property = super_property; new_target = true; in_parameters = false }
 
 abbrev pub at_top : Around
 at_top = record (of_function false false) { new_target = false }
@@ -64,17 +68,20 @@ of_arrow r = record (of_function r.super_call r.super_property) { new_target = r
 abbrev pub in_parameters_of : Around → Around
 in_parameters_of r = record r { in_parameters = true }
 
-abbrev pub under : Around → Around
-under r = record r { before = [] }
-
 abbrev pub under_loop : Around → Around
-under_loop r = record r { loops = r.before ++ r.loops; before = []; in_loop = true }
+under_loop r = record r { in_loop = true }
 
 abbrev pub under_switch : Around → Around
-under_switch r = record r { before = []; in_switch = true }
+under_switch r = record r { in_switch = true }
 
-abbrev pub under_label : List ℕ → Around → Around
-under_label name r = record r { labels = name ∷ r.labels; before = name ∷ r.before }
+abbrev pub under_label : List ℕ → Bool → Around → Around
+under_label name is_loop r = record r { labels = record { name = name; is_loop = is_loop } ∷ r.labels }
+
+abbrev pub has_label : List ℕ → List Label → Bool
+has_label name labels = list_any (λ l. bytes_eq l.name name) labels
+
+abbrev pub has_loop_label : List ℕ → List Label → Bool
+has_loop_label name labels = list_any (λ l. l.is_loop && bytes_eq l.name name) labels
 
 -- whether a statement is a directive (14.1.1), and the one of strict code, without escapes: its token has twelve characters
 pub data Directive : Type 0 where
@@ -121,18 +128,21 @@ pub record TargetsFound : Type 0 where
   pub is_name : Bool
   pub has_default : Bool
 
--- a statement: the lexical names that it declares, the function that it declares, the var names in it, and the pairs
+-- a statement: whether it is a loop, labelled or not, the lexical names that it declares, the function that it declares, the
+-- var names in it, and the pairs
 pub record StatementFound : Type 0 where
+  pub is_loop : Bool
   pub lexical : List Identifier
   pub functions : List Identifier
   pub vars : List Identifier
   pub directive : Directive
   pub pairs : Inside
 
--- the part of a statement before its body, by the var names of the body
+-- the head of a loop
 pub record HeadFound : Type 0 where
+  pub lexical : List Identifier
   pub vars : List Identifier
-  pub pairs : List Identifier → Inside
+  pub pairs : Inside
 
 pub record PartFound : Type 0 where
   pub vars : List Identifier
@@ -208,7 +218,7 @@ abbrev pub statements_pairs : List StatementFound → Inside
 statements_pairs ss r = joined (λ s. s.pairs r) ss
 
 abbrev pub block_pairs : List StatementFound → Inside
-block_pairs ss r = scope_pairs (block_lexical ss) (block_vars ss) ++ statements_pairs ss (under r)
+block_pairs ss r = statements_pairs ss r ++ scope_pairs (block_lexical ss) (block_vars ss)
 
 -- the first directive of strict code at the statements' start
 abbrev pub strict_directive : List StatementFound → Option ℕ
@@ -232,25 +242,28 @@ parameter_names ps = joined (λ p. p.names) ps
 
 -- parameters with E4 (14.1.2, 14.2.1)
 abbrev pub parameters_pairs : List TargetsFound → Inside
-parameters_pairs ps r = repeated 4 [] (parameter_names ps) ++ joined (λ p. p.bound r) ps
+parameters_pairs ps r = joined (λ p. p.bound r) ps ++ repeated 4 [] (parameter_names ps)
 
 -- A function's body with its parameters: a function that it declares is a var name. E3 (14.1.2, 14.2.1), and E25 (the 7th
 -- edition, 14.1.2, 14.2.1, 14.3.1).
 abbrev pub body_pairs : List TargetsFound → List StatementFound → Inside
 body_pairs ps ss r =
     let lexical = joined (λ s. s.lexical) ss in
-    scope_pairs lexical (joined (λ s. s.functions ++ s.vars) ss) ++ shared 3 (parameter_names ps) lexical ++ maybe (λ at. when (not (are_plain ps)) 25 at) (strict_directive ss) ++ statements_pairs ss r
+    statements_pairs ss r ++ scope_pairs lexical (joined (λ s. s.functions ++ s.vars) ss) ++ shared 3 (parameter_names ps) lexical ++ maybe (λ at. when (not (are_plain ps)) 25 at) (strict_directive ss)
 
 -- E14 and E15 (13.8.1, 13.9.1)
-abbrev pub jump_pairs : Option Identifier → List (List ℕ) → Bool → Span → List Pair
-jump_pairs None labels allowed span = when (not allowed) 15 span.begin
-jump_pairs (Some x) labels allowed span = when (not (is_among labels x.name)) 14 x.span.begin
+abbrev pub jump_pairs : Option Identifier → (List ℕ → Bool) → Bool → Span → List Pair
+jump_pairs None is_label allowed span = when (not allowed) 15 span.begin
+jump_pairs (Some x) is_label allowed span = when (not (is_label x.name)) 14 x.span.begin
 
--- E12 (13.3.1.1)
-abbrev pub const_pairs : VariableKind → List TargetsFound → List Pair
-const_pairs Var ps = []
-const_pairs Let ps = []
-const_pairs Const ps = joined (λ p. cond (p.is_name && not p.has_default) (joined (λ n. when true 12 n.span.begin) p.names) []) ps
+-- E12 (13.3.1.1) at a variable that is a name alone
+abbrev pub const_pairs : VariableKind → TargetsFound → List Pair
+const_pairs Var p = []
+const_pairs Let p = []
+const_pairs Const p = cond (is_plain p) (joined (λ n. when true 12 n.span.begin) p.names) []
+
+abbrev pub variables_pairs : VariableKind → List TargetsFound → Inside
+variables_pairs kind ps r = joined (λ p. const_pairs kind p ++ p.bound r) ps
 
 abbrev pub lexical_names : VariableKind → List Identifier → List Identifier
 lexical_names Var names = []
@@ -262,9 +275,9 @@ var_names Var names = names
 var_names Let names = []
 var_names Const names = []
 
--- the names of a loop's head with E1 and E6 (13.7.4.1, 13.7.5.1)
-abbrev pub head_pairs : VariableKind → List Identifier → List Identifier → List Pair
-head_pairs kind names body_vars = repeated 1 [] (lexical_names kind names) ++ shared 6 (lexical_names kind names) body_vars
+-- the lexical names of a loop's head with E1 and E6 (13.7.4.1, 13.7.5.1)
+abbrev pub head_pairs : List Identifier → List Identifier → List Pair
+head_pairs lexical body_vars = repeated 1 [] lexical ++ shared 6 lexical body_vars
 
 -- the members of a class with E20, E21 and E22 (14.5.1)
 abbrev pub is_named : List ℕ → KeyFound → Bool
@@ -298,10 +311,13 @@ abbrev pub nothing : Inside
 nothing r = []
 
 abbrev pub plain : Inside → StatementFound
-plain pairs = record { lexical = []; functions = []; vars = []; directive = NoDirective; pairs = pairs }
+plain pairs = record { is_loop = false; lexical = []; functions = []; vars = []; directive = NoDirective; pairs = pairs }
 
 abbrev pub with_vars : List Identifier → Inside → StatementFound
 with_vars vars pairs = record (plain pairs) { vars = vars }
+
+abbrev pub loop_with : List Identifier → Inside → StatementFound
+loop_with vars pairs = record (with_vars vars pairs) { is_loop = true }
 
 abbrev pub some_name : Option Identifier → List Identifier
 some_name None = []
@@ -376,13 +392,13 @@ abbrev pub expression_step : Layer Expression-F → Found
 expression_step x = record { target = expression_target (λ y. y.element) (λ y. y.target) (λ y. y.access) (λ y. y.misfit) (λ y. y.misfit) (λ y. y.begin) (λ y. y.begin) (λ y. y.begin) (λ y. y.begin) x; directive = expression_directive x; pairs = expression_pairs x }
 
 abbrev pub for_first_step : Layer ForFirst-F → HeadFound
-for_first_step layer.NoFirst = record { vars = []; pairs = λ body r. [] }
-for_first_step (layer.FirstVariables span kind parts) = record { vars = var_names kind (parameter_names parts); pairs = λ body r. head_pairs kind (parameter_names parts) body ++ const_pairs kind parts ++ joined (λ p. p.bound r) parts }
-for_first_step (layer.FirstExpression x) = record { vars = []; pairs = λ body r. x.pairs r }
+for_first_step layer.NoFirst = record { lexical = []; vars = []; pairs = nothing }
+for_first_step (layer.FirstVariables span kind parts) = record { lexical = lexical_names kind (parameter_names parts); vars = var_names kind (parameter_names parts); pairs = variables_pairs kind parts }
+for_first_step (layer.FirstExpression x) = record { lexical = []; vars = []; pairs = x.pairs }
 
 abbrev pub for_target_step : Layer ForTarget-F → HeadFound
-for_target_step (layer.Declared span kind x) = record { vars = var_names kind x.names; pairs = λ body r. head_pairs kind x.names body ++ x.bound r }
-for_target_step (layer.Assigned x) = record { vars = []; pairs = λ body r. x.assigned r }
+for_target_step (layer.Declared span kind x) = record { lexical = lexical_names kind x.names; vars = var_names kind x.names; pairs = x.bound }
+for_target_step (layer.Assigned x) = record { lexical = []; vars = []; pairs = x.assigned }
 
 abbrev pub key_step : Layer Key-F → KeyFound
 key_step (layer.WordKey span name) = record { name = Some name; at = span.begin; pairs = nothing }
@@ -426,19 +442,19 @@ property_step (layer.Defined m) = record { misfit = Some m.begin; pairs = m.pair
 -- E13 (13.13.1) among them
 abbrev pub statement_step : Layer Statement-F → StatementFound
 statement_step (layer.Block ss) = with_vars (block_vars ss) (block_pairs ss)
-statement_step (layer.Variables span kind parts) = record { lexical = lexical_names kind (parameter_names parts); functions = []; vars = var_names kind (parameter_names parts); directive = NoDirective; pairs = λ r. const_pairs kind parts ++ joined (λ p. p.bound r) parts }
+statement_step (layer.Variables span kind parts) = record { is_loop = false; lexical = lexical_names kind (parameter_names parts); functions = []; vars = var_names kind (parameter_names parts); directive = NoDirective; pairs = variables_pairs kind parts }
 statement_step (layer.Empty span) = plain nothing
 statement_step (layer.Expression span x) = record (plain x.pairs) { directive = x.directive }
-statement_step (layer.If span first more otherwise) = with_vars (first.vars ++ joined (λ c. c.vars) more ++ maybe (λ s. s.vars) otherwise) (λ r. first.pairs r ++ joined (λ c. c.pairs r) more ++ maybe (λ s. s.pairs (under r)) otherwise)
-statement_step (layer.DoWhile span body test) = with_vars body.vars (λ r. body.pairs (under_loop r) ++ test.pairs r)
-statement_step (layer.While span test body) = with_vars body.vars (λ r. test.pairs r ++ body.pairs (under_loop r))
-statement_step (layer.For span first test update body) = with_vars (first.vars ++ body.vars) (λ r. first.pairs body.vars r ++ maybe (λ x. x.pairs r) test ++ maybe (λ x. x.pairs r) update ++ body.pairs (under_loop r))
-statement_step (layer.ForOf span target subject body) = with_vars (target.vars ++ body.vars) (λ r. target.pairs body.vars r ++ subject.pairs r ++ body.pairs (under_loop r))
-statement_step (layer.Continue span label) = plain (λ r. jump_pairs label r.loops r.in_loop span)
-statement_step (layer.Break span label) = plain (λ r. jump_pairs label r.labels (r.in_loop || r.in_switch) span)
+statement_step (layer.If span first more otherwise) = with_vars (first.vars ++ joined (λ c. c.vars) more ++ maybe (λ s. s.vars) otherwise) (λ r. first.pairs r ++ joined (λ c. c.pairs r) more ++ maybe (λ s. s.pairs r) otherwise)
+statement_step (layer.DoWhile span body test) = loop_with body.vars (λ r. body.pairs (under_loop r) ++ test.pairs r)
+statement_step (layer.While span test body) = loop_with body.vars (λ r. test.pairs r ++ body.pairs (under_loop r))
+statement_step (layer.For span first test update body) = loop_with (first.vars ++ body.vars) (λ r. first.pairs r ++ maybe (λ x. x.pairs r) test ++ maybe (λ x. x.pairs r) update ++ body.pairs (under_loop r) ++ head_pairs first.lexical body.vars)
+statement_step (layer.ForOf span target subject body) = loop_with (target.vars ++ body.vars) (λ r. target.pairs r ++ subject.pairs r ++ body.pairs (under_loop r) ++ head_pairs target.lexical body.vars)
+statement_step (layer.Continue span label) = plain (λ r. jump_pairs label (λ name. has_loop_label name r.labels) r.in_loop span)
+statement_step (layer.Break span label) = plain (λ r. jump_pairs label (λ name. has_label name r.labels) (r.in_loop || r.in_switch) span)
 statement_step (layer.Return span value) = plain (λ r. maybe (λ x. x.pairs r) value)
-statement_step (layer.Switch span subject cases) = let ss = joined (λ c. c.body) cases in with_vars (block_vars ss) (λ r. subject.pairs r ++ scope_pairs (block_lexical ss) (block_vars ss) ++ joined (λ c. c.test r ++ statements_pairs c.body (under_switch r)) cases)
-statement_step (layer.Labelled span label body) = with_vars body.vars (λ r. when (is_among r.labels label.name) 13 label.span.begin ++ joined (λ x. when true 13 label.span.begin) body.functions ++ body.pairs (under_label label.name r))
+statement_step (layer.Switch span subject cases) = let ss = joined (λ c. c.body) cases in with_vars (block_vars ss) (λ r. subject.pairs r ++ joined (λ c. c.test r ++ statements_pairs c.body (under_switch r)) cases ++ scope_pairs (block_lexical ss) (block_vars ss))
+statement_step (layer.Labelled span label body) = record (with_vars body.vars (λ r. when (has_label label.name r.labels) 13 label.span.begin ++ joined (λ x. when true 13 label.span.begin) body.functions ++ body.pairs (under_label label.name body.is_loop r))) { is_loop = body.is_loop }
 statement_step (layer.Throw span x) = plain x.pairs
 statement_step (layer.Try span block handler last) = with_vars (block_vars block ++ maybe (λ h. h.vars) handler ++ maybe block_vars last) (λ r. block_pairs block r ++ maybe (λ h. h.pairs r) handler ++ maybe (λ b. block_pairs b r) last)
 statement_step (layer.Debugger span) = plain nothing
@@ -456,7 +472,7 @@ case_step x = record { body = x.body; test = λ r. maybe (λ y. y.pairs r) x.tes
 
 -- E5 (13.15.1): a name of the parameter stands twice in it, or is a lexical or var name of the block
 abbrev pub catch_step : Layer Catch-F → PartFound
-catch_step x = record { vars = block_vars x.body; pairs = λ r. repeated 5 [] x.parameter.names ++ shared 5 x.parameter.names (block_lexical x.body ++ block_vars x.body) ++ x.parameter.bound r ++ block_pairs x.body r }
+catch_step x = record { vars = block_vars x.body; pairs = λ r. x.parameter.bound r ++ block_pairs x.body r ++ repeated 5 [] x.parameter.names ++ shared 5 x.parameter.names (block_lexical x.body ++ block_vars x.body) }
 
 abbrev pub class_step : Layer Class-F → ClassFound
 class_step x = record { begin = x.span.begin; names = some_name x.name; pairs = λ r. joined bound (some_name x.name) ++ maybe (λ h. h.pairs r) x.heritage ++ members_pairs (is_some x.heritage) false x.members r }
@@ -465,7 +481,7 @@ abbrev pub class_member_step : Layer ClassMember-F → MemberFound
 class_member_step x = record { is_static = x.is_static; method = x.method }
 
 abbrev pub condition_step : Layer Condition-F → PartFound
-condition_step x = record { vars = x.body.vars; pairs = λ r. x.test.pairs r ++ x.body.pairs (under r) }
+condition_step x = record { vars = x.body.vars; pairs = λ r. x.test.pairs r ++ x.body.pairs r }
 
 abbrev pub function_step : Layer Function-F → FunctionFound
 function_step x = record { begin = x.span.begin; name = x.name; pairs = λ r. joined bound (some_name x.name) ++ parameters_pairs x.parameters (record r { in_parameters = x.is_generator }) ++ body_pairs x.parameters x.body r }
@@ -556,7 +572,7 @@ abbrev pub module_pairs : List ItemFound → List Pair
 module_pairs found =
     let lexical = joined (λ x. x.lexical) found in
     let vars = joined (λ x. x.vars) found in
-    scope_pairs lexical vars ++ repeated 23 [] (joined (λ x. x.exported) found) ++ undeclared (lexical ++ vars) (joined (λ x. x.local) found) ++ joined (λ x. x.pairs) found
+    joined (λ x. x.pairs) found ++ scope_pairs lexical vars ++ repeated 23 [] (joined (λ x. x.exported) found) ++ undeclared (lexical ++ vars) (joined (λ x. x.local) found)
 
 abbrev pub early_pairs : Module → List Pair
 early_pairs m = module_pairs (map item_found m.items)

@@ -1,5 +1,5 @@
 -- Findings: a rule of a table and the place where it stands, an offset in bytes. The least one is reported.
-use Rattle.std.specs.Prelude.{◌≡◌, ℕ, ◌<◌, ◌≤◌, ◌⊎◌, Bool, List, [], ◌∷◌, ◌++◌, cond, Option, Some, None, Contains, max}
+use Rattle.std.specs.Prelude.{◌≡◌, ℕ, ◌<◌, ◌≤◌, ◌⊎◌, Bool, true, List, [], ◌∷◌, ◌++◌, cond, Option, Some, None, Contains, max}
 use Rattle.std.specs.List.{list_any}
 use Rattle.std.specs.Str.{bytes_eq}
 use Rattle.es6_ast.specs.declared.tree.Identifier.{Identifier}
@@ -31,9 +31,14 @@ repeated rule before (x ∷ xs) = when (is_name_of x.name before) rule x.span.be
 abbrev pub shared : ℕ → List Identifier → List Identifier → List Pair
 shared rule others xs = joined (λ x. when (is_name_of x.name others) rule x.span.begin) xs
 
--- the rule at the later of two names of both lists
+-- where a name first stands in a list
+abbrev pub first_place : List ℕ → List Identifier → Option ℕ
+first_place name [] = None
+first_place name (x ∷ xs) = cond (bytes_eq x.name name) (Some x.span.begin) (first_place name xs)
+
+-- the rule at each name of the first list that stands in the second: at the later of the name and the first there
 abbrev pub clashes : ℕ → List Identifier → List Identifier → List Pair
-clashes rule xs ys = joined (λ x. joined (λ y. when (bytes_eq x.name y.name) rule (max x.span.begin y.span.begin)) ys) xs
+clashes rule xs ys = joined (λ x. maybe (λ at. when true rule (max x.span.begin at)) (first_place x.name ys)) xs
 
 -- by place, then by rule
 abbrev pub IsBefore : Pair → Pair → Type 0
