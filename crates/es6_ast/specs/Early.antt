@@ -16,10 +16,33 @@ use Rattle.es6_ast.specs.declared.operators.VariableKind.TheVariants.{Var, Let, 
 use Rattle.es6_ast.specs.declared.operators.MethodKind.{MethodKind}
 use Rattle.es6_ast.specs.declared.operators.MethodKind.TheVariants.{PlainMethod, GetterMethod, SetterMethod, GeneratorMethod}
 use Rattle.es6_ast.specs.declared.tree.Identifier.{Identifier}
+use Rattle.es6_ast.specs.declared.tree.Argument.{Argument, fold-Argument}
+use Rattle.es6_ast.specs.declared.tree.ArrayPart.{ArrayPart, fold-ArrayPart}
+use Rattle.es6_ast.specs.declared.tree.ArrowBody.{ArrowBody, fold-ArrowBody}
+use Rattle.es6_ast.specs.declared.tree.Element.{Element, fold-Element}
 use Rattle.es6_ast.specs.declared.tree.Expression.{Expression, fold-Expression}
+use Rattle.es6_ast.specs.declared.tree.ForFirst.{ForFirst, fold-ForFirst}
+use Rattle.es6_ast.specs.declared.tree.ForTarget.{ForTarget, fold-ForTarget}
+use Rattle.es6_ast.specs.declared.tree.Key.{Key, fold-Key}
+use Rattle.es6_ast.specs.declared.tree.Link.{Link, fold-Link}
+use Rattle.es6_ast.specs.declared.tree.ObjectPart.{ObjectPart, fold-ObjectPart}
+use Rattle.es6_ast.specs.declared.tree.Parameter.{Parameter, fold-Parameter}
+use Rattle.es6_ast.specs.declared.tree.Pattern.{Pattern, fold-Pattern}
+use Rattle.es6_ast.specs.declared.tree.Property.{Property, fold-Property}
 use Rattle.es6_ast.specs.declared.tree.Statement.{Statement, fold-Statement}
-use Rattle.es6_ast.specs.declared.tree.Function.{Function, fold-Function}
+use Rattle.es6_ast.specs.declared.tree.Arrow.{Arrow, fold-Arrow}
+use Rattle.es6_ast.specs.declared.tree.Block.{Block, fold-Block}
+use Rattle.es6_ast.specs.declared.tree.Case.{Case, fold-Case}
+use Rattle.es6_ast.specs.declared.tree.Catch.{Catch, fold-Catch}
 use Rattle.es6_ast.specs.declared.tree.Class.{Class, fold-Class}
+use Rattle.es6_ast.specs.declared.tree.ClassMember.{ClassMember, fold-ClassMember}
+use Rattle.es6_ast.specs.declared.tree.Condition.{Condition, fold-Condition}
+use Rattle.es6_ast.specs.declared.tree.Function.{Function, fold-Function}
+use Rattle.es6_ast.specs.declared.tree.Method.{Method, fold-Method}
+use Rattle.es6_ast.specs.declared.tree.Operand.{Operand, fold-Operand}
+use Rattle.es6_ast.specs.declared.tree.Part.{Part, fold-Part}
+use Rattle.es6_ast.specs.declared.tree.Template.{Template, fold-Template}
+use Rattle.es6_ast.specs.declared.tree.TemplatePart.{TemplatePart, fold-TemplatePart}
 use Rattle.es6_ast.specs.declared.tree.Argument.TheOpen as layer
 use Rattle.es6_ast.specs.declared.tree.Argument.TheOpen.{Argument-F, ArrayPart-F, ArrowBody-F, Element-F, Expression-F, ForFirst-F, ForTarget-F, Key-F, Link-F, ObjectPart-F, Parameter-F, Pattern-F, Property-F, Statement-F, Arrow-F, Block-F, Case-F, Catch-F, Class-F, ClassMember-F, Condition-F, Function-F, Method-F, Operand-F, Part-F, Template-F, TemplatePart-F}
 use Rattle.es6_ast.specs.declared.module.Module.{Module}
@@ -39,34 +62,40 @@ pub record Label : Type 0 where
   pub name : List ℕ
   pub is_loop : Bool
 
--- What is round a place, inside the innermost function, arrow, method or accessor: the labels, and whether a loop, or a loop
--- or switch, is there. And whether a super call, a super property and `new.target` may stand there, and whether it is in
--- parameters.
-pub record Around : Type 0 where
-  pub labels : List Label
-  pub in_loop : Bool
-  pub in_switch : Bool
+-- Whether a super call, a super property and `new.target` may stand at a place, and whether it is in parameters.
+pub record Rights : Type 0 where
   pub super_call : Bool
   pub super_property : Bool
   pub new_target : Bool
   pub in_parameters : Bool
 
+-- What is round a statement, inside the innermost function, arrow, method or accessor: the rights there, the labels, and whether
+-- it is in a loop, or in a switch.
+pub record Around : Type 0 where
+  pub rights : Rights
+  pub labels : List Label
+  pub in_loop : Bool
+  pub in_switch : Bool
+
 abbrev pub Inside : Type 0
-Inside = Around → List Pair
+Inside = Rights → List Pair
 
--- in a function with these rights, and at the top level
-abbrev pub of_function : Bool → Bool → Around
-of_function super_call super_property = record { labels = []; in_loop = false; in_switch = false; super_call = super_call; super_property = super_property; new_target = true; in_parameters = false }
+abbrev pub Outer : Type 0
+Outer = Around → List Pair
 
-abbrev pub at_top : Around
-at_top = record (of_function false false) { new_target = false }
+abbrev pub rights_of_function : Bool → Bool → Rights
+rights_of_function super_call super_property = record { super_call = super_call; super_property = super_property; new_target = true; in_parameters = false }
+
+abbrev pub rights_at_top : Rights
+rights_at_top = record { super_call = false; super_property = false; new_target = false; in_parameters = false }
 
 -- an arrow has the rights of what is round it
-abbrev pub of_arrow : Around → Around
-of_arrow r = record (of_function r.super_call r.super_property) { new_target = r.new_target }
+abbrev pub with_parameters : Bool → Rights → Rights
+with_parameters in_parameters r = record r { in_parameters = in_parameters }
 
-abbrev pub in_parameters_of : Around → Around
-in_parameters_of r = record r { in_parameters = true }
+-- the statements of a body
+abbrev pub in_body : Rights → Around
+in_body rights = record { rights = rights; labels = []; in_loop = false; in_switch = false }
 
 abbrev pub under_loop : Around → Around
 under_loop r = record r { in_loop = true }
@@ -136,7 +165,7 @@ pub record StatementFound : Type 0 where
   pub functions : List Identifier
   pub vars : List Identifier
   pub directive : Directive
-  pub pairs : Inside
+  pub pairs : Outer
 
 -- the head of a loop
 pub record HeadFound : Type 0 where
@@ -146,7 +175,7 @@ pub record HeadFound : Type 0 where
 
 pub record PartFound : Type 0 where
   pub vars : List Identifier
-  pub pairs : Inside
+  pub pairs : Outer
 
 pub record CaseFound : Type 0 where
   pub body : List StatementFound
@@ -166,7 +195,7 @@ pub record KeyFound : Type 0 where
 pub record FunctionFound : Type 0 where
   pub begin : ℕ
   pub name : Option Identifier
-  pub pairs : Around → List Pair
+  pub pairs : Inside
 
 -- a method by whether a super call may stand in it
 pub record MethodFound : Type 0 where
@@ -214,10 +243,10 @@ block_lexical ss = joined (λ s. s.lexical ++ s.functions) ss
 abbrev pub block_vars : List StatementFound → List Identifier
 block_vars ss = joined (λ s. s.vars) ss
 
-abbrev pub statements_pairs : List StatementFound → Inside
+abbrev pub statements_pairs : List StatementFound → Outer
 statements_pairs ss r = joined (λ s. s.pairs r) ss
 
-abbrev pub block_pairs : List StatementFound → Inside
+abbrev pub block_pairs : List StatementFound → Outer
 block_pairs ss r = statements_pairs ss r ++ scope_pairs (block_lexical ss) (block_vars ss)
 
 -- the first directive of strict code at the statements' start
@@ -249,7 +278,7 @@ parameters_pairs ps r = joined (λ p. p.bound r) ps ++ repeated 4 [] (parameter_
 abbrev pub body_pairs : List TargetsFound → List StatementFound → Inside
 body_pairs ps ss r =
     let lexical = joined (λ s. s.lexical) ss in
-    statements_pairs ss r ++ scope_pairs lexical (joined (λ s. s.functions ++ s.vars) ss) ++ shared 3 (parameter_names ps) lexical ++ maybe (λ at. when (not (are_plain ps)) 25 at) (strict_directive ss)
+    statements_pairs ss (in_body r) ++ scope_pairs lexical (joined (λ s. s.functions ++ s.vars) ss) ++ shared 3 (parameter_names ps) lexical ++ maybe (λ at. when (not (are_plain ps)) 25 at) (strict_directive ss)
 
 -- E14 and E15 (13.8.1, 13.9.1)
 abbrev pub jump_pairs : Option Identifier → (List ℕ → Bool) → Bool → Span → List Pair
@@ -310,13 +339,17 @@ no_names bound assigned updated misfit = record { names = []; bound = bound; ass
 abbrev pub nothing : Inside
 nothing r = []
 
-abbrev pub plain : Inside → StatementFound
+-- pairs that what is round a statement changes by its rights alone
+abbrev pub by_rights : Inside → Outer
+by_rights pairs r = pairs r.rights
+
+abbrev pub plain : Outer → StatementFound
 plain pairs = record { is_loop = false; lexical = []; functions = []; vars = []; directive = NoDirective; pairs = pairs }
 
-abbrev pub with_vars : List Identifier → Inside → StatementFound
+abbrev pub with_vars : List Identifier → Outer → StatementFound
 with_vars vars pairs = record (plain pairs) { vars = vars }
 
-abbrev pub loop_with : List Identifier → Inside → StatementFound
+abbrev pub loop_with : List Identifier → Outer → StatementFound
 loop_with vars pairs = record (with_vars vars pairs) { is_loop = true }
 
 abbrev pub some_name : Option Identifier → List Identifier
@@ -363,7 +396,7 @@ expression_pairs (layer.Literal span value) = nothing
 expression_pairs (layer.Template x) = x.pairs
 expression_pairs (layer.ArrayList span elements comma) = λ r. joined (λ e. e.pairs r) elements
 expression_pairs (layer.ObjectList span properties) = λ r. joined (λ p. p.pairs r) properties
-expression_pairs (layer.Function x) = λ r. x.pairs (of_function false false)
+expression_pairs (layer.Function x) = λ r. x.pairs (rights_of_function false false)
 expression_pairs (layer.Arrow x) = x.pairs
 expression_pairs (layer.Class x) = x.pairs
 expression_pairs (layer.Chain span head links) = λ r. head.pairs r ++ joined (λ l. l.pairs r) links
@@ -442,27 +475,27 @@ property_step (layer.Defined m) = record { misfit = Some m.begin; pairs = m.pair
 -- E13 (13.13.1) among them
 abbrev pub statement_step : Layer Statement-F → StatementFound
 statement_step (layer.Block ss) = with_vars (block_vars ss) (block_pairs ss)
-statement_step (layer.Variables span kind parts) = record { is_loop = false; lexical = lexical_names kind (parameter_names parts); functions = []; vars = var_names kind (parameter_names parts); directive = NoDirective; pairs = variables_pairs kind parts }
-statement_step (layer.Empty span) = plain nothing
-statement_step (layer.Expression span x) = record (plain x.pairs) { directive = x.directive }
+statement_step (layer.Variables span kind parts) = record { is_loop = false; lexical = lexical_names kind (parameter_names parts); functions = []; vars = var_names kind (parameter_names parts); directive = NoDirective; pairs = by_rights (variables_pairs kind parts) }
+statement_step (layer.Empty span) = plain (by_rights nothing)
+statement_step (layer.Expression span x) = record (plain (by_rights x.pairs)) { directive = x.directive }
 statement_step (layer.If span first more otherwise) = with_vars (first.vars ++ joined (λ c. c.vars) more ++ maybe (λ s. s.vars) otherwise) (λ r. first.pairs r ++ joined (λ c. c.pairs r) more ++ maybe (λ s. s.pairs r) otherwise)
-statement_step (layer.DoWhile span body test) = loop_with body.vars (λ r. body.pairs (under_loop r) ++ test.pairs r)
-statement_step (layer.While span test body) = loop_with body.vars (λ r. test.pairs r ++ body.pairs (under_loop r))
-statement_step (layer.For span first test update body) = loop_with (first.vars ++ body.vars) (λ r. first.pairs r ++ maybe (λ x. x.pairs r) test ++ maybe (λ x. x.pairs r) update ++ body.pairs (under_loop r) ++ head_pairs first.lexical body.vars)
-statement_step (layer.ForOf span target subject body) = loop_with (target.vars ++ body.vars) (λ r. target.pairs r ++ subject.pairs r ++ body.pairs (under_loop r) ++ head_pairs target.lexical body.vars)
+statement_step (layer.DoWhile span body test) = loop_with body.vars (λ r. body.pairs (under_loop r) ++ test.pairs r.rights)
+statement_step (layer.While span test body) = loop_with body.vars (λ r. test.pairs r.rights ++ body.pairs (under_loop r))
+statement_step (layer.For span first test update body) = loop_with (first.vars ++ body.vars) (λ r. first.pairs r.rights ++ maybe (λ x. x.pairs r.rights) test ++ maybe (λ x. x.pairs r.rights) update ++ body.pairs (under_loop r) ++ head_pairs first.lexical body.vars)
+statement_step (layer.ForOf span target subject body) = loop_with (target.vars ++ body.vars) (λ r. target.pairs r.rights ++ subject.pairs r.rights ++ body.pairs (under_loop r) ++ head_pairs target.lexical body.vars)
 statement_step (layer.Continue span label) = plain (λ r. jump_pairs label (λ name. has_loop_label name r.labels) r.in_loop span)
 statement_step (layer.Break span label) = plain (λ r. jump_pairs label (λ name. has_label name r.labels) (r.in_loop || r.in_switch) span)
-statement_step (layer.Return span value) = plain (λ r. maybe (λ x. x.pairs r) value)
-statement_step (layer.Switch span subject cases) = let ss = joined (λ c. c.body) cases in with_vars (block_vars ss) (λ r. subject.pairs r ++ joined (λ c. c.test r ++ statements_pairs c.body (under_switch r)) cases ++ scope_pairs (block_lexical ss) (block_vars ss))
+statement_step (layer.Return span value) = plain (λ r. maybe (λ x. x.pairs r.rights) value)
+statement_step (layer.Switch span subject cases) = let ss = joined (λ c. c.body) cases in with_vars (block_vars ss) (λ r. subject.pairs r.rights ++ joined (λ c. c.test r.rights ++ statements_pairs c.body (under_switch r)) cases ++ scope_pairs (block_lexical ss) (block_vars ss))
 statement_step (layer.Labelled span label body) = record (with_vars body.vars (λ r. when (has_label label.name r.labels) 13 label.span.begin ++ joined (λ x. when true 13 label.span.begin) body.functions ++ body.pairs (under_label label.name body.is_loop r))) { is_loop = body.is_loop }
-statement_step (layer.Throw span x) = plain x.pairs
+statement_step (layer.Throw span x) = plain (by_rights x.pairs)
 statement_step (layer.Try span block handler last) = with_vars (block_vars block ++ maybe (λ h. h.vars) handler ++ maybe block_vars last) (λ r. block_pairs block r ++ maybe (λ h. h.pairs r) handler ++ maybe (λ b. block_pairs b r) last)
-statement_step (layer.Debugger span) = plain nothing
-statement_step (layer.FunctionDeclaration f) = record (plain (λ r. f.pairs (of_function false false))) { functions = some_name f.name }
-statement_step (layer.ClassDeclaration c) = record (plain c.pairs) { lexical = c.names }
+statement_step (layer.Debugger span) = plain (by_rights nothing)
+statement_step (layer.FunctionDeclaration f) = record (plain (λ r. f.pairs (rights_of_function false false))) { functions = some_name f.name }
+statement_step (layer.ClassDeclaration c) = record (plain (by_rights c.pairs)) { lexical = c.names }
 
 abbrev pub arrow_step : Layer Arrow-F → PlacedFound
-arrow_step x = record { begin = x.span.begin; pairs = λ r. parameters_pairs x.parameters (in_parameters_of (of_arrow r)) ++ x.body.pairs x.parameters (of_arrow r) }
+arrow_step x = record { begin = x.span.begin; pairs = λ r. parameters_pairs x.parameters (with_parameters true r) ++ x.body.pairs x.parameters (with_parameters false r) }
 
 abbrev pub block_step : Layer Block-F → List StatementFound
 block_step x = x.statements
@@ -472,7 +505,7 @@ case_step x = record { body = x.body; test = λ r. maybe (λ y. y.pairs r) x.tes
 
 -- E5 (13.15.1): a name of the parameter stands twice in it, or is a lexical or var name of the block
 abbrev pub catch_step : Layer Catch-F → PartFound
-catch_step x = record { vars = block_vars x.body; pairs = λ r. x.parameter.bound r ++ block_pairs x.body r ++ repeated 5 [] x.parameter.names ++ shared 5 x.parameter.names (block_lexical x.body ++ block_vars x.body) }
+catch_step x = record { vars = block_vars x.body; pairs = λ r. x.parameter.bound r.rights ++ block_pairs x.body r ++ repeated 5 [] x.parameter.names ++ shared 5 x.parameter.names (block_lexical x.body ++ block_vars x.body) }
 
 abbrev pub class_step : Layer Class-F → ClassFound
 class_step x = record { begin = x.span.begin; names = some_name x.name; pairs = λ r. joined bound (some_name x.name) ++ maybe (λ h. h.pairs r) x.heritage ++ members_pairs (is_some x.heritage) false x.members r }
@@ -481,13 +514,13 @@ abbrev pub class_member_step : Layer ClassMember-F → MemberFound
 class_member_step x = record { is_static = x.is_static; method = x.method }
 
 abbrev pub condition_step : Layer Condition-F → PartFound
-condition_step x = record { vars = x.body.vars; pairs = λ r. x.test.pairs r ++ x.body.pairs r }
+condition_step x = record { vars = x.body.vars; pairs = λ r. x.test.pairs r.rights ++ x.body.pairs r }
 
 abbrev pub function_step : Layer Function-F → FunctionFound
-function_step x = record { begin = x.span.begin; name = x.name; pairs = λ r. joined bound (some_name x.name) ++ parameters_pairs x.parameters (record r { in_parameters = x.is_generator }) ++ body_pairs x.parameters x.body r }
+function_step x = record { begin = x.span.begin; name = x.name; pairs = λ r. joined bound (some_name x.name) ++ parameters_pairs x.parameters (with_parameters x.is_generator r) ++ body_pairs x.parameters x.body r }
 
 abbrev pub method_step : Layer Method-F → MethodFound
-method_step x = record { begin = x.span.begin; kind = x.kind; key = x.key; pairs = λ super_call r. x.key.pairs r ++ x.function.pairs (of_function super_call true) }
+method_step x = record { begin = x.span.begin; kind = x.kind; key = x.key; pairs = λ super_call r. x.key.pairs r ++ x.function.pairs (rights_of_function super_call true) }
 
 abbrev pub operand_step : Layer Operand-F → Inside
 operand_step x = x.value.pairs
@@ -501,9 +534,70 @@ template_step x = record { begin = x.span.begin; pairs = λ r. joined (λ p. p r
 abbrev pub template_part_step : Layer TemplatePart-F → Inside
 template_part_step x = x.value.pairs
 
+-- what each kind of node gives
+abbrev pub argument_found : Argument → ArgumentFound
+argument_found =
+    fold-Argument ArgumentFound TargetsFound BodyFound ArgumentFound Found HeadFound HeadFound KeyFound LinkFound TargetsFound TargetsFound TargetsFound PropertyFound StatementFound PlacedFound (List StatementFound) CaseFound PartFound ClassFound MemberFound PartFound FunctionFound MethodFound Inside TargetsFound PlacedFound Inside
+    argument_step array_part_step arrow_body_step element_step expression_step for_first_step for_target_step key_step link_step object_part_step parameter_step pattern_step property_step statement_step arrow_step block_step case_step catch_step class_step class_member_step condition_step function_step method_step operand_step part_step template_step template_part_step
+
+abbrev pub array_part_found : ArrayPart → TargetsFound
+array_part_found =
+    fold-ArrayPart ArgumentFound TargetsFound BodyFound ArgumentFound Found HeadFound HeadFound KeyFound LinkFound TargetsFound TargetsFound TargetsFound PropertyFound StatementFound PlacedFound (List StatementFound) CaseFound PartFound ClassFound MemberFound PartFound FunctionFound MethodFound Inside TargetsFound PlacedFound Inside
+    argument_step array_part_step arrow_body_step element_step expression_step for_first_step for_target_step key_step link_step object_part_step parameter_step pattern_step property_step statement_step arrow_step block_step case_step catch_step class_step class_member_step condition_step function_step method_step operand_step part_step template_step template_part_step
+
+abbrev pub arrow_body_found : ArrowBody → BodyFound
+arrow_body_found =
+    fold-ArrowBody ArgumentFound TargetsFound BodyFound ArgumentFound Found HeadFound HeadFound KeyFound LinkFound TargetsFound TargetsFound TargetsFound PropertyFound StatementFound PlacedFound (List StatementFound) CaseFound PartFound ClassFound MemberFound PartFound FunctionFound MethodFound Inside TargetsFound PlacedFound Inside
+    argument_step array_part_step arrow_body_step element_step expression_step for_first_step for_target_step key_step link_step object_part_step parameter_step pattern_step property_step statement_step arrow_step block_step case_step catch_step class_step class_member_step condition_step function_step method_step operand_step part_step template_step template_part_step
+
+abbrev pub element_found : Element → ArgumentFound
+element_found =
+    fold-Element ArgumentFound TargetsFound BodyFound ArgumentFound Found HeadFound HeadFound KeyFound LinkFound TargetsFound TargetsFound TargetsFound PropertyFound StatementFound PlacedFound (List StatementFound) CaseFound PartFound ClassFound MemberFound PartFound FunctionFound MethodFound Inside TargetsFound PlacedFound Inside
+    argument_step array_part_step arrow_body_step element_step expression_step for_first_step for_target_step key_step link_step object_part_step parameter_step pattern_step property_step statement_step arrow_step block_step case_step catch_step class_step class_member_step condition_step function_step method_step operand_step part_step template_step template_part_step
+
 abbrev pub expression_found : Expression → Found
 expression_found =
     fold-Expression ArgumentFound TargetsFound BodyFound ArgumentFound Found HeadFound HeadFound KeyFound LinkFound TargetsFound TargetsFound TargetsFound PropertyFound StatementFound PlacedFound (List StatementFound) CaseFound PartFound ClassFound MemberFound PartFound FunctionFound MethodFound Inside TargetsFound PlacedFound Inside
+    argument_step array_part_step arrow_body_step element_step expression_step for_first_step for_target_step key_step link_step object_part_step parameter_step pattern_step property_step statement_step arrow_step block_step case_step catch_step class_step class_member_step condition_step function_step method_step operand_step part_step template_step template_part_step
+
+abbrev pub for_first_found : ForFirst → HeadFound
+for_first_found =
+    fold-ForFirst ArgumentFound TargetsFound BodyFound ArgumentFound Found HeadFound HeadFound KeyFound LinkFound TargetsFound TargetsFound TargetsFound PropertyFound StatementFound PlacedFound (List StatementFound) CaseFound PartFound ClassFound MemberFound PartFound FunctionFound MethodFound Inside TargetsFound PlacedFound Inside
+    argument_step array_part_step arrow_body_step element_step expression_step for_first_step for_target_step key_step link_step object_part_step parameter_step pattern_step property_step statement_step arrow_step block_step case_step catch_step class_step class_member_step condition_step function_step method_step operand_step part_step template_step template_part_step
+
+abbrev pub for_target_found : ForTarget → HeadFound
+for_target_found =
+    fold-ForTarget ArgumentFound TargetsFound BodyFound ArgumentFound Found HeadFound HeadFound KeyFound LinkFound TargetsFound TargetsFound TargetsFound PropertyFound StatementFound PlacedFound (List StatementFound) CaseFound PartFound ClassFound MemberFound PartFound FunctionFound MethodFound Inside TargetsFound PlacedFound Inside
+    argument_step array_part_step arrow_body_step element_step expression_step for_first_step for_target_step key_step link_step object_part_step parameter_step pattern_step property_step statement_step arrow_step block_step case_step catch_step class_step class_member_step condition_step function_step method_step operand_step part_step template_step template_part_step
+
+abbrev pub key_found : Key → KeyFound
+key_found =
+    fold-Key ArgumentFound TargetsFound BodyFound ArgumentFound Found HeadFound HeadFound KeyFound LinkFound TargetsFound TargetsFound TargetsFound PropertyFound StatementFound PlacedFound (List StatementFound) CaseFound PartFound ClassFound MemberFound PartFound FunctionFound MethodFound Inside TargetsFound PlacedFound Inside
+    argument_step array_part_step arrow_body_step element_step expression_step for_first_step for_target_step key_step link_step object_part_step parameter_step pattern_step property_step statement_step arrow_step block_step case_step catch_step class_step class_member_step condition_step function_step method_step operand_step part_step template_step template_part_step
+
+abbrev pub link_found : Link → LinkFound
+link_found =
+    fold-Link ArgumentFound TargetsFound BodyFound ArgumentFound Found HeadFound HeadFound KeyFound LinkFound TargetsFound TargetsFound TargetsFound PropertyFound StatementFound PlacedFound (List StatementFound) CaseFound PartFound ClassFound MemberFound PartFound FunctionFound MethodFound Inside TargetsFound PlacedFound Inside
+    argument_step array_part_step arrow_body_step element_step expression_step for_first_step for_target_step key_step link_step object_part_step parameter_step pattern_step property_step statement_step arrow_step block_step case_step catch_step class_step class_member_step condition_step function_step method_step operand_step part_step template_step template_part_step
+
+abbrev pub object_part_found : ObjectPart → TargetsFound
+object_part_found =
+    fold-ObjectPart ArgumentFound TargetsFound BodyFound ArgumentFound Found HeadFound HeadFound KeyFound LinkFound TargetsFound TargetsFound TargetsFound PropertyFound StatementFound PlacedFound (List StatementFound) CaseFound PartFound ClassFound MemberFound PartFound FunctionFound MethodFound Inside TargetsFound PlacedFound Inside
+    argument_step array_part_step arrow_body_step element_step expression_step for_first_step for_target_step key_step link_step object_part_step parameter_step pattern_step property_step statement_step arrow_step block_step case_step catch_step class_step class_member_step condition_step function_step method_step operand_step part_step template_step template_part_step
+
+abbrev pub parameter_found : Parameter → TargetsFound
+parameter_found =
+    fold-Parameter ArgumentFound TargetsFound BodyFound ArgumentFound Found HeadFound HeadFound KeyFound LinkFound TargetsFound TargetsFound TargetsFound PropertyFound StatementFound PlacedFound (List StatementFound) CaseFound PartFound ClassFound MemberFound PartFound FunctionFound MethodFound Inside TargetsFound PlacedFound Inside
+    argument_step array_part_step arrow_body_step element_step expression_step for_first_step for_target_step key_step link_step object_part_step parameter_step pattern_step property_step statement_step arrow_step block_step case_step catch_step class_step class_member_step condition_step function_step method_step operand_step part_step template_step template_part_step
+
+abbrev pub pattern_found : Pattern → TargetsFound
+pattern_found =
+    fold-Pattern ArgumentFound TargetsFound BodyFound ArgumentFound Found HeadFound HeadFound KeyFound LinkFound TargetsFound TargetsFound TargetsFound PropertyFound StatementFound PlacedFound (List StatementFound) CaseFound PartFound ClassFound MemberFound PartFound FunctionFound MethodFound Inside TargetsFound PlacedFound Inside
+    argument_step array_part_step arrow_body_step element_step expression_step for_first_step for_target_step key_step link_step object_part_step parameter_step pattern_step property_step statement_step arrow_step block_step case_step catch_step class_step class_member_step condition_step function_step method_step operand_step part_step template_step template_part_step
+
+abbrev pub property_found : Property → PropertyFound
+property_found =
+    fold-Property ArgumentFound TargetsFound BodyFound ArgumentFound Found HeadFound HeadFound KeyFound LinkFound TargetsFound TargetsFound TargetsFound PropertyFound StatementFound PlacedFound (List StatementFound) CaseFound PartFound ClassFound MemberFound PartFound FunctionFound MethodFound Inside TargetsFound PlacedFound Inside
     argument_step array_part_step arrow_body_step element_step expression_step for_first_step for_target_step key_step link_step object_part_step parameter_step pattern_step property_step statement_step arrow_step block_step case_step catch_step class_step class_member_step condition_step function_step method_step operand_step part_step template_step template_part_step
 
 abbrev pub statement_found : Statement → StatementFound
@@ -511,14 +605,69 @@ statement_found =
     fold-Statement ArgumentFound TargetsFound BodyFound ArgumentFound Found HeadFound HeadFound KeyFound LinkFound TargetsFound TargetsFound TargetsFound PropertyFound StatementFound PlacedFound (List StatementFound) CaseFound PartFound ClassFound MemberFound PartFound FunctionFound MethodFound Inside TargetsFound PlacedFound Inside
     argument_step array_part_step arrow_body_step element_step expression_step for_first_step for_target_step key_step link_step object_part_step parameter_step pattern_step property_step statement_step arrow_step block_step case_step catch_step class_step class_member_step condition_step function_step method_step operand_step part_step template_step template_part_step
 
-abbrev pub function_found : Function → FunctionFound
-function_found =
-    fold-Function ArgumentFound TargetsFound BodyFound ArgumentFound Found HeadFound HeadFound KeyFound LinkFound TargetsFound TargetsFound TargetsFound PropertyFound StatementFound PlacedFound (List StatementFound) CaseFound PartFound ClassFound MemberFound PartFound FunctionFound MethodFound Inside TargetsFound PlacedFound Inside
+abbrev pub arrow_found : Arrow → PlacedFound
+arrow_found =
+    fold-Arrow ArgumentFound TargetsFound BodyFound ArgumentFound Found HeadFound HeadFound KeyFound LinkFound TargetsFound TargetsFound TargetsFound PropertyFound StatementFound PlacedFound (List StatementFound) CaseFound PartFound ClassFound MemberFound PartFound FunctionFound MethodFound Inside TargetsFound PlacedFound Inside
+    argument_step array_part_step arrow_body_step element_step expression_step for_first_step for_target_step key_step link_step object_part_step parameter_step pattern_step property_step statement_step arrow_step block_step case_step catch_step class_step class_member_step condition_step function_step method_step operand_step part_step template_step template_part_step
+
+abbrev pub block_found : Block → List StatementFound
+block_found =
+    fold-Block ArgumentFound TargetsFound BodyFound ArgumentFound Found HeadFound HeadFound KeyFound LinkFound TargetsFound TargetsFound TargetsFound PropertyFound StatementFound PlacedFound (List StatementFound) CaseFound PartFound ClassFound MemberFound PartFound FunctionFound MethodFound Inside TargetsFound PlacedFound Inside
+    argument_step array_part_step arrow_body_step element_step expression_step for_first_step for_target_step key_step link_step object_part_step parameter_step pattern_step property_step statement_step arrow_step block_step case_step catch_step class_step class_member_step condition_step function_step method_step operand_step part_step template_step template_part_step
+
+abbrev pub case_found : Case → CaseFound
+case_found =
+    fold-Case ArgumentFound TargetsFound BodyFound ArgumentFound Found HeadFound HeadFound KeyFound LinkFound TargetsFound TargetsFound TargetsFound PropertyFound StatementFound PlacedFound (List StatementFound) CaseFound PartFound ClassFound MemberFound PartFound FunctionFound MethodFound Inside TargetsFound PlacedFound Inside
+    argument_step array_part_step arrow_body_step element_step expression_step for_first_step for_target_step key_step link_step object_part_step parameter_step pattern_step property_step statement_step arrow_step block_step case_step catch_step class_step class_member_step condition_step function_step method_step operand_step part_step template_step template_part_step
+
+abbrev pub catch_found : Catch → PartFound
+catch_found =
+    fold-Catch ArgumentFound TargetsFound BodyFound ArgumentFound Found HeadFound HeadFound KeyFound LinkFound TargetsFound TargetsFound TargetsFound PropertyFound StatementFound PlacedFound (List StatementFound) CaseFound PartFound ClassFound MemberFound PartFound FunctionFound MethodFound Inside TargetsFound PlacedFound Inside
     argument_step array_part_step arrow_body_step element_step expression_step for_first_step for_target_step key_step link_step object_part_step parameter_step pattern_step property_step statement_step arrow_step block_step case_step catch_step class_step class_member_step condition_step function_step method_step operand_step part_step template_step template_part_step
 
 abbrev pub class_found : Class → ClassFound
 class_found =
     fold-Class ArgumentFound TargetsFound BodyFound ArgumentFound Found HeadFound HeadFound KeyFound LinkFound TargetsFound TargetsFound TargetsFound PropertyFound StatementFound PlacedFound (List StatementFound) CaseFound PartFound ClassFound MemberFound PartFound FunctionFound MethodFound Inside TargetsFound PlacedFound Inside
+    argument_step array_part_step arrow_body_step element_step expression_step for_first_step for_target_step key_step link_step object_part_step parameter_step pattern_step property_step statement_step arrow_step block_step case_step catch_step class_step class_member_step condition_step function_step method_step operand_step part_step template_step template_part_step
+
+abbrev pub class_member_found : ClassMember → MemberFound
+class_member_found =
+    fold-ClassMember ArgumentFound TargetsFound BodyFound ArgumentFound Found HeadFound HeadFound KeyFound LinkFound TargetsFound TargetsFound TargetsFound PropertyFound StatementFound PlacedFound (List StatementFound) CaseFound PartFound ClassFound MemberFound PartFound FunctionFound MethodFound Inside TargetsFound PlacedFound Inside
+    argument_step array_part_step arrow_body_step element_step expression_step for_first_step for_target_step key_step link_step object_part_step parameter_step pattern_step property_step statement_step arrow_step block_step case_step catch_step class_step class_member_step condition_step function_step method_step operand_step part_step template_step template_part_step
+
+abbrev pub condition_found : Condition → PartFound
+condition_found =
+    fold-Condition ArgumentFound TargetsFound BodyFound ArgumentFound Found HeadFound HeadFound KeyFound LinkFound TargetsFound TargetsFound TargetsFound PropertyFound StatementFound PlacedFound (List StatementFound) CaseFound PartFound ClassFound MemberFound PartFound FunctionFound MethodFound Inside TargetsFound PlacedFound Inside
+    argument_step array_part_step arrow_body_step element_step expression_step for_first_step for_target_step key_step link_step object_part_step parameter_step pattern_step property_step statement_step arrow_step block_step case_step catch_step class_step class_member_step condition_step function_step method_step operand_step part_step template_step template_part_step
+
+abbrev pub function_found : Function → FunctionFound
+function_found =
+    fold-Function ArgumentFound TargetsFound BodyFound ArgumentFound Found HeadFound HeadFound KeyFound LinkFound TargetsFound TargetsFound TargetsFound PropertyFound StatementFound PlacedFound (List StatementFound) CaseFound PartFound ClassFound MemberFound PartFound FunctionFound MethodFound Inside TargetsFound PlacedFound Inside
+    argument_step array_part_step arrow_body_step element_step expression_step for_first_step for_target_step key_step link_step object_part_step parameter_step pattern_step property_step statement_step arrow_step block_step case_step catch_step class_step class_member_step condition_step function_step method_step operand_step part_step template_step template_part_step
+
+abbrev pub method_found : Method → MethodFound
+method_found =
+    fold-Method ArgumentFound TargetsFound BodyFound ArgumentFound Found HeadFound HeadFound KeyFound LinkFound TargetsFound TargetsFound TargetsFound PropertyFound StatementFound PlacedFound (List StatementFound) CaseFound PartFound ClassFound MemberFound PartFound FunctionFound MethodFound Inside TargetsFound PlacedFound Inside
+    argument_step array_part_step arrow_body_step element_step expression_step for_first_step for_target_step key_step link_step object_part_step parameter_step pattern_step property_step statement_step arrow_step block_step case_step catch_step class_step class_member_step condition_step function_step method_step operand_step part_step template_step template_part_step
+
+abbrev pub operand_found : Operand → Inside
+operand_found =
+    fold-Operand ArgumentFound TargetsFound BodyFound ArgumentFound Found HeadFound HeadFound KeyFound LinkFound TargetsFound TargetsFound TargetsFound PropertyFound StatementFound PlacedFound (List StatementFound) CaseFound PartFound ClassFound MemberFound PartFound FunctionFound MethodFound Inside TargetsFound PlacedFound Inside
+    argument_step array_part_step arrow_body_step element_step expression_step for_first_step for_target_step key_step link_step object_part_step parameter_step pattern_step property_step statement_step arrow_step block_step case_step catch_step class_step class_member_step condition_step function_step method_step operand_step part_step template_step template_part_step
+
+abbrev pub part_found : Part → TargetsFound
+part_found =
+    fold-Part ArgumentFound TargetsFound BodyFound ArgumentFound Found HeadFound HeadFound KeyFound LinkFound TargetsFound TargetsFound TargetsFound PropertyFound StatementFound PlacedFound (List StatementFound) CaseFound PartFound ClassFound MemberFound PartFound FunctionFound MethodFound Inside TargetsFound PlacedFound Inside
+    argument_step array_part_step arrow_body_step element_step expression_step for_first_step for_target_step key_step link_step object_part_step parameter_step pattern_step property_step statement_step arrow_step block_step case_step catch_step class_step class_member_step condition_step function_step method_step operand_step part_step template_step template_part_step
+
+abbrev pub template_found : Template → PlacedFound
+template_found =
+    fold-Template ArgumentFound TargetsFound BodyFound ArgumentFound Found HeadFound HeadFound KeyFound LinkFound TargetsFound TargetsFound TargetsFound PropertyFound StatementFound PlacedFound (List StatementFound) CaseFound PartFound ClassFound MemberFound PartFound FunctionFound MethodFound Inside TargetsFound PlacedFound Inside
+    argument_step array_part_step arrow_body_step element_step expression_step for_first_step for_target_step key_step link_step object_part_step parameter_step pattern_step property_step statement_step arrow_step block_step case_step catch_step class_step class_member_step condition_step function_step method_step operand_step part_step template_step template_part_step
+
+abbrev pub template_part_found : TemplatePart → Inside
+template_part_found =
+    fold-TemplatePart ArgumentFound TargetsFound BodyFound ArgumentFound Found HeadFound HeadFound KeyFound LinkFound TargetsFound TargetsFound TargetsFound PropertyFound StatementFound PlacedFound (List StatementFound) CaseFound PartFound ClassFound MemberFound PartFound FunctionFound MethodFound Inside TargetsFound PlacedFound Inside
     argument_step array_part_step arrow_body_step element_step expression_step for_first_step for_target_step key_step link_step object_part_step parameter_step pattern_step property_step statement_step arrow_step block_step case_step catch_step class_step class_member_step condition_step function_step method_step operand_step part_step template_step template_part_step
 
 -- the names that an import binds (15.2.2)
@@ -537,7 +686,7 @@ pub record ItemFound : Type 0 where
   pub pairs : List Pair
 
 abbrev pub of_statement : StatementFound → ItemFound
-of_statement s = record { lexical = s.lexical ++ s.functions; vars = s.vars; exported = []; local = []; pairs = s.pairs at_top }
+of_statement s = record { lexical = s.lexical ++ s.functions; vars = s.vars; exported = []; local = []; pairs = s.pairs (in_body rights_at_top) }
 
 -- what `export` before a declaration exports
 abbrev pub exporting : ItemFound → ItemFound
@@ -547,9 +696,9 @@ abbrev pub default_item : List Identifier → List Pair → Span → ItemFound
 default_item names pairs word = record { lexical = names; vars = []; exported = record { span = word; name = codes "default" } ∷ []; local = []; pairs = pairs }
 
 abbrev pub default_found : DefaultExport → Span → ItemFound
-default_found (DefaultFunction f) word = default_item (some_name (function_found f).name) ((function_found f).pairs (of_function false false)) word
-default_found (DefaultClass c) word = default_item (class_found c).names ((class_found c).pairs at_top) word
-default_found (DefaultValue x) word = default_item [] ((expression_found x).pairs at_top) word
+default_found (DefaultFunction f) word = default_item (some_name (function_found f).name) ((function_found f).pairs (rights_of_function false false)) word
+default_found (DefaultClass c) word = default_item (class_found c).names ((class_found c).pairs rights_at_top) word
+default_found (DefaultValue x) word = default_item [] ((expression_found x).pairs rights_at_top) word
 
 abbrev pub own_names : Option Specifier → List ExportName → List Identifier
 own_names None ns = joined (λ n. n.local ∷ []) ns

@@ -1,5 +1,5 @@
 -- Findings: a rule of a table and the place where it stands, an offset in bytes. The least one is reported.
-use Rattle.std.specs.Prelude.{◌≡◌, ℕ, ◌<◌, ◌≤◌, ◌⊎◌, Bool, true, List, [], ◌∷◌, ◌++◌, cond, Option, Some, None, Contains, max}
+use Rattle.std.specs.Prelude.{◌≡◌, ℕ, Bool, true, false, ◌&&◌, ◌||◌, ◌==◌, nat_lt, List, [], ◌∷◌, ◌++◌, cond, fold, Option, Some, None, Contains, All, max}
 use Rattle.std.specs.List.{list_any}
 use Rattle.std.specs.Str.{bytes_eq}
 use Rattle.es6_ast.specs.declared.tree.Identifier.{Identifier}
@@ -25,7 +25,7 @@ is_name_of name xs = list_any (λ x. bytes_eq x.name name) xs
 -- the rule at each name that stands before it
 abbrev pub repeated : ℕ → List Identifier → List Identifier → List Pair
 repeated rule before [] = []
-repeated rule before (x ∷ xs) = when (is_name_of x.name before) rule x.span.begin ++ repeated rule (x ∷ before) xs
+repeated rule before (x ∷ xs) = when (is_name_of x.name before) rule x.span.begin ++ repeated rule (before ++ x ∷ []) xs
 
 -- the rule at each name of the second list that stands in the first
 abbrev pub shared : ℕ → List Identifier → List Identifier → List Pair
@@ -40,11 +40,18 @@ first_place name (x ∷ xs) = cond (bytes_eq x.name name) (Some x.span.begin) (f
 abbrev pub clashes : ℕ → List Identifier → List Identifier → List Pair
 clashes rule xs ys = joined (λ x. maybe (λ at. when true rule (max x.span.begin at)) (first_place x.name ys)) xs
 
--- by place, then by rule
-abbrev pub IsBefore : Pair → Pair → Type 0
-IsBefore p q = (p.at < q.at) ⊎ ((p.at ≡ q.at) × (p.rule ≤ q.rule))
+-- Which of two pairs comes first: by place, then by rule.
+abbrev pub comes_first : Pair → Pair → Bool
+comes_first p q = nat_lt p.at q.at || ((p.at == q.at) && nat_lt p.rule q.rule)
 
--- the least of the pairs, or none where there is none
-abbrev pub IsLeast : List Pair → Option Pair → Type 0
-IsLeast pairs None = pairs ≡ []
-IsLeast pairs (Some p) = Contains pairs p × ((q : Pair) → Contains pairs q → IsBefore p q)
+abbrev pub earlier : Option Pair → Pair → Option Pair
+earlier None p = Some p
+earlier (Some q) p = Some (cond (comes_first p q) p q)
+
+-- the pair that is reported of these: the one that comes first, or none where there is none
+abbrev pub least_pair : List Pair → Option Pair
+least_pair pairs = fold earlier None pairs
+
+-- the pair is one of these, and none of them comes before it
+abbrev pub IsFirst : Pair → List Pair → Type 0
+IsFirst p pairs = Contains pairs p × All (λ q. comes_first q p ≡ false) pairs

@@ -42,7 +42,9 @@ abbrev pub literal_target : Span → Option ℕ → AsTarget
 literal_target span misfit = record { begin = span.begin; simple = false; literal = true; name = None; of_super = None; target_misfit = misfit; part_misfit = misfit }
 
 abbrev pub group_target : Span → AsTarget → AsTarget
-group_target span held = cond held.simple (record held { begin = span.begin }) (no_target span.begin)
+group_target span held =
+    let misfit = cond held.simple None (Some span.begin) in
+    record { begin = span.begin; simple = held.simple; literal = false; name = held.name; of_super = held.of_super; target_misfit = misfit; part_misfit = misfit }
 
 abbrev pub first_of_two : Option ℕ → Option ℕ → Option ℕ
 first_of_two None later = later
