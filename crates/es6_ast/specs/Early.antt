@@ -1,6 +1,6 @@
 -- The early errors of modules (ECMA-262, 6th edition, 12 to 15, each row with its section), as pairs of a rule and a place.
 -- docs/PROFILE.md has the table.
-use Rattle.std.specs.Prelude.{◌≡◌, ℕ, ◌-◌, Bool, true, false, ◌&&◌, ◌||◌, not, ◌==◌, List, [], ◌∷◌, ◌++◌, codes, cond, Option, Some, None, is_some, map}
+use Rattle.std.specs.Prelude.{ℕ, ◌-◌, Bool, true, false, ◌&&◌, ◌||◌, not, ◌==◌, List, [], ◌∷◌, ◌++◌, codes, cond, Option, Some, None, is_some, map}
 use Rattle.std.specs.List.{list_any}
 use Rattle.std.specs.Str.{bytes_eq}
 use Rattle.es_text.specs.declared.Span.{Span}
@@ -14,7 +14,7 @@ use Rattle.es6_ast.specs.declared.operators.Literal.TheVariants as literals
 use Rattle.es6_ast.specs.declared.operators.VariableKind.{VariableKind}
 use Rattle.es6_ast.specs.declared.operators.VariableKind.TheVariants.{Var, Let, Const}
 use Rattle.es6_ast.specs.declared.operators.MethodKind.{MethodKind}
-use Rattle.es6_ast.specs.declared.operators.MethodKind.TheVariants.{PlainMethod, GetterMethod, SetterMethod, GeneratorMethod}
+use Rattle.es6_ast.specs.declared.operators.MethodKind.TheVariants.{PlainMethod}
 use Rattle.es6_ast.specs.declared.tree.Identifier.{Identifier}
 use Rattle.es6_ast.specs.declared.tree.Argument.{Argument, fold-Argument}
 use Rattle.es6_ast.specs.declared.tree.ArrayPart.{ArrayPart, fold-ArrayPart}
