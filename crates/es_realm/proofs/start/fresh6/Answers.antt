@@ -1,0 +1,15 @@
+use Rattle.std.proofs.Common.{◌≡◌, ◌∙◌, ap, fold, []}
+use Rattle.es_realm.specs.declared.edition.Edition.TheVariants.{Sixth}
+use Rattle.es_realm.specs.Tables.{with_row, with_function, with_entry, prototypes6, iterator_prototypes, functions, functions6, entries, entries6}
+use Rattle.es_realm.specs.Realms.{fresh6}
+use Rattle.es_realm.proofs.start.fresh6.Goals as goal
+
+pub returns : goal.returns
+unfolding fresh6 entries entries6
+returns c =
+    c.in_ok-add_entries-2.ensures ∙ ap (λ h. fold with_entry h entries6) (
+      c.in_ok-add_entries.ensures ∙ ap (λ h. fold with_entry h entries) (
+        c.in_ok-add_functions-2.ensures ∙ ap (λ h. fold (with_function Sixth) h functions6) (
+          c.in_ok-add_rows-2.ensures ∙ ap (λ h. fold with_row h iterator_prototypes) (
+            c.in_ok-add_functions.ensures ∙ ap (λ h. fold (with_function Sixth) h functions) (
+              c.in_ok-add_rows.ensures ∙ ap (λ h. fold with_row h prototypes6) c.new-heap.ensures)))))
