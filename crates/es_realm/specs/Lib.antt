@@ -4,3 +4,4 @@ pub mod Entries
 pub mod Realms
 pub mod LeftOut
 pub mod Look
+pub mod Access

@@ -1,6 +1,7 @@
 //! The fresh realms, and what both editions do to objects and primitive values.
 #![tactic(auto)]
 
+mod access;
 mod edition;
 mod left_out;
 mod look;
@@ -9,7 +10,11 @@ mod realm;
 mod start;
 mod table;
 
+pub use access::{
+    Read, Write, definition_exit, delete_key, own_of_text, read_object, read_value, write_length,
+    write_object, write_primitive,
+};
 pub use edition::Edition;
 pub use left_out::{is_builtin, is_left_out};
-pub use look::{Look, is_closure, is_function, is_named, is_reserved_key};
+pub use look::{Look, is_closure, is_function, is_named, is_reserved_key, look_own, look_up};
 pub use realm::{Realm5, Realm6, RealmOf};

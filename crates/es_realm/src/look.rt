@@ -129,7 +129,7 @@ fn is_hidden_prototype(edition: Edition, heap: &Heap, id: ObjId, key: &Key) -> b
 }
 
 /// Whether the editions have the property otherwise (exit X4).
-fn is_hidden(edition: Edition, heap: &Heap, id: ObjId, key: &Key) -> bool
+pub(crate) fn is_hidden(edition: Edition, heap: &Heap, id: ObjId, key: &Key) -> bool
     ensures { result ≡ is_hidden edition heap.now id key.now }
 {
     (is_function(heap.class(id)) && is_hidden_function_name(key))
