@@ -12,9 +12,7 @@ ghost use Rattle.es_realm.specs.Look.{look_up};
 
 use crate::edition::Edition;
 use crate::left_out::{is_builtin, is_left_out};
-use crate::look::{
-    Look, is_closure, is_function, is_hidden, is_named, is_reserved_key, look_up,
-};
+use crate::look::{Look, is_closure, is_function, is_hidden, is_named, is_reserved_key, look_up};
 use crate::names::{BOOLEAN_PROTOTYPE, NUMBER_PROTOTYPE, STRING_PROTOTYPE};
 use es_access::{PutAnswer, put};
 use es_heap::{Class, Heap, HeapFault, Key, Prop, array_index};
@@ -68,12 +66,7 @@ fn read_property(property: Option<&Prop>) -> Result<Read, AllocError>
 }
 
 /// [[Get]] of an object (9.1.8).
-pub fn read_object(
-    edition: Edition,
-    heap: &Heap,
-    id: ObjId,
-    key: &Key,
-) -> Result<Read, AllocError>
+pub fn read_object(edition: Edition, heap: &Heap, id: ObjId, key: &Key) -> Result<Read, AllocError>
     ensures { IfOk result (λ read. read ≡ read_object edition heap.now id key.now) }
 {
     match look_up(edition, heap, id, key) {
@@ -239,9 +232,9 @@ pub fn write_object(
     ensures { IfOk result (λ answer. (answer ≡ (write_object edition heap.old id key value).answer) × (heap.new ≡ (write_object edition heap.old id key value).after)) }
 {
     match look_up(edition, heap, id, &key) {
-        Look::Found(holder) if is_builtin(edition, id) => Ok(
-            write_library(heap.get_own(holder, &key)),
-        ),
+        Look::Found(holder) if is_builtin(edition, id) => Ok(write_library(heap.get_own(
+            holder, &key,
+        ))),
         Look::Missing if is_builtin(edition, id) => Ok(Write::Leaves(7)),
         Look::Found(_) | Look::Missing => put_value(heap, alloc, id, key, value),
         Look::Binding => Ok(Write::Refused),

@@ -8,23 +8,98 @@ use crate::edition::Edition;
 use es_heap::Key;
 use es_value::ObjId;
 
-const OBJECT_NAMES: [&str; 12] = ["assign", "defineProperties", "freeze", "getOwnPropertyNames", "getOwnPropertySymbols", "is", "isExtensible", "isFrozen", "isSealed", "keys", "seal", "setPrototypeOf"];
+const OBJECT_NAMES: [&str; 12] = [
+    "assign",
+    "defineProperties",
+    "freeze",
+    "getOwnPropertyNames",
+    "getOwnPropertySymbols",
+    "is",
+    "isExtensible",
+    "isFrozen",
+    "isSealed",
+    "keys",
+    "seal",
+    "setPrototypeOf",
+];
 
-const OBJECT_NAMES6: [&str; 4] = ["defineProperty", "getOwnPropertyDescriptor", "getPrototypeOf", "preventExtensions"];
+const OBJECT_NAMES6: [&str; 4] = [
+    "defineProperty",
+    "getOwnPropertyDescriptor",
+    "getPrototypeOf",
+    "preventExtensions",
+];
 
 const ARRAY_NAMES: [&str; 2] = ["from", "of"];
 
 const STRING_NAMES: [&str; 3] = ["fromCharCode", "fromCodePoint", "raw"];
 
-const OBJECT_PROTOTYPE_NAMES: [&str; 3] = ["isPrototypeOf", "propertyIsEnumerable", "toLocaleString"];
+const OBJECT_PROTOTYPE_NAMES: [&str; 3] = [
+    "isPrototypeOf",
+    "propertyIsEnumerable",
+    "toLocaleString",
+];
 
 const FUNCTION_PROTOTYPE_NAMES: [&str; 2] = ["bind", "length"];
 
-const ARRAY_PROTOTYPE_NAMES: [&str; 23] = ["length", "concat", "reverse", "shift", "slice", "sort", "splice", "unshift", "lastIndexOf", "every", "some", "map", "filter", "reduce", "reduceRight", "toLocaleString", "copyWithin", "entries", "fill", "find", "findIndex", "keys", "values"];
+const ARRAY_PROTOTYPE_NAMES: [&str; 23] = [
+    "length",
+    "concat",
+    "reverse",
+    "shift",
+    "slice",
+    "sort",
+    "splice",
+    "unshift",
+    "lastIndexOf",
+    "every",
+    "some",
+    "map",
+    "filter",
+    "reduce",
+    "reduceRight",
+    "toLocaleString",
+    "copyWithin",
+    "entries",
+    "fill",
+    "find",
+    "findIndex",
+    "keys",
+    "values",
+];
 
-const STRING_PROTOTYPE_NAMES: [&str; 22] = ["length", "concat", "lastIndexOf", "localeCompare", "match", "replace", "search", "slice", "split", "toLowerCase", "toUpperCase", "toLocaleLowerCase", "toLocaleUpperCase", "trim", "valueOf", "substr", "codePointAt", "endsWith", "includes", "normalize", "repeat", "startsWith"];
+const STRING_PROTOTYPE_NAMES: [&str; 22] = [
+    "length",
+    "concat",
+    "lastIndexOf",
+    "localeCompare",
+    "match",
+    "replace",
+    "search",
+    "slice",
+    "split",
+    "toLowerCase",
+    "toUpperCase",
+    "toLocaleLowerCase",
+    "toLocaleUpperCase",
+    "trim",
+    "valueOf",
+    "substr",
+    "codePointAt",
+    "endsWith",
+    "includes",
+    "normalize",
+    "repeat",
+    "startsWith",
+];
 
-const NUMBER_PROTOTYPE_NAMES: [&str; 5] = ["toExponential", "toFixed", "toLocaleString", "toPrecision", "valueOf"];
+const NUMBER_PROTOTYPE_NAMES: [&str; 5] = [
+    "toExponential",
+    "toFixed",
+    "toLocaleString",
+    "toPrecision",
+    "valueOf",
+];
 
 const BOOLEAN_PROTOTYPE_NAMES: [&str; 1] = ["valueOf"];
 

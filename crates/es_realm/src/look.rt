@@ -7,7 +7,6 @@ use crate::left_out::{is_left_out, is_word};
 use es_heap::{Class, Heap, Key};
 use es_value::ObjId;
 
-
 /// Where a key is found.
 #[derive(Clone, Copy, Debug, PartialEq, Eq)]
 pub enum Look {

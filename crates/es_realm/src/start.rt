@@ -8,7 +8,7 @@ use crate::edition::Edition;
 use crate::names::{ERROR, FUNCTION_PROTOTYPE};
 use crate::table::{
     Content, ENTRIES, ENTRIES5, ENTRIES6, FUNCTIONS, FUNCTIONS5, FUNCTIONS6, ITERATOR_PROTOTYPES,
-    KeyName, Kept, Kind, PROTOTYPES5, PROTOTYPES6, Row,
+    Kept, KeyName, Kind, PROTOTYPES5, PROTOTYPES6, Row,
 };
 use es_heap::{Class, Heap, HeapFault, Key, Prop};
 use es_value::{ObjId, Str, Value};

@@ -8,8 +8,8 @@ pub returns : goal.returns
 unfolding fresh6 entries entries6
 returns c =
     c.in_ok-add_entries-2.ensures ∙ ap (λ h. fold with_entry h entries6) (
-      c.in_ok-add_entries.ensures ∙ ap (λ h. fold with_entry h entries) (
-        c.in_ok-add_functions-2.ensures ∙ ap (λ h. fold (with_function Sixth) h functions6) (
-          c.in_ok-add_rows-2.ensures ∙ ap (λ h. fold with_row h iterator_prototypes) (
-            c.in_ok-add_functions.ensures ∙ ap (λ h. fold (with_function Sixth) h functions) (
-              c.in_ok-add_rows.ensures ∙ ap (λ h. fold with_row h prototypes6) c.new-heap.ensures)))))
+    c.in_ok-add_entries.ensures ∙ ap (λ h. fold with_entry h entries) (
+    c.in_ok-add_functions-2.ensures ∙ ap (λ h. fold (with_function Sixth) h functions6) (
+    c.in_ok-add_rows-2.ensures ∙ ap (λ h. fold with_row h iterator_prototypes) (
+    c.in_ok-add_functions.ensures ∙ ap (λ h. fold (with_function Sixth) h functions) (
+    c.in_ok-add_rows.ensures ∙ ap (λ h. fold with_row h prototypes6) c.new-heap.ensures)))))

@@ -8,7 +8,7 @@ pub returns : goal.returns
 unfolding library5 entries entries5
 returns c =
     c.in_ok-add_entries-2.ensures ∙ ap (λ h. fold with_entry h entries5) (
-      c.in_ok-add_entries.ensures ∙ ap (λ h. fold with_entry h entries) (
-        c.in_ok-add_functions-2.ensures ∙ ap (λ h. fold (with_function Fifth) h functions5) (
-          c.in_ok-add_functions.ensures ∙ ap (λ h. fold (with_function Fifth) h functions) (
-            c.in_ok-add_rows.ensures ∙ ap (λ h. fold with_row h prototypes5) c.new-heap.ensures))))
+    c.in_ok-add_entries.ensures ∙ ap (λ h. fold with_entry h entries) (
+    c.in_ok-add_functions-2.ensures ∙ ap (λ h. fold (with_function Fifth) h functions5) (
+    c.in_ok-add_functions.ensures ∙ ap (λ h. fold (with_function Fifth) h functions) (
+    c.in_ok-add_rows.ensures ∙ ap (λ h. fold with_row h prototypes5) c.new-heap.ensures))))
