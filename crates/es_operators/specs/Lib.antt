@@ -1,0 +1,4 @@
+pub mod Primitives
+pub mod Operators
+pub mod Conversions
+pub mod Functions
