@@ -1,0 +1,213 @@
+//! A call of a function of the library: what it keeps between its steps, and what it answers.
+ghost use Rattle.std.specs.Prelude.{◌≡◌, IfOk};
+ghost use Rattle.es_builtins.specs.Calls.{begun, arg, value_or_undefined, text_in, number_in, is_undefined, is_nothing, position, index_key};
+
+use es_heap::Key;
+use es_operators::{Conversion, to_key};
+use es_value::{ObjId, Value};
+use sqlite_items::Items;
+use std::alloc::{AllocError, Global};
+
+/// The kinds of error that a step throws (ECMA-262, 6th edition, 19.5).
+#[derive(Clone, Copy, Debug, PartialEq, Eq)]
+pub enum ErrorKind {
+    Error,
+    TypeError,
+    ReferenceError,
+    RangeError,
+}
+
+/// What a step answers.
+#[derive(Debug, Drop)]
+pub enum BuiltinStep {
+    /// The next step goes on.
+    Running,
+    /// This function is to be called, and what it gives is to be handed in by `receive`. A throw of it ends the call.
+    CallOut {
+        callee: Value,
+        this_value: Value,
+        args: Items<Value>,
+    },
+    /// This key of a namespace object is to be read, and what that gives is to be handed in by `receive`.
+    ReadOut { object: ObjId, key: Key },
+    Done(Value),
+    Throws(ErrorKind),
+    /// The run leaves the profile at the exit of this number.
+    Leaves(u8),
+    OutOfMemory,
+}
+
+/// Where a call's function is.
+#[derive(Clone, Copy, Debug, PartialEq, Eq)]
+pub(crate) enum Place {
+    Begin,
+    /// The receiver, or a first operand, was converted.
+    Receiver,
+    /// The text to search or to join by was converted.
+    Search,
+    /// A position was converted.
+    Position,
+    /// A length was read.
+    Length,
+    /// The next turn of the loop.
+    Turn,
+    /// A property was read.
+    Element,
+    /// A piece of text was converted.
+    Piece,
+    /// A function was called.
+    Called,
+    End,
+}
+
+/// What a call waits for.
+#[derive(Clone, Copy, Debug)]
+pub(crate) enum Pending {
+    Nothing,
+    /// What its function wanted.
+    Answer,
+    /// The method that a conversion looks for.
+    Method(Conversion),
+    /// What a conversion's method gives.
+    Result(Conversion),
+}
+
+/// What one turn of a function wants.
+#[derive(Debug, Drop)]
+pub(crate) enum Want {
+    Again,
+    /// ToString of a value.
+    Text(Value),
+    /// ToNumber of a value.
+    Number(Value),
+    /// A property of a value.
+    Get(Value, Key),
+    /// A call of a function, with its receiver and arguments.
+    Call(Value, Value, Items<Value>),
+    Done(Value),
+    Throws(ErrorKind),
+    Leaves(u8),
+}
+
+/// A call of a function of the library.
+#[derive(Debug, Drop)]
+pub struct BuiltinCall {
+    pub(crate) builtin: u16,
+    pub(crate) this_value: Value,
+    pub(crate) args: Items<Value>,
+    pub(crate) place: Place,
+    pub(crate) pending: Pending,
+    /// What the function wanted, once it is there.
+    pub(crate) input: Value,
+    /// The receiver as a text, or the object that is being made.
+    pub(crate) kept: Value,
+    /// A second operand.
+    pub(crate) other: Value,
+    pub(crate) index: i64,
+    pub(crate) length: i64,
+    /// The text so far.
+    pub(crate) units: Items<u16>,
+    /// The list so far.
+    pub(crate) list: Items<Value>,
+}
+
+impl BuiltinCall {
+    /// Begins a call of the function of this number.
+    pub fn begin(
+        alloc: Global,
+        builtin: u16,
+        this_value: Value,
+        args: Vec<Value>,
+    ) -> BuiltinCall
+        ensures { result ≡ begun builtin this_value args.items }
+    {
+        BuiltinCall {
+            builtin,
+            this_value,
+            args: Items::from_vec(args),
+            place: Place::Begin,
+            pending: Pending::Nothing,
+            input: Value::Undefined,
+            kept: Value::Undefined,
+            other: Value::Undefined,
+            index: 0,
+            length: 0,
+            units: Items::new(alloc),
+            list: Items::new(alloc),
+        }
+    }
+
+    /// Hands in what a function that was called out to gave, or what a read of a namespace object gave.
+    pub fn receive(&mut self, answer: Value)
+        ensures { self.new ≡ record self.old { input = answer } }
+    {
+        self.input = answer;
+    }
+
+    /// An argument; one that is missing is undefined.
+    pub(crate) fn arg(&self, index: usize) -> Result<Value, AllocError>
+        ensures { IfOk result (λ value. value ≡ arg self.now index) }
+    {
+        match self.args.get(index) {
+            None => Ok(Value::Undefined),
+            Some(value) => value.share(),
+        }
+    }
+}
+
+pub(crate) fn number_in(value: &Value) -> i64
+    ensures { result ≡ number_in value.now }
+{
+    match value {
+        Value::Number(number) => *number,
+        _ => 0,
+    }
+}
+
+pub(crate) fn text_in(value: &Value) -> &[u16]
+    ensures { result.now ≡ text_in value.now }
+{
+    match value {
+        Value::Text(text) => text.units(),
+        _ => &[],
+    }
+}
+
+pub(crate) fn is_undefined(value: &Value) -> bool
+    ensures { result ≡ is_undefined value.now }
+{
+    matches!(value, Value::Undefined)
+}
+
+pub(crate) fn is_nothing(value: &Value) -> bool
+    ensures { result ≡ is_nothing value.now }
+{
+    matches!(value, Value::Undefined | Value::Null)
+}
+
+/// A position; one that is missing counts as 0.
+pub(crate) fn position(value: Value) -> Value
+    ensures { result ≡ position value }
+{
+    match value {
+        Value::Undefined => Value::Number(0),
+        other => other,
+    }
+}
+
+pub(crate) fn index_key(alloc: Global, index: i64) -> Result<Key, AllocError>
+    ensures { IfOk result (λ key. key ≡ index_key index) }
+{
+    to_key(alloc, &Value::Number(index))
+}
+
+/// Values equal to these.
+pub(crate) fn share_all(alloc: Global, values: &[Value]) -> Result<Items<Value>, AllocError>
+    ensures { IfOk result (λ list. list ≡ values.now) }
+{
+    let mut list = Items::new(alloc);
+    for value in values {
+        list.push(value.share()?)?;
+    }
+    Ok(list)
+}
