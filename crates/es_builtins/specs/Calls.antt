@@ -1,5 +1,7 @@
 -- A call of a function of the library: what it keeps between its steps, and what one turn of it gives.
-use Rattle.std.specs.Prelude.{ℕ, ℤ, pos, Bool, true, false, if◌then◌else◌, List, [], ◌∷◌, slice_get, Option, None, Some}
+use Rattle.std.specs.Prelude.{ℕ, ℤ, pos, Bool, true, false, if◌then◌else◌, List, [], ◌∷◌, slice_get, Option, None, Some, Result, Ok, Err}
+use Rattle.es_value.specs.declared.arithmetic.Exit.{Exit}
+use Rattle.es_value.specs.Arithmetic.{sum}
 use Rattle.es_value.specs.declared.value.ObjId.{ObjId}
 use Rattle.es_value.specs.declared.value.Value.{Value}
 use Rattle.es_value.specs.declared.value.Value.TheVariants as value
@@ -52,6 +54,14 @@ pub record Effect : Type 0 where
   pub heap : Heap
   pub want : Want
 
+-- an answer that leaves the call as it is
+pub record Answered : Type 0 where
+  pub heap : Heap
+  pub want : Want
+
+abbrev pub answered : BuiltinCall → Answered → Effect
+answered c a = record { call = c; heap = a.heap; want = a.want }
+
 -- the call ends
 abbrev pub over : BuiltinCall → Want → Turn
 over c w = record { call = c; want = w }
@@ -71,6 +81,14 @@ goes c p w = record { call = record c { place = p }; want = w }
 
 abbrev pub still : Heap → Turn → Effect
 still heap turn = record { call = turn.call; heap = heap; want = turn.want }
+
+-- a sum of indices and lengths, which are safe numbers
+abbrev pub number_or_zero : Result ℤ Exit → ℤ
+number_or_zero (Ok n) = n
+number_or_zero (Err x) = pos 0
+
+abbrev pub plus : ℤ → ℤ → ℤ
+plus a b = number_or_zero (sum a b)
 
 abbrev pub text_in : Value → List ℕ
 text_in (value.Text us) = us
@@ -95,3 +113,8 @@ position v = if is_undefined v then value.Number (pos 0) else v
 
 abbrev pub index_key : ℤ → Key
 index_key n = to_key (value.Number n)
+
+-- the object of a receiver
+abbrev pub object_in : Value → ObjId
+object_in (value.Object id) = id
+object_in _ = record { 0 = 0 }

@@ -1,5 +1,5 @@
 -- The functions of Function.prototype (ECMA-262, 6th edition, 19.2.3).
-use Rattle.std.specs.Prelude.{ℕ, ℤ, pos, ◌+ℤ◌, Bool, true, false, ◌||◌, ◌&&◌, nat_le, int_lt, if◌then◌else◌, List, [], ◌∷◌, ◌++◌, drop, Option, None, Some, codes}
+use Rattle.std.specs.Prelude.{ℕ, ℤ, pos, Bool, true, false, ◌||◌, ◌&&◌, nat_le, int_lt, if◌then◌else◌, List, [], ◌∷◌, ◌++◌, drop, Option, None, Some, codes}
 use Rattle.es_value.specs.declared.value.ObjId.{ObjId}
 use Rattle.es_value.specs.declared.value.Value.{Value}
 use Rattle.es_value.specs.declared.value.Value.TheVariants as value
@@ -17,7 +17,7 @@ use Rattle.es_builtins.specs.declared.call.Place.TheVariants as place
 use Rattle.es_builtins.specs.declared.call.Want.{Want}
 use Rattle.es_builtins.specs.declared.call.Want.TheVariants as want
 use Rattle.es_builtins.specs.declared.call.ErrorKind.TheVariants.{TypeError}
-use Rattle.es_builtins.specs.Calls.{Turn, arg, gives, throws, leaves, goes, is_nothing, number_in, index_key}
+use Rattle.es_builtins.specs.Calls.{Turn, arg, gives, throws, leaves, goes, is_nothing, number_in, plus, index_key}
 
 -- a `length` that an arguments object may have in these functions
 abbrev pub is_length : Option Prop → Bool
@@ -56,5 +56,5 @@ abbrev pub apply_at : Heap → BuiltinCall → Place → Turn
 apply_at heap c place.Begin = apply_begin heap c
 apply_at heap c place.Length = goes (record c { length = number_in c.input }) place.Turn want.Again
 apply_at heap c place.Turn = apply_turn c
-apply_at heap c place.Element = goes (record c { list = c.list ++ c.input ∷ []; index = c.index +ℤ pos 1 }) place.Turn want.Again
+apply_at heap c place.Element = goes (record c { list = c.list ++ c.input ∷ []; index = plus c.index (pos 1) }) place.Turn want.Again
 apply_at heap c _ = gives c c.input

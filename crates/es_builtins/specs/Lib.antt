@@ -1,4 +1,10 @@
 pub mod Calls
 pub mod Functions
 pub mod Objects
+pub mod Strings
+pub mod Arrays
+pub mod Errors
+pub mod Iterators
+pub mod Fifth
 pub mod Steps
+pub mod Turns

@@ -1,10 +1,10 @@
 //! A call of a function of the library: what it keeps between its steps, and what it answers.
 ghost use Rattle.std.specs.Prelude.{◌≡◌, IfOk};
-ghost use Rattle.es_builtins.specs.Calls.{begun, arg, value_or_undefined, text_in, number_in, is_undefined, is_nothing, position, index_key};
+ghost use Rattle.es_builtins.specs.Calls.{begun, arg, value_or_undefined, text_in, number_in, is_undefined, is_nothing, position, plus, index_key, object_in};
 
 use es_heap::Key;
 use es_operators::{Conversion, to_key};
-use es_value::{ObjId, Value};
+use es_value::{ObjId, Value, add};
 use sqlite_items::Items;
 use std::alloc::{AllocError, Global};
 
@@ -29,7 +29,10 @@ pub enum BuiltinStep {
         args: Items<Value>,
     },
     /// This key of a namespace object is to be read, and what that gives is to be handed in by `receive`.
-    ReadOut { object: ObjId, key: Key },
+    ReadOut {
+        object: ObjId,
+        key: Key,
+    },
     Done(Value),
     Throws(ErrorKind),
     /// The run leaves the profile at the exit of this number.
@@ -113,12 +116,7 @@ pub struct BuiltinCall {
 
 impl BuiltinCall {
     /// Begins a call of the function of this number.
-    pub fn begin(
-        alloc: Global,
-        builtin: u16,
-        this_value: Value,
-        args: Vec<Value>,
-    ) -> BuiltinCall
+    pub fn begin(alloc: Global, builtin: u16, this_value: Value, args: Vec<Value>) -> BuiltinCall
         ensures { result ≡ begun builtin this_value args.items }
     {
         BuiltinCall {
@@ -195,6 +193,16 @@ pub(crate) fn position(value: Value) -> Value
     }
 }
 
+/// A sum of indices and lengths, which are safe numbers.
+pub(crate) fn plus(a: i64, b: i64) -> i64
+    ensures { result ≡ plus a b }
+{
+    match add(a, b) {
+        Ok(sum) => sum,
+        Err(_) => 0,
+    }
+}
+
 pub(crate) fn index_key(alloc: Global, index: i64) -> Result<Key, AllocError>
     ensures { IfOk result (λ key. key ≡ index_key index) }
 {
@@ -210,4 +218,14 @@ pub(crate) fn share_all(alloc: Global, values: &[Value]) -> Result<Items<Value>,
         list.push(value.share()?)?;
     }
     Ok(list)
+}
+
+/// The object of a receiver.
+pub(crate) fn object_in(value: &Value) -> ObjId
+    ensures { result ≡ object_in value.now }
+{
+    match value {
+        Value::Object(id) => *id,
+        _ => ObjId(0),
+    }
 }

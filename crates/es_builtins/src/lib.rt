@@ -1,9 +1,18 @@
 //! The functions of the library, one step at a time.
 #![tactic(auto)]
 
+mod array;
 mod call;
+mod error;
+mod fifth;
 mod function;
+mod iterator;
 mod object;
 mod step;
+mod string;
+#[cfg(test)]
+mod tests;
+mod turn;
 
 pub use call::{BuiltinCall, BuiltinStep, ErrorKind};
+pub use step::step_builtin;

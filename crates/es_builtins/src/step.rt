@@ -3,12 +3,14 @@ ghost use Rattle.std.specs.Prelude.{◌≡◌, IfOk};
 ghost use Rattle.es_value.specs.Convert.{IsPrimitive};
 ghost use Rattle.es_realm.specs.Access.{exit_number};
 ghost use Rattle.es_operators.specs.Conversions.{method_given};
+ghost use Rattle.es_builtins.specs.Turns.{turn_of, settle_effect, step_of, edition_of, StepsTo};
 ghost use Rattle.es_builtins.specs.Steps.{settle_need, settle_primitive, settle_conversion, settle_read, settle, settle_attempt, receive_result};
 
 use crate::call::{BuiltinCall, BuiltinStep, ErrorKind, Pending, Want};
+use crate::turn::turn_of;
 use es_heap::{Heap, Key};
 use es_operators::{Conversion, Hint, Need, is_object, key_of_word};
-use es_realm::{Edition, Read, read_value};
+use es_realm::{Edition, Read, RealmOf, read_value};
 use es_value::{Exit, Value, to_number, to_text};
 use sqlite_items::Items;
 use std::alloc::{AllocError, Global};
@@ -25,23 +27,19 @@ fn settle_need(
     match need {
         Need::Call(callee) => {
             call.pending = Pending::Result(conversion);
-            Ok(
-                BuiltinStep::CallOut {
-                    callee,
-                    this_value: Value::Object(conversion.object),
-                    args: Items::new(alloc),
-                },
-            )
+            Ok(BuiltinStep::CallOut {
+                callee,
+                this_value: Value::Object(conversion.object),
+                args: Items::new(alloc),
+            })
         }
         Need::Getter(getter) => {
             call.pending = Pending::Method(conversion);
-            Ok(
-                BuiltinStep::CallOut {
-                    callee: Value::Object(getter),
-                    this_value: Value::Object(conversion.object),
-                    args: Items::new(alloc),
-                },
-            )
+            Ok(BuiltinStep::CallOut {
+                callee: Value::Object(getter),
+                this_value: Value::Object(conversion.object),
+                args: Items::new(alloc),
+            })
         }
         Need::Binding(object) => {
             let key = key_of_word(alloc, conversion.name_tried())?;
@@ -162,13 +160,11 @@ fn settle(
         }
         Want::Call(callee, this_value, args) => {
             call.pending = Pending::Answer;
-            Ok(
-                BuiltinStep::CallOut {
-                    callee,
-                    this_value,
-                    args,
-                },
-            )
+            Ok(BuiltinStep::CallOut {
+                callee,
+                this_value,
+                args,
+            })
         }
         Want::Done(value) => Ok(BuiltinStep::Done(value)),
         Want::Throws(kind) => Ok(BuiltinStep::Throws(kind)),
@@ -210,4 +206,58 @@ fn receive_method(
     let method = call.input.share()?;
     let need = conversion.method_given(alloc, edition, heap, method)?;
     settle_need(call, alloc, conversion, need)
+}
+
+/// A turn of the function, and what it wants.
+fn step_turn(
+    call: &mut BuiltinCall,
+    alloc: Global,
+    edition: Edition,
+    heap: &mut Heap,
+) -> Result<BuiltinStep, AllocError>
+    ensures { IfOk result (λ step. (step ≡ (settle_effect edition (turn_of edition heap.old call.old)).step) × (call.new ≡ (settle_effect edition (turn_of edition heap.old call.old)).call) × (heap.new ≡ (settle_effect edition (turn_of edition heap.old call.old)).heap)) }
+{
+    let want = turn_of(call, alloc, edition, heap)?;
+    settle(call, alloc, edition, heap, want)
+}
+
+fn step_of(
+    call: &mut BuiltinCall,
+    alloc: Global,
+    edition: Edition,
+    heap: &mut Heap,
+) -> Result<BuiltinStep, AllocError>
+    ensures { IfOk result (λ step. (step ≡ (step_of edition heap.old call.old).step) × (call.new ≡ (step_of edition heap.old call.old).call) × (heap.new ≡ (step_of edition heap.old call.old).heap)) }
+{
+    match call.pending {
+        Pending::Nothing | Pending::Answer => step_turn(call, alloc, edition, heap),
+        Pending::Method(conversion) => receive_method(call, alloc, edition, heap, conversion),
+        Pending::Result(conversion) => receive_result(call, alloc, edition, heap, conversion),
+    }
+}
+
+fn edition_of(realm: RealmOf) -> Edition
+    ensures { result ≡ edition_of realm.entry }
+{
+    match realm {
+        RealmOf::Six(_) => Edition::Sixth,
+        RealmOf::Five(_) => Edition::Fifth,
+    }
+}
+
+/// One step of a call in the realm that came with the heap. The call's number is that of a function of this realm, other than the
+/// three methods of the generator prototype. A call takes no step after `Done`, `Throws` or `Leaves`, and none between `CallOut`
+/// or `ReadOut` and `receive`. After `OutOfMemory` nothing is said of the call and the heap.
+pub fn step_builtin(
+    call: &mut BuiltinCall,
+    alloc: Global,
+    realm: RealmOf,
+    heap: &mut Heap,
+) -> BuiltinStep
+    ensures { StepsTo result call.new heap.new (step_of (edition_of realm.entry) heap.old call.old) }
+{
+    match step_of(call, alloc, edition_of(realm), heap) {
+        Ok(step) => step,
+        Err(AllocError) => BuiltinStep::OutOfMemory,
+    }
 }

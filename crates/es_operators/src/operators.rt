@@ -10,8 +10,8 @@ ghost use Rattle.es_realm.specs.Access.{exit_number};
 ghost use Rattle.es_operators.specs.Operators.{given, calculate, arithmetic, is_text, addition, truth, is_less, relation_of, negation, complement, is_nothing, equal_numbers, loose, loose_equality};
 
 use es_value::{
-    Exit, Value, add, and, compare, concat, div, mul, not, or, power, rem, same, shl, shr, sub, to_number,
-    to_text, ushr, xor,
+    Exit, Value, add, and, compare, concat, div, mul, not, or, power, rem, same, shl, shr, sub,
+    to_number, to_text, ushr, xor,
 };
 use std::alloc::{AllocError, Global};
 use std::cmp::Ordering;

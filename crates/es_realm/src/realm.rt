@@ -2,7 +2,6 @@
 ghost use Rattle.std.specs.Prelude.{◌≡◌, ◌<◌, ◌^◌, IfOk};
 ghost use Rattle.es_realm.specs.Realms.{fresh6, fresh5, realm6, realm5, host_functions};
 
-use crate::edition::Edition;
 use crate::names::*;
 use crate::start::{fresh5, fresh6};
 use es_heap::Heap;
@@ -254,15 +253,5 @@ impl Realm5 {
             hosts,
         };
         Ok((heap, realm))
-    }
-}
-
-impl RealmOf<'_> {
-    /// The edition whose realm it is.
-    pub fn edition(&self) -> Edition {
-        match self {
-            RealmOf::Six(_) => Edition::Sixth,
-            RealmOf::Five(_) => Edition::Fifth,
-        }
     }
 }

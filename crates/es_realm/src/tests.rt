@@ -1,0 +1,97 @@
+//! Look-ups in fresh realms, with the exits.
+use crate::{
+    Edition, Read, Realm5, Realm6, Write, delete_key, read_object, read_value, write_object,
+};
+use es_heap::{Class, Heap, HeapFault, Key, Prop};
+use es_value::{ObjId, Value, same};
+use std::alloc::{AllocError, Global};
+use std::test::Fail;
+
+fn key_of(alloc: Global, word: &str) -> Result<Key, AllocError> {
+    Ok(Key::Text(crate::start::ascii(alloc, word)?))
+}
+
+/// The exit at which a read leaves, or 0.
+fn exit_of(alloc: Global, heap: &Heap, id: ObjId, word: &str) -> Result<u8, AllocError> {
+    match read_object(Edition::Sixth, heap, id, &key_of(alloc, word)?)? {
+        Read::Leaves(exit) => Ok(exit),
+        _ => Ok(0),
+    }
+}
+
+fn has_value(read: &Read, value: &Value) -> bool {
+    match read {
+        Read::Have(found) => same(found, value),
+        _ => false,
+    }
+}
+
+fn plain(value: Value) -> Prop {
+    Prop::Plain {
+        value,
+        writable: true,
+        configurable: true,
+    }
+}
+
+#[test]
+fn exits_of_reads(rt: HostRuntime) -> Result<(), Fail> {
+    let alloc = rt.alloc();
+    let (mut heap, realm) = Realm6::start(alloc)?;
+    let list = heap.make(alloc, Some(realm.array_prototype), Class::Array)?;
+    let push = read_object(Edition::Sixth, &heap, list, &key_of(alloc, "push")?)?;
+    assert!(rt; has_value(&push, &Value::Object(realm.array_push)));
+    let nothing = read_object(Edition::Sixth, &heap, list, &key_of(alloc, "nothing")?)?;
+    assert!(rt; has_value(&nothing, &Value::Undefined));
+    assert_eq!(rt; exit_of(alloc, &heap, list, "map")?, 7);
+    assert_eq!(rt; exit_of(alloc, &heap, list, "@@k")?, 3);
+    assert_eq!(rt; exit_of(alloc, &heap, list, "@k")?, 0);
+    let arrow = heap.make(alloc, Some(realm.function_prototype), Class::Function(0))?;
+    assert_eq!(rt; exit_of(alloc, &heap, arrow, "prototype")?, 4);
+    assert_eq!(rt; exit_of(alloc, &heap, arrow, "name")?, 4);
+    assert_eq!(rt; exit_of(alloc, &heap, realm.array_push, "length")?, 7);
+    Ok(())
+}
+
+#[test]
+fn inherited_statics(rt: HostRuntime) -> Result<(), Fail> {
+    let alloc = rt.alloc();
+    let (mut heap, realm) = Realm6::start(alloc)?;
+    let parent = heap.make(alloc, Some(realm.function_prototype), Class::Function(0))?;
+    let class = heap.make(alloc, Some(parent), Class::Function(1))?;
+    heap.define_own(alloc, parent, key_of(alloc, "m")?, plain(Value::Number(1)))?;
+    assert_eq!(rt; exit_of(alloc, &heap, parent, "m")?, 0);
+    assert_eq!(rt; exit_of(alloc, &heap, class, "m")?, 6);
+    heap.record_key(alloc, class, key_of(alloc, "m")?)?;
+    assert_eq!(rt; exit_of(alloc, &heap, class, "m")?, 0);
+    let deleted = delete_key(Edition::Sixth, &mut heap, parent, &key_of(alloc, "m")?);
+    assert_eq!(rt; deleted, Write::Leaves(6));
+    Ok(())
+}
+
+#[test]
+fn library_stays(rt: HostRuntime) -> Result<(), Fail> {
+    let alloc = rt.alloc();
+    let (mut heap, realm) = Realm5::start(alloc, 2)?;
+    assert_eq!(rt; realm.hosts.len(), 2);
+    let written = write_object(
+        Edition::Fifth,
+        &mut heap,
+        alloc,
+        realm.array_prototype,
+        key_of(alloc, "k")?,
+        Value::Number(1),
+    )?;
+    assert_eq!(rt; written, Write::Leaves(7));
+    let list = heap.make(alloc, Some(realm.array_prototype), Class::Array)?;
+    let text = Value::Text(crate::start::ascii(alloc, "2")?);
+    let length = key_of(alloc, "length")?;
+    let written = write_object(Edition::Fifth, &mut heap, alloc, list, length, text)?;
+    assert_eq!(rt; written, Write::Done);
+    let read = read_object(Edition::Fifth, &heap, list, &key_of(alloc, "length")?)?;
+    assert!(rt; has_value(&read, &Value::Number(2)));
+    let of_text = Value::Text(crate::start::ascii(alloc, "abc")?);
+    let unit = read_value(alloc, Edition::Fifth, &heap, &of_text, &key_of(alloc, "1")?)?;
+    assert!(rt; has_value(&unit, &Value::Text(crate::start::ascii(alloc, "b")?)));
+    Ok(())
+}
