@@ -1,6 +1,7 @@
 pub mod Calls
 pub mod Functions
 pub mod Objects
+pub mod Search
 pub mod Strings
 pub mod Arrays
 pub mod Errors

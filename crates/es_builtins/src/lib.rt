@@ -8,10 +8,13 @@ mod fifth;
 mod function;
 mod iterator;
 mod object;
+mod search;
 mod step;
 mod string;
 #[cfg(test)]
 mod tests;
+#[cfg(test)]
+mod text_tests;
 mod turn;
 
 pub use call::{BuiltinCall, BuiltinStep, ErrorKind};

@@ -1,14 +1,15 @@
 //! String and the functions of String.prototype (21.1).
-ghost use Rattle.std.specs.Prelude.{◌≡◌, ◌≤◌, ◌<◌, ◌^◌, [], pos, length, IfOk};
+ghost use Rattle.std.specs.Prelude.{◌≡◌, ◌≤◌, [], length, IfOk};
 ghost use Rattle.es_value.specs.declared.value.Value.TheVariants.{Text as TextValue};
 ghost use Rattle.es_builtins.specs.declared.call.Want.TheVariants.{Number as WantNumber};
 ghost use Rattle.es_builtins.specs.declared.call.Place.TheVariants.{Position as AtPosition};
 ghost use Rattle.es_builtins.specs.Calls.{arg, position};
-ghost use Rattle.es_builtins.specs.Strings.{coerced, unit_at, unit_list, char_at, char_code_at, clamp, index_in, index_of, between, end_of, substring, string_of, prototype_text, text_value};
+ghost use Rattle.es_builtins.specs.Strings.{coerced, unit_at, unit_list, char_at, char_code_at, clamp, index_of, between, end_of, substring, string_of, prototype_text, text_value};
 
 use crate::call::{
     BuiltinCall, ErrorKind, Place, Want, is_nothing, is_undefined, number_in, position, text_in,
 };
+use crate::search::index_in;
 use es_realm::Edition;
 use es_realm::names::STRING_PROTOTYPE;
 use es_value::{Str, Value};
@@ -92,36 +93,8 @@ pub(crate) fn clamp(position: i64, length: usize) -> usize
     }
 }
 
-fn number_of_place(place: usize) -> i64
-    requires { place < 2 ^ 63 }
-    ensures { result ≡ pos place }
-{
-    place as i64
-}
-
-/// The least place from `start` on at which the text is found, or -1.
-fn index_in(units: &[u16], search: &[u16], start: usize) -> i64
-    requires { start ≤ length units.now }
-    ensures { result ≡ index_in units.now search.now start }
-{
-    let mut rest = &units[start..];
-    let mut place = start;
-    loop {
-        if rest.starts_with(search) {
-            return number_of_place(place);
-        }
-        match rest.split_first() {
-            None => return -1,
-            Some((_, others)) => {
-                rest = others;
-                place += 1;
-            }
-        }
-    }
-}
-
 /// indexOf (21.1.3.8).
-pub(crate) fn index_of(call: &mut BuiltinCall) -> Result<Want, AllocError>
+pub(crate) fn index_of(call: &mut BuiltinCall, alloc: Global) -> Result<Want, AllocError>
     ensures { IfOk result (λ want. (want ≡ (index_of call.old call.old.place).want) × (call.new ≡ (index_of call.old call.old.place).call)) }
 {
     match call.place {
@@ -139,7 +112,7 @@ pub(crate) fn index_of(call: &mut BuiltinCall) -> Result<Want, AllocError>
         _ => {
             let units = text_in(&call.kept);
             let start = clamp(number_in(&call.input), units.len());
-            let index = index_in(units, text_in(&call.other), start);
+            let index = index_in(alloc, units, text_in(&call.other), start)?;
             Ok(Want::Done(Value::Number(index)))
         }
     }

@@ -18,7 +18,7 @@ fn finish(call: &mut BuiltinCall, alloc: Global, realm: &Realm6, heap: &mut Heap
     BuiltinStep::Running
 }
 
-fn answer_of(
+pub(crate) fn answer_of(
     alloc: Global,
     realm: &Realm6,
     heap: &mut Heap,
@@ -30,7 +30,7 @@ fn answer_of(
     finish(&mut call, alloc, realm, heap)
 }
 
-fn is_done(step: &BuiltinStep, value: &Value) -> bool {
+pub(crate) fn is_done(step: &BuiltinStep, value: &Value) -> bool {
     match step {
         BuiltinStep::Done(result) => same(result, value),
         _ => false,
@@ -44,7 +44,7 @@ fn is_exit(step: &BuiltinStep, exit: u8) -> bool {
     }
 }
 
-fn text(alloc: Global, word: &[u8]) -> Result<Value, AllocError> {
+pub(crate) fn text(alloc: Global, word: &[u8]) -> Result<Value, AllocError> {
     Ok(Value::Text(text_of_word(alloc, word)?))
 }
 

@@ -80,7 +80,7 @@ fn string_turn(
     match call.builtin {
         23 => string::char_at(call, alloc),
         24 => string::char_code_at(call),
-        25 => string::index_of(call),
+        25 => string::index_of(call, alloc),
         26 => string::substring(call, alloc),
         27 => string::text_value(call, alloc, edition),
         _ => iterator::string_iterator(call, alloc, heap),
