@@ -1,5 +1,5 @@
 //! Printed statements. That each is spelled by its own tree is proved; the rows show where spaces, lines, parentheses and
-//! marks stand. node takes each expected text as a function's body and gives it the meaning that its tree has.
+//! marks stand.
 
 use crate::mark::Mark;
 use crate::print::print_stats;

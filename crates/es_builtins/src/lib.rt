@@ -18,4 +18,6 @@ mod text_tests;
 mod turn;
 
 pub use call::{BuiltinCall, BuiltinStep, ErrorKind};
+pub use es_operators::{of_prim, to_prim};
+pub use es_realm::{Realm5, Realm6, RealmOf};
 pub use step::step_builtin;
