@@ -146,15 +146,6 @@ impl Maker {
         })
     }
 
-    /// `LABEL: BODY`
-    fn labelled(&self, begin: u32, label: &[u8], body: Stat5) -> Result<Stat5, AllocError> {
-        Ok(Stat5::Labelled {
-            span: at(begin),
-            label: self.identifier(begin, label)?,
-            body: Boxed::new(self.alloc, body)?,
-        })
-    }
-
     fn first(&self, statement: Stat5) -> Result<Option<Pair>, AllocError> {
         let statements = self.only(statement)?;
         first_pair(
@@ -281,58 +272,6 @@ fn properties(rt: HostRuntime) -> Result<(), Fail> {
     let word = Key5::WordKey(Name::of_bytes(alloc, b"a")?);
     let data = maker.object(maker.data(2, word), maker.accessor(8, true)?)?;
     assert_eq!(rt; maker.first(data)?, early(4, 12));
-    Ok(())
-}
-
-#[test]
-fn labels_and_jumps(rt: HostRuntime) -> Result<(), Fail> {
-    let alloc = rt.alloc();
-    let maker = Maker { alloc };
-
-    // a: a: ;
-    let empty = Stat5::Empty { span: at(6) };
-    let twice = maker.labelled(0, b"a", maker.labelled(3, b"a", empty)?)?;
-    assert_eq!(rt; maker.first(twice)?, early(6, 3));
-
-    // a: (function () { a: ; });
-    let empty = Stat5::Empty { span: at(21) };
-    let apart = maker.function_of(4, maker.labelled(18, b"a", empty)?)?;
-    assert_eq!(rt; maker.first(maker.labelled(0, b"a", apart)?)?, None);
-
-    // break;
-    let label = None;
-    assert_eq!(rt;
-        maker.first(Stat5::Break { span: at(0), label })?,
-        early(7, 0)
-    );
-
-    // while (1) (function () { break; });
-    let label = None;
-    let apart = maker.function_of(
-        11,
-        Stat5::Break {
-            span: at(25),
-            label,
-        },
-    )?;
-    assert_eq!(rt; maker.first(maker.while_loop(0, apart)?)?, early(7, 25));
-
-    // a: b: while (1) continue a;
-    let label = Some(maker.identifier(25, b"a")?);
-    let jump = maker.while_loop(
-        6,
-        Stat5::Continue {
-            span: at(16),
-            label,
-        },
-    )?;
-    let within = maker.labelled(0, b"a", maker.labelled(3, b"b", jump)?)?;
-    assert_eq!(rt; maker.first(within)?, None);
-
-    // a: continue a;
-    let label = Some(maker.identifier(12, b"a")?);
-    let jump = Stat5::Continue { span: at(3), label };
-    assert_eq!(rt; maker.first(maker.labelled(0, b"a", jump)?)?, early(7, 12));
     Ok(())
 }
 

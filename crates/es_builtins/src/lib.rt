@@ -11,10 +11,6 @@ mod object;
 mod search;
 mod step;
 mod string;
-#[cfg(test)]
-mod tests;
-#[cfg(test)]
-mod text_tests;
 mod turn;
 
 pub use call::{BuiltinCall, BuiltinStep, ErrorKind};
