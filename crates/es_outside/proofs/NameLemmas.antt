@@ -1,46 +1,53 @@
 -- The names of a list of named things, one by one.
-use Rattle.std.proofs.Common.{◌≡◌, ℕ, ◌+◌, ◌<◌, ◌≤◌, List, [], length, get_or, take, ap, sym, ◌∙◌, subst, inl, inr, true, false, Option, Some, None, String, string_bytes}
+use Rattle.std.proofs.Common.{◌≡◌, ℕ, ◌+◌, ◌<◌, ◌≤◌, List, [], ◌∷◌, ◌++◌, length, map, get_or, take, ap, sym, ◌∙◌, subst, add-one, inl, inr, true, false, Option, Some, None}
 use Rattle.std.proofs.lemmas.List.{get_or-map, take-map, get_or-take, length-map, length-take-le}
+use Rattle.std.proofs.Math.Seq.{take-suc}
 use Rattle.std.specs.Option.{IfSome, IfNone, is_some}
 use Rattle.std.proofs.lemmas.Bool.{cases_order}
 use borrow.Author.Count.{below_more}
 use Rattle.es_outside.specs.HostNames.{is_host_name}
-use Rattle.es_outside.specs.NamedList.{names_of, name_at, IsNamed, NoneNamed, NoneNamedBelow}
+use Rattle.es_outside.specs.NamedList.{name_at, IsNamed, NoneNamed, NoneNamedBelow}
 use Rattle.es_outside.specs.Refusals.{AreHostNames, AreHostNamesBelow}
 
 -- the name at an index is that of the thing there
-pub name_at-entry : {A B : Type 0} (entries : List (String A × B)) (index : ℕ) (entry : String A × B) → index < length entries
-    → entry ≡ get_or entries index entry → name_at (names_of entries) index ≡ string_bytes entry.0
-name_at-entry entries index entry within there =
-    get_or-map (λ e. string_bytes e.0) entries index entry [] within ∙ sym (ap (λ e. string_bytes e.0) there)
+pub name_at-entry : {A : Type 0} (label : A → List ℕ) (entries : List A) (index : ℕ) (entry : A) → index < length entries
+    → entry ≡ get_or entries index entry → name_at (map label entries) index ≡ label entry
+name_at-entry label entries index entry within there = get_or-map label entries index entry [] within ∙ sym (ap label there)
+
+-- the names up to an entry and its own
+pub names-next : {A : Type 0} (label : A → List ℕ) (entries : List A) (count : ℕ) (entry : A) → count < length entries
+    → entry ≡ get_or entries count entry → take (count + 1) (map label entries) ≡ take count (map label entries) ++ label entry ∷ []
+names-next label entries count entry within there = rw add-one
+    (take-suc (map label entries) count [] (simp length-map within)
+    ∙ ap (λ (name : List ℕ). take count (map label entries) ++ name ∷ []) (name_at-entry label entries count entry within there))
 
 -- the names of a front
-name_at-front : {A B : Type 0} (entries : List (String A × B)) (count k : ℕ) → k < count
-    → name_at (names_of (take count entries)) k ≡ name_at (names_of entries) k
-name_at-front entries count k within =
-    ap (λ (names : List (List ℕ)). get_or names k []) (sym (take-map (λ e. string_bytes e.0) count entries))
-    ∙ get_or-take count (names_of entries) k [] within
+name_at-front : {A : Type 0} (label : A → List ℕ) (entries : List A) (count k : ℕ) → k < count
+    → name_at (map label (take count entries)) k ≡ name_at (map label entries) k
+name_at-front label entries count k within =
+    ap (λ (names : List (List ℕ)). get_or names k []) (sym (take-map label count entries))
+    ∙ get_or-take count (map label entries) k [] within
 
-length-front : {A B : Type 0} (entries : List (String A × B)) (count : ℕ) → count ≤ length entries
-    → length (names_of (take count entries)) ≡ count
-length-front entries count within = length-map (take count entries) (λ e. string_bytes e.0) ∙ length-take-le count entries within
+length-front : {A : Type 0} (label : A → List ℕ) (entries : List A) (count : ℕ) → count ≤ length entries
+    → length (map label (take count entries)) ≡ count
+length-front label entries count within = length-map (take count entries) label ∙ length-take-le count entries within
 
 -- a name that is found in a front stands in it
-pub found_in_front : {A B : Type 0} (entries : List (String A × B)) (count : ℕ) (name : List ℕ) (found : Option ℕ) → count ≤ length entries
-    → IfSome found (IsNamed (names_of (take count entries)) name) → true ≡ is_some found
-    → (j : ℕ) × (j < count) × (name_at (names_of entries) j ≡ name)
-found_in_front entries count name None fits is test = cc
-found_in_front entries count name (Some j) fits is test =
-    let within : j < count = subst (λ (n : ℕ). j < n) (length-front entries count fits) is.within in
-    (j, within, sym (name_at-front entries count j within) ∙ is.name_is)
+pub found_in_front : {A : Type 0} (label : A → List ℕ) (entries : List A) (count : ℕ) (name : List ℕ) (found : Option ℕ)
+    → count ≤ length entries → IfSome found (IsNamed (map label (take count entries)) name) → true ≡ is_some found
+    → (j : ℕ) × (j < count) × (name_at (map label entries) j ≡ name)
+found_in_front label entries count name None fits is test = cc
+found_in_front label entries count name (Some j) fits is test =
+    let within : j < count = subst (λ (n : ℕ). j < n) (length-front label entries count fits) is.within in
+    (j, within, sym (name_at-front label entries count j within) ∙ is.name_is)
 
 -- a name that isn't found in a front doesn't stand in it
-pub none_in_front : {A B : Type 0} (entries : List (String A × B)) (count : ℕ) (name : List ℕ) (found : Option ℕ) → count ≤ length entries
-    → IfNone found (NoneNamed (names_of (take count entries)) name) → false ≡ is_some found
-    → NoneNamedBelow (names_of entries) name count
-none_in_front entries count name (Some j) fits none test = absurd (cc test)
-none_in_front entries count name None fits none test = λ k below same.
-    none k (subst (λ (n : ℕ). k < n) (sym (length-front entries count fits)) below) (name_at-front entries count k below ∙ same)
+pub none_in_front : {A : Type 0} (label : A → List ℕ) (entries : List A) (count : ℕ) (name : List ℕ) (found : Option ℕ)
+    → count ≤ length entries → IfNone found (NoneNamed (map label (take count entries)) name) → false ≡ is_some found
+    → NoneNamedBelow (map label entries) name count
+none_in_front label entries count name (Some j) fits none test = absurd (cc test)
+none_in_front label entries count name None fits none test = λ k below same.
+    none k (subst (λ (n : ℕ). k < n) (sym (length-front label entries count fits)) below) (name_at-front label entries count k below ∙ same)
 
 -- one more name that may stand
 pub AreHostNamesBelow-next : (names : List (List ℕ)) (count : ℕ) → AreHostNamesBelow names count → is_host_name (name_at names count) ≡ true

@@ -1,10 +1,10 @@
-ghost use Rattle.std.specs.Prelude.{◌≡◌, ◌≢◌, MatchOption, MatchResult, IfNone, IfSome, length, slice_get, option_copied};
+ghost use Rattle.std.specs.Prelude.{◌≡◌, MatchResult, IfNone, IfSome, IfOk, length, slice_get, option_copied};
 ghost use Rattle.es_outside.specs.NamedList.{names_of, IsNamed, NoneNamed};
 ghost use Rattle.es_outside.specs.Refusals.{AreHostNames, IsRefused};
 
-use crate::Host;
-use crate::host_names::may_name_host;
-use std::alloc::Global;
+use crate::named::{BAD_HOST_NAME, DUPLICATE_HOST, first_refusal, position_of};
+use crate::{Host, HostNames};
+use std::alloc::{AllocError, Global};
 
 /// The hosts that a program may call, each with its name.
 #[derive(Drop)]
@@ -24,10 +24,10 @@ pub struct HostsRefused {
 
 impl HostsRefused {
     /// The name is no identifier in ASCII, or names something else.
-    pub const BAD_HOST_NAME: u8 = 1;
+    pub const BAD_HOST_NAME: u8 = BAD_HOST_NAME;
 
     /// The name stands earlier.
-    pub const DUPLICATE_HOST: u8 = 2;
+    pub const DUPLICATE_HOST: u8 = DUPLICATE_HOST;
 }
 
 impl Hosts {
@@ -71,6 +71,17 @@ impl Hosts {
         position_of(&self.list, name)
     }
 
+    /// The names alone, copied.
+    pub fn names(&self, alloc: Global) -> Result<HostNames, AllocError>
+        ensures { IfOk result (λ copy. copy ≡ names self.now) }
+    {
+        let mut list = Vec::new(alloc);
+        for (name, _) in &self.list {
+            list.push(name.clone()?)?;
+        }
+        Ok(HostNames { list })
+    }
+
     /// The list that the hosts were made of.
     pub fn into_list(self) -> Vec<(String, Box<dyn Host>)>
         ensures { result.items ≡ entries self }
@@ -78,33 +89,4 @@ impl Hosts {
         let Hosts { list } = self;
         list
     }
-}
-
-/// The number and the index of the first name that can't stand.
-fn first_refusal(list: &[(String, Box<dyn Host>)]) -> Option<(u8, usize)>
-    ensures { MatchOption result (AreHostNames (names_of list.now)) (λ refusal. IsRefused (names_of list.now) refusal.0 refusal.1) }
-{
-    for (at, (name, _)) in list.iter().enumerate() {
-        let name = name.as_str();
-        if !may_name_host(name) {
-            return Some((HostsRefused::BAD_HOST_NAME, at));
-        }
-        if position_of(&list[..at], name).is_some() {
-            return Some((HostsRefused::DUPLICATE_HOST, at));
-        }
-    }
-    None
-}
-
-/// The index of the first entry with this name.
-fn position_of(list: &[(String, Box<dyn Host>)], name: &str) -> Option<usize>
-    ensures none { IfNone result (NoneNamed (names_of list.now) name.now) }
-    ensures some { IfSome result (IsNamed (names_of list.now) name.now) }
-{
-    for (index, (known, _)) in list.iter().enumerate() {
-        if known.as_str() == name {
-            return Some(index);
-        }
-    }
-    None
 }

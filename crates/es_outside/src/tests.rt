@@ -1,6 +1,6 @@
 use crate::{
-    FaultCount, FileAnswer, Files, Host, HostAnswer, Hosts, HostsRefused, ListHost, MemoryFiles,
-    MemorySink, Prim, Prims, Sink, SinkFailed, Units, write_all,
+    FaultCount, FileAnswer, Files, Host, HostAnswer, HostNames, Hosts, HostsRefused, HostsRefused2,
+    ListHost, MemoryFiles, MemorySink, Prim, Prims, Sink, SinkFailed, Units, write_all,
 };
 use std::alloc::{AllocError, Global};
 use std::test::Fail;
@@ -178,25 +178,91 @@ fn units_of_a_text(rt: HostRuntime) -> Result<(), Fail> {
     Ok(())
 }
 
-#[test]
-fn hosts_by_name(rt: HostRuntime) -> Result<(), Fail> {
-    let alloc = rt.alloc();
+/// Hosts with these names, which give nothing.
+fn host_list(alloc: Global, names: &[&str]) -> Result<Vec<(String, Box<dyn Host>)>, AllocError> {
     let mut list: Vec<(String, Box<dyn Host>)> = Vec::new(alloc);
-    for name in ["print", "$", "_9"] {
+    for name in names {
         let host: Box<dyn Host> = Box::new(alloc, ListHost::new(alloc, Vec::new(alloc)))?;
         list.push((String::from_str(alloc, name)?, host))?;
     }
-    match Hosts::new(alloc, list) {
-        Ok(hosts) => {
-            assert_eq!(rt; hosts.len(), 3);
-            assert_eq!(rt; hosts.name(1), Some("$"));
-            assert_eq!(rt; hosts.name(3), None);
-            assert_eq!(rt; hosts.position("_9"), Some(2));
-            assert_eq!(rt; hosts.position("_"), None);
-            let list = hosts.into_list();
-            assert_eq!(rt; list.len(), 3);
-        }
-        Err(refused) => assert_eq!(rt; refused.at, 3, "no name is refused"),
+    Ok(list)
+}
+
+fn name_list(alloc: Global, names: &[&str]) -> Result<Vec<String>, AllocError> {
+    let mut list = Vec::new(alloc);
+    for name in names {
+        list.push(String::from_str(alloc, name)?)?;
+    }
+    Ok(list)
+}
+
+#[test]
+fn hosts_by_name(rt: HostRuntime) -> Result<(), Fail> {
+    let alloc = rt.alloc();
+    let hosts = Hosts::new(alloc, host_list(alloc, &["print", "$", "_9"])?)
+        .ok()
+        .ok_or("no name is refused")?;
+    assert_eq!(rt; hosts.len(), 3);
+    assert_eq!(rt; hosts.name(1), Some("$"));
+    assert_eq!(rt; hosts.name(3), None);
+    assert_eq!(rt; hosts.position("_9"), Some(2));
+    assert_eq!(rt; hosts.position("_"), None);
+    let list = hosts.into_list();
+    assert_eq!(rt; list.len(), 3);
+    Ok(())
+}
+
+#[test]
+fn names_without_hosts(rt: HostRuntime) -> Result<(), Fail> {
+    let alloc = rt.alloc();
+    let names = HostNames::of(name_list(alloc, &["print", "$", "_9"])?)
+        .ok()
+        .ok_or("no name is refused")?;
+    assert_eq!(rt; names.len(), 3);
+    assert_eq!(rt; names.name(1), Some("$"));
+    assert_eq!(rt; names.name(3), None);
+    assert_eq!(rt; names.position("_9"), Some(2));
+    assert_eq!(rt; names.position("_"), None);
+    Ok(())
+}
+
+#[test]
+fn names_of_hosts(rt: HostRuntime) -> Result<(), Fail> {
+    let alloc = rt.alloc();
+    let hosts = Hosts::new(alloc, host_list(alloc, &["print", "$"])?)
+        .ok()
+        .ok_or("no name is refused")?;
+    let names = hosts.names(alloc)?;
+    assert_eq!(rt; names.len(), 2);
+    assert_eq!(rt; names.name(0), Some("print"));
+    assert_eq!(rt; names.position("$"), Some(1));
+    Ok(())
+}
+
+/// Lists of names with the number and the index of the first that can't stand.
+const REFUSALS: [([&str; 3], u8, usize); 11] = [
+    (["a", "a", "if"], HostsRefused::DUPLICATE_HOST, 1),
+    (["a", "if", "if"], HostsRefused::BAD_HOST_NAME, 1),
+    (["a", "b", "a"], HostsRefused::DUPLICATE_HOST, 2),
+    (["", "a", "a"], HostsRefused::BAD_HOST_NAME, 0),
+    (["a", "1a", "a"], HostsRefused::BAD_HOST_NAME, 1),
+    (["a", "\u{e9}", "a"], HostsRefused::BAD_HOST_NAME, 1),
+    (["await", "a", "b"], HostsRefused::BAD_HOST_NAME, 0),
+    (["arguments", "a", "b"], HostsRefused::BAD_HOST_NAME, 0),
+    (["a", "Symbol", "b"], HostsRefused::BAD_HOST_NAME, 1),
+    (["a", "b", "Object"], HostsRefused::BAD_HOST_NAME, 2),
+    (["a", "b", "JSON"], HostsRefused::BAD_HOST_NAME, 2),
+];
+
+#[test]
+fn refused_hosts(rt: HostRuntime) -> Result<(), Fail> {
+    let alloc = rt.alloc();
+    for (names, number, at) in REFUSALS {
+        let refused = Hosts::new(alloc, host_list(alloc, &names)?)
+            .err()
+            .ok_or("a name is refused")?;
+        assert_eq!(rt; (refused.number, refused.at), (number, at));
+        assert_eq!(rt; refused.list.len(), 3);
     }
     Ok(())
 }
@@ -204,31 +270,11 @@ fn hosts_by_name(rt: HostRuntime) -> Result<(), Fail> {
 #[test]
 fn refused_names(rt: HostRuntime) -> Result<(), Fail> {
     let alloc = rt.alloc();
-    for (names, want) in [
-        (["a", "a", "if"], (HostsRefused::DUPLICATE_HOST, 1)),
-        (["a", "if", "if"], (HostsRefused::BAD_HOST_NAME, 1)),
-        (["a", "b", "a"], (HostsRefused::DUPLICATE_HOST, 2)),
-        (["", "a", "a"], (HostsRefused::BAD_HOST_NAME, 0)),
-        (["a", "1a", "a"], (HostsRefused::BAD_HOST_NAME, 1)),
-        (["a", "\u{e9}", "a"], (HostsRefused::BAD_HOST_NAME, 1)),
-        (["await", "a", "b"], (HostsRefused::BAD_HOST_NAME, 0)),
-        (["arguments", "a", "b"], (HostsRefused::BAD_HOST_NAME, 0)),
-        (["a", "Symbol", "b"], (HostsRefused::BAD_HOST_NAME, 1)),
-        (["a", "b", "Object"], (HostsRefused::BAD_HOST_NAME, 2)),
-        (["a", "b", "JSON"], (HostsRefused::BAD_HOST_NAME, 2)),
-    ] {
-        let mut list: Vec<(String, Box<dyn Host>)> = Vec::new(alloc);
-        for name in names {
-            let host: Box<dyn Host> = Box::new(alloc, ListHost::new(alloc, Vec::new(alloc)))?;
-            list.push((String::from_str(alloc, name)?, host))?;
-        }
-        match Hosts::new(alloc, list) {
-            Ok(hosts) => assert_eq!(rt; hosts.len(), 0, "a name is refused"),
-            Err(refused) => {
-                assert_eq!(rt; (refused.number, refused.at), want);
-                assert_eq!(rt; refused.list.len(), 3);
-            }
-        }
+    for (names, number, at) in REFUSALS {
+        let refused = HostNames::of(name_list(alloc, &names)?)
+            .err()
+            .ok_or("a name is refused")?;
+        assert_eq!(rt; refused, HostsRefused2 { number, at });
     }
     Ok(())
 }
