@@ -1,4 +1,4 @@
-ghost use Rattle.std.specs.Prelude.{◌≡◌, MatchResult, IfNone, IfSome, length, map, string_bytes, slice_get, option_copied};
+ghost use Rattle.std.specs.Prelude.{◌≡◌, ◌<◌, ◌^◌, MatchResult, IfNone, IfSome, length, map, string_bytes, slice_get, option_copied};
 ghost use Rattle.es_outside.specs.NamedList.{IsNamed, NoneNamed};
 ghost use Rattle.es_outside.specs.Refusals.{AreHostNames, IsRefused};
 
@@ -54,6 +54,7 @@ impl HostNames {
     pub fn len(&self) -> usize
         ensures len { result ≡ length self.now }
         ensures are_host_names { AreHostNames self.now }
+        ensures below { length self.now < 2 ^ 63 }
     {
         self.list.len()
     }
