@@ -1,10 +1,11 @@
 //! The realms: the objects of the library by their names.
-ghost use Rattle.std.specs.Prelude.{◌≡◌, ◌<◌, ◌^◌, IfOk};
+ghost use Rattle.std.specs.Prelude.{◌≡◌, ◌<◌, ◌^◌, length, IfOk};
 ghost use Rattle.es_realm.specs.Realms.{fresh6, fresh5, realm6, realm5, host_functions};
 
 use crate::names::*;
 use crate::start::{fresh5, fresh6};
 use es_heap::Heap;
+use es_outside::HostNames;
 use es_value::ObjId;
 use std::alloc::{AllocError, Global};
 
@@ -199,13 +200,14 @@ fn host_functions(alloc: Global, hosts: usize) -> Result<Vec<ObjId>, AllocError>
 }
 
 impl Realm5 {
-    /// A fresh realm with this many hosts, in a heap of its own.
-    pub fn start(alloc: Global, hosts: usize) -> Result<(Heap, Realm5), AllocError>
-        requires { hosts < 2 ^ 63 }
-        ensures { IfOk result (λ start. (start.0 ≡ fresh5 hosts) × (start.1.hosts.items ≡ host_functions hosts) × (start.1 ≡ realm5 start.1.hosts)) }
+    /// A fresh realm with these hosts, in a heap of its own.
+    pub fn start(alloc: Global, hosts: &HostNames) -> Result<(Heap, Realm5), AllocError>
+        ensures { let count = length hosts.now in
+            IfOk result (λ start. (start.0 ≡ fresh5 count) × (start.1.hosts.items ≡ host_functions count) × (start.1 ≡ realm5 start.1.hosts)) }
     {
-        let heap = fresh5(alloc, hosts)?;
-        let hosts = host_functions(alloc, hosts)?;
+        let count = hosts.len();
+        let heap = fresh5(alloc, count)?;
+        let hosts = host_functions(alloc, count)?;
         let realm = Realm5 {
             object_prototype: OBJECT_PROTOTYPE,
             function_prototype: FUNCTION_PROTOTYPE,

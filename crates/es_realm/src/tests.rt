@@ -3,6 +3,7 @@ use crate::{
     Edition, Read, Realm5, Realm6, Write, delete_key, read_object, read_value, write_object,
 };
 use es_heap::{Class, Heap, HeapFault, Key, Prop};
+use es_outside::HostNames;
 use es_value::{ObjId, Value, same};
 use std::alloc::{AllocError, Global};
 use std::test::Fail;
@@ -32,6 +33,13 @@ fn plain(value: Value) -> Prop {
         writable: true,
         configurable: true,
     }
+}
+
+fn two_hosts(alloc: Global) -> Result<HostNames, Fail> {
+    let mut list = Vec::new(alloc);
+    list.push(String::from_str(alloc, "print")?)?;
+    list.push(String::from_str(alloc, "read")?)?;
+    Ok(HostNames::of(list).ok().ok_or("both may name a host")?)
 }
 
 #[test]
@@ -72,7 +80,7 @@ fn inherited_statics(rt: HostRuntime) -> Result<(), Fail> {
 #[test]
 fn library_stays(rt: HostRuntime) -> Result<(), Fail> {
     let alloc = rt.alloc();
-    let (mut heap, realm) = Realm5::start(alloc, 2)?;
+    let (mut heap, realm) = Realm5::start(alloc, &two_hosts(alloc)?)?;
     assert_eq!(rt; realm.hosts.len(), 2);
     let written = write_object(
         Edition::Fifth,
