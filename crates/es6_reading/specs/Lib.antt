@@ -1,0 +1,9 @@
+pub mod Parser
+pub mod Words
+pub mod Refine
+pub mod Parts
+pub mod Expressions
+pub mod Statements
+pub mod Modules
+pub mod Examples
+pub mod Program

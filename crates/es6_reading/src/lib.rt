@@ -1,0 +1,28 @@
+//! How modules of ECMAScript 2015 are read: a model of the parser over lists of tokens, and its laws.
+//!
+//! `specs/` has the model, one reader for each that the parser has. Nobody has to believe it: the laws say what is read in the
+//! terms of the grammar of `es6_ast`. The functions here carry the laws as their contracts; they do nothing when they run.
+#![tactic(auto)]
+
+ghost use Rattle.es6_reading.specs.Examples.{AreRead, AreStopped, IsDeepest};
+ghost use Rattle.es6_reading.specs.Program.{IsProgramRead};
+
+/// Small modules are read to their end.
+pub fn small_modules_are_read()
+    ensures { AreRead }
+{}
+
+/// Texts that are no module stop at their first dead token, with the reason that the profile has for it.
+pub fn other_texts_stop_where_no_module_goes_on()
+    ensures { AreStopped }
+{}
+
+/// The 257th construct that is open at a token stops the reader there.
+pub fn one_construct_too_many_stops()
+    ensures { IsDeepest }
+{}
+
+/// A program of four modules, with classes, generators, patterns and templates, is read.
+pub fn a_program_is_read()
+    ensures { IsProgramRead }
+{}
