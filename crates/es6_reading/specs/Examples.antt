@@ -1,5 +1,5 @@
 -- Small modules, by their tokens with a space between any two, what is read of them, and where others stop.
-use Rattle.std.specs.Prelude.{◌≡◌, ℕ, ◌+◌, Bool, true, false, pos, List, [], ◌∷◌, length, map, replicate, codes, Option, Some, None}
+use Rattle.std.specs.Prelude.{◌≡◌, ℕ, ◌+◌, Bool, true, false, pos, List, [], ◌∷◌, length, map, cond, replicate, codes, Option, Some, None}
 use Rattle.es6_lexer.specs.declared.token.Token.{Token}
 use Rattle.es6_lexer.specs.declared.token.TokenKind.{TokenKind}
 use Rattle.es6_lexer.specs.declared.token.TokenKind.TheVariants as kinds
@@ -35,7 +35,7 @@ abbrev pub text : List ℕ → Piece
 text units = piece (length units + 2) (kinds.Text units)
 
 abbrev pub stretch : List ℕ → Bool → Bool → Piece
-stretch units first last = piece (length units + 2) (kinds.Template units units first last)
+stretch units first last = piece (length units + cond last 2 3) (kinds.Template units units first last)
 
 abbrev pub marked_number : Piece
 marked_number = piece 3 (kinds.Number Marked)
