@@ -435,10 +435,10 @@ mutual
     assigned_target : {f : Flags} {ts us : List Filled} (y : Expression) (x : Pattern) → IsExpression f level_left_hand_side ts y us → is_pattern y ≡ false → x ≡ pattern.Target y → IsAssigned f assign.Assign ts x us
     updated_target : {f : Flags} {ts us : List Filled} (operator : AssignOperator) (y : Expression) (x : Pattern) → is_plain operator ≡ false → IsExpression f level_left_hand_side ts y us → x ≡ pattern.Target y → IsAssigned f operator ts x us
 
-  -- BindingPattern (13.3.3), where `binds` is true, and AssignmentPattern (12.14.5)
+  -- BindingPattern (13.3.3), where `binds` is true, and AssignmentPattern (12.14.5); in its brackets or braces `in` is an operator
   pub data IsPattern : Flags → Bool → List Filled → Pattern → List Filled → Type 0 where
-    array_pattern : {f : Flags} {binds : Bool} {t : Filled} {ts us : List Filled} (parts : List ArrayPart) (x : Pattern) → IsMark mark.LeftBracket t → AreArrayParts f binds ts parts us → x ≡ pattern.ArrayPattern (across (t ∷ ts) us) parts → IsPattern f binds (t ∷ ts) x us
-    object_pattern : {f : Flags} {binds : Bool} {t : Filled} {ts us : List Filled} (parts : List ObjectPart) (x : Pattern) → IsMark mark.LeftBrace t → AreObjectParts f binds ts parts us → x ≡ pattern.ObjectPattern (across (t ∷ ts) us) parts → IsPattern f binds (t ∷ ts) x us
+    array_pattern : {f : Flags} {binds : Bool} {t : Filled} {ts us : List Filled} (parts : List ArrayPart) (x : Pattern) → IsMark mark.LeftBracket t → AreArrayParts (with_in f) binds ts parts us → x ≡ pattern.ArrayPattern (across (t ∷ ts) us) parts → IsPattern f binds (t ∷ ts) x us
+    object_pattern : {f : Flags} {binds : Bool} {t : Filled} {ts us : List Filled} (parts : List ObjectPart) (x : Pattern) → IsMark mark.LeftBrace t → AreObjectParts (with_in f) binds ts parts us → x ≡ pattern.ObjectPattern (across (t ∷ ts) us) parts → IsPattern f binds (t ∷ ts) x us
 
   -- what a part of a pattern binds or assigns: a name, a simple target (12.14.1), or a pattern
   pub data IsTarget : Flags → Bool → List Filled → Pattern → List Filled → Type 0 where
@@ -609,10 +609,11 @@ mutual
     variables_first : {f : Flags} {t end : Filled} {ts us : List Filled} (kind : VariableKind) (parts : List Part) (x : ForFirst) → IsWord (kind_word kind) t → AreVariables (without_in f) ts parts (end ∷ us) → IsMark mark.Semicolon end → x ≡ FirstVariables (across (t ∷ ts) (end ∷ us)) kind parts → IsForFirst f (t ∷ ts) x us
     expression_first : {f : Flags} {end : Filled} {ts us : List Filled} (y : Expression) (x : ForFirst) → IsExpression (without_in f) level_sequence ts y (end ∷ us) → IsMark mark.Semicolon end → x ≡ FirstExpression y → IsForFirst f ts x us
 
-  -- what stands before `of` (13.7.5): ForBinding with its word, or what is assigned
+  -- What stands before `of` (13.7.5): ForBinding with its word, or what is assigned. No `in` at its own level is an operator, which
+  -- a LeftHandSideExpression has none of.
   pub data IsForTarget : Flags → List Filled → ForTarget → List Filled → Type 0 where
     declared_target : {f : Flags} {t : Filled} {ts us : List Filled} (kind : VariableKind) (y : Pattern) (x : ForTarget) → IsWord (kind_word kind) t → IsTarget f true ts y us → x ≡ Declared (across (t ∷ ts) us) kind y → IsForTarget f (t ∷ ts) x us
-    assigned_in_turn : {f : Flags} {ts us : List Filled} (y : Pattern) (x : ForTarget) → IsAssigned f assign.Assign ts y us → x ≡ Assigned y → IsForTarget f ts x us
+    assigned_in_turn : {f : Flags} {ts us : List Filled} (y : Pattern) (x : ForTarget) → IsAssigned (without_in f) assign.Assign ts y us → x ≡ Assigned y → IsForTarget f ts x us
 
   -- an expression that may be absent
   pub data IsOptional : Flags → List Filled → Option Expression → List Filled → Type 0 where
