@@ -18,5 +18,5 @@ pub use operators::{
 pub use tree::{
     Argument, ArrayPart, Arrow, ArrowBody, Block, Case, Catch, Class, ClassMember, Condition,
     Element, Expression, ForFirst, ForTarget, Function, Identifier, Key, Link, Method, ObjectPart,
-    Operand, Parameter, Part, Pattern, Property, Statement, Stretch, Template, TemplatePart,
+    Operand, Parameter, Part, Pattern, Property, Rest, Statement, Stretch, Template, TemplatePart,
 };

@@ -16,6 +16,13 @@ pub struct Identifier {
     pub name: Name,
 }
 
+/// The rest in the parentheses of an arrow's parameters, from its `...` to its name (14.1, 14.2).
+#[derive(Debug, Drop)]
+pub struct Rest {
+    pub span: Span,
+    pub name: Identifier,
+}
+
 /// A statement or a declaration (13, 14).
 #[cycle(ast)]
 #[derive(Drop)]
@@ -415,7 +422,7 @@ pub enum Expression {
     Cover {
         span: Span,
         held: Option<Boxed<Expression>>,
-        rest: Option<Identifier>,
+        rest: Option<Rest>,
     },
 }
 

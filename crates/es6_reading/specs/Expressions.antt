@@ -11,7 +11,6 @@ use Rattle.es6_ast.specs.declared.tree.Identifier.{Identifier}
 use Rattle.es6_ast.specs.declared.tree.Expression.{Expression}
 use Rattle.es6_ast.specs.declared.tree.Expression.TheVariants as expr
 use Rattle.es6_ast.specs.declared.tree.Parameter.{Parameter}
-use Rattle.es6_ast.specs.declared.tree.Parameter.TheVariants.{RestParameter}
 use Rattle.es6_ast.specs.declared.tree.Element.{Element}
 use Rattle.es6_ast.specs.declared.tree.Element.TheVariants.{Hole, Present}
 use Rattle.es6_ast.specs.declared.tree.Argument.{Argument}
@@ -25,9 +24,10 @@ use Rattle.es6_ast.specs.declared.tree.Link.TheVariants as link
 use Rattle.es6_ast.specs.declared.tree.ArrowBody.TheVariants.{ValueBody, BlockBody}
 use Rattle.es6_ast.specs.declared.tree.Arrow.{roll-Arrow}
 use Rattle.es6_ast.specs.declared.tree.Operand.{Operand, roll-Operand}
+use Rattle.es6_ast.specs.declared.tree.Rest.{Rest}
 use Rattle.es6_ast.specs.Tokens.{Filling, Read, Inserted, Filled}
-use Rattle.es6_ast.specs.Grammar.{Flags, with_in, of_function, of_arrow, name_target}
-use Rattle.es6_reading.specs.Parser.{Parser, Endless, Depth, returns, fails, ◌>>=◌, refused, no_number, no_expression, on, choose, if_next, take_as, is_mark, mark, word, next_mark, from, made, Shape, Bare, Grouped, Covered, LeftHandSide, Other, Reading, is_left, Inner, on_group, group}
+use Rattle.es6_ast.specs.Grammar.{Flags, with_in, of_function, of_arrow}
+use Rattle.es6_reading.specs.Parser.{Parser, Endless, Depth, returns, fails, ◌>>=◌, refused, no_number, no_expression, on, choose, if_next, take_as, is_mark, mark, word, next_mark, from, last_end, made, Shape, Bare, Grouped, Covered, LeftHandSide, Other, Reading, is_left, Inner, on_group, group}
 use Rattle.es6_reading.specs.Words.{free_name, literal_at, accessor_at, accessor_name, unary_at, before_at, after_at, assign_at, binary_at, is_arrow, arrow_at, begins_operand}
 use Rattle.es6_reading.specs.Refine.{Refined, Fits, Misfit, TooNested, parameters_of, refine_parameters, target_before}
 use Rattle.es6_reading.specs.Parts.{identifier, name_of_any_kind, key, function_after_word, method_after_key, accessor, generator_method, class_after_word, on_template}
@@ -125,63 +125,67 @@ properties i f (suc turns) = on (mark marks.RightBrace) (λ _. returns []) (do
 
 -- ## Groups (12.2.10), and the parentheses that only an arrow's parameters have (14.2)
 
--- Such parentheses stand before `=>`. They are in no module's tree, so their own says where they stand and no more.
-unfoldable pub covered : ℕ → List Parameter → Parser Reading
-covered at parameters = if_next is_arrow (made at (λ span. record { value = expr.Cover span None None; shape = Covered parameters })) refused
-
-abbrev pub and_rest : List Parameter → Parameter → List Parameter
-and_rest [] e = e ∷ []
-and_rest (p ∷ ps) e = p ∷ and_rest ps e
+-- Such parentheses stand before `=>`.
+unfoldable pub covered : ℕ → Option Expression → Option Rest → Parser Reading
+covered at held rest = if_next is_arrow (made at (λ span. record { value = expr.Cover span held rest; shape = Covered })) refused
 
 -- the name after the `...` at the second place, and the closing parenthesis
-unfoldable pub covered_rest : ℕ → ℕ → List Parameter → Parser Reading
-covered_rest at dots before = do
+unfoldable pub covered_rest : ℕ → ℕ → Option Expression → Parser Reading
+covered_rest at dots held = do
   n ← identifier
-  e ← made dots (λ span. RestParameter span (name_target n))
+  rest ← made dots (λ span. record { span = span; name = n })
   _ ← take_as (mark marks.RightParenthesis)
-  covered at (and_rest before e)
+  covered at held (Some rest)
 
 -- a rest may stand here if what stands before it is parameters
-abbrev pub rest_after : ℕ → ℕ → Refined (List Parameter) → Parser Reading
-rest_after at dots (Fits before) = on (mark marks.Ellipsis) (λ _. covered_rest at dots before) refused
-rest_after at dots (Misfit place) = refused
-rest_after at dots TooNested = fails Endless
+abbrev pub rest_after : ℕ → ℕ → Expression → Refined (List Parameter) → Parser Reading
+rest_after at dots held (Fits parameters) = on (mark marks.Ellipsis) (λ _. covered_rest at dots (Some held)) refused
+rest_after at dots held (Misfit place) = refused
+rest_after at dots held TooNested = fails Endless
 
--- the parts of a group, and whether the last comma stands before a rest
+-- the parts of a group, where the last of them ends, and whether a comma after it stands before a rest
 pub record Held : Type 0 where
   pub first : Expression
   pub more : List Expression
+  pub end : ℕ
   pub before_rest : Bool
 
+abbrev pub held_alone : Expression → ℕ → Bool → Held
+held_alone x end before_rest = record { first = x; more = []; end = end; before_rest = before_rest }
+
 abbrev pub held_first : Expression → Held → Held
-held_first x h = record { first = x; more = h.first ∷ h.more; before_rest = h.before_rest }
+held_first x h = record { first = x; more = h.first ∷ h.more; end = h.end; before_rest = h.before_rest }
 
 unfoldable pub held_parts : Inner → Flags → Role → ℕ → Parser Held
 held_parts i f role zero = fails Endless
 held_parts i f role (suc turns) = do
   x ← i.assignment (with_in f)
-  on (mark marks.Comma) (λ _. if_next (λ t. is_leading role && next_mark marks.Ellipsis t) (returns (record { first = x.value; more = []; before_rest = true })) (do
+  end ← last_end
+  on (mark marks.Comma) (λ _. if_next (λ t. is_leading role && next_mark marks.Ellipsis t) (returns (held_alone x.value end true)) (do
     h ← held_parts i f role turns
-    returns (held_first x.value h))) (returns (record { first = x.value; more = []; before_rest = false }))
+    returns (held_first x.value h))) (returns (held_alone x.value end false))
 
 abbrev pub sequenced : Expression → List Expression → Span → Expression
 sequenced x [] span = x
 sequenced x (y ∷ rest) span = expr.Sequence span x (y ∷ rest)
 
-unfoldable pub closed_group : ℕ → ℕ → Held → Parser Reading
-closed_group at inside h = do
-  x ← made inside (sequenced h.first h.more)
+unfoldable pub closed_group : ℕ → Expression → Parser Reading
+closed_group at held = do
   _ ← take_as (mark marks.RightParenthesis)
-  made at (λ span. record { value = expr.Group span x; shape = Grouped })
+  made at (λ span. record { value = expr.Group span held; shape = Grouped })
+
+-- what stands at the second place
+abbrev pub whole : ℕ → Held → Expression
+whole inside h = sequenced h.first h.more (record { begin = inside; end = h.end })
 
 unfoldable pub held_group : Inner → Flags → Role → ℕ → Parser Reading
 held_group i f role at = from λ inside. do
   h ← held_parts i f role i.fuel
-  choose h.before_rest (from λ dots. rest_after at dots (parameters_of i.fuel (h.first ∷ h.more))) (closed_group at inside h)
+  choose h.before_rest (from λ dots. rest_after at dots (whole inside h) (parameters_of i.fuel (h.first ∷ h.more))) (closed_group at (whole inside h))
 
 -- what follows the opening parenthesis at the place
 unfoldable pub grouped : Inner → Flags → Role → ℕ → Parser Reading
-grouped i f role at = choose (is_leading role) (on (mark marks.RightParenthesis) (λ _. covered at []) (from λ dots. on (mark marks.Ellipsis) (λ _. covered_rest at dots []) (held_group i f role at))) (held_group i f role at)
+grouped i f role at = choose (is_leading role) (on (mark marks.RightParenthesis) (λ _. covered at None None) (from λ dots. on (mark marks.Ellipsis) (λ _. covered_rest at dots None) (held_group i f role at))) (held_group i f role at)
 
 -- ## Primary expressions (12.2)
 
@@ -356,7 +360,7 @@ conditional i f = from λ at. do
 abbrev pub parameters_before : ℕ → Shape → Expression → Refined (List Parameter)
 parameters_before n Bare x = refine_parameters n x
 parameters_before n Grouped x = refine_parameters n x
-parameters_before n (Covered parameters) x = Fits parameters
+parameters_before n Covered x = refine_parameters n x
 parameters_before n LeftHandSide x = Misfit 0
 parameters_before n Other x = Misfit 0
 

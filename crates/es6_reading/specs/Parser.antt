@@ -13,7 +13,6 @@ use Rattle.es6_ast.specs.declared.tree.Block.{Block}
 use Rattle.es6_ast.specs.declared.tree.ClassMember.{ClassMember}
 use Rattle.es6_ast.specs.declared.tree.Expression.{Expression}
 use Rattle.es6_ast.specs.declared.tree.ObjectPart.{ObjectPart}
-use Rattle.es6_ast.specs.declared.tree.Parameter.{Parameter}
 use Rattle.es6_ast.specs.declared.tree.Part.{Part}
 use Rattle.es6_ast.specs.declared.tree.Pattern.{Pattern}
 use Rattle.es6_ast.specs.declared.tree.Property.{Property}
@@ -152,6 +151,10 @@ next_word w t = is_word w t.kind
 abbrev pub from : {A : Type 0} → (ℕ → Parser A) → Parser A
 from p c = p (begin_of c.tokens) c
 
+-- the end of the last token that was taken
+abbrev pub last_end : Parser ℕ
+last_end c = Took c.last c
+
 -- what is made of the span that goes from there to the last token that was taken
 abbrev pub made : {A : Type 0} → ℕ → (Span → A) → Parser A
 made at make c = Took (make (record { begin = at; end = c.last })) c
@@ -159,11 +162,11 @@ made at make c = Took (make (record { begin = at; end = c.last })) c
 -- ## Readers of what stands one construct deeper
 
 -- What an expression is besides its tree: a name and nothing round it, a group and nothing round it, parentheses that only an
--- arrow's parameters have with these parameters, another left-hand-side expression (12.3), or none of these.
+-- arrow's parameters have, another left-hand-side expression (12.3), or none of these.
 pub data Shape : Type 0 where
   Bare : Shape
   Grouped : Shape
-  Covered : List Parameter → Shape
+  Covered : Shape
   LeftHandSide : Shape
   Other : Shape
 
@@ -174,7 +177,7 @@ pub record Reading : Type 0 where
 abbrev pub is_left : Shape → Bool
 is_left Bare = true
 is_left Grouped = true
-is_left (Covered parameters) = false
+is_left Covered = false
 is_left LeftHandSide = true
 is_left Other = false
 

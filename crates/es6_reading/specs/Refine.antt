@@ -1,6 +1,6 @@
 -- Expressions as patterns and as an arrow's parameters, after the fact: which pattern the same tokens spell, or the first part
 -- that no pattern spells (ECMA-262, 6th edition, 12.14.5, 13.3.3, 14.2).
-use Rattle.std.specs.Prelude.{ℕ, zero, suc, Bool, true, false, List, [], ◌∷◌, cond, map, Option, Some, None}
+use Rattle.std.specs.Prelude.{ℕ, zero, suc, Bool, true, false, List, [], ◌∷◌, ◌++◌, cond, map, Option, Some, None}
 use Rattle.es_text.specs.declared.Span.{Span}
 use Rattle.es6_ast.specs.declared.operators.AssignOperator.{AssignOperator}
 use Rattle.es6_ast.specs.declared.operators.AssignOperator.TheVariants as assign
@@ -13,7 +13,7 @@ use Rattle.es6_ast.specs.declared.tree.ArrayPart.TheVariants.{SkippedPart, Singl
 use Rattle.es6_ast.specs.declared.tree.ObjectPart.{ObjectPart, out-ObjectPart}
 use Rattle.es6_ast.specs.declared.tree.ObjectPart.TheVariants.{NamedPart, KeyedPart}
 use Rattle.es6_ast.specs.declared.tree.Parameter.{Parameter}
-use Rattle.es6_ast.specs.declared.tree.Parameter.TheVariants.{SingleParameter}
+use Rattle.es6_ast.specs.declared.tree.Parameter.TheVariants.{SingleParameter, RestParameter}
 use Rattle.es6_ast.specs.declared.tree.Element.{Element, out-Element}
 use Rattle.es6_ast.specs.declared.tree.Argument.{Argument, out-Argument}
 use Rattle.es6_ast.specs.declared.tree.Property.{Property, out-Property}
@@ -32,6 +32,7 @@ use Rattle.es6_ast.specs.declared.tree.Condition.{Condition}
 use Rattle.es6_ast.specs.declared.tree.Function.{Function}
 use Rattle.es6_ast.specs.declared.tree.Method.{Method, out-Method}
 use Rattle.es6_ast.specs.declared.tree.Operand.{Operand}
+use Rattle.es6_ast.specs.declared.tree.Rest.{Rest}
 use Rattle.es6_ast.specs.declared.tree.Part.{Part, roll-Part}
 use Rattle.es6_ast.specs.declared.tree.Template.{Template, out-Template}
 use Rattle.es6_ast.specs.declared.tree.TemplatePart.{TemplatePart}
@@ -276,12 +277,17 @@ parts_in x _ = x ∷ []
 abbrev pub parts_of : Expression → List Expression
 parts_of x = parts_in x (out-Expression x)
 
+abbrev pub rest_parameter : Rest → Parameter
+rest_parameter rest = RestParameter rest.span (name_target rest.name)
+
 abbrev pub parameters_in : ℕ → Open Expression-F → Refined (List Parameter)
 parameters_in n (layer.Name span name) = Fits (SingleParameter (name_alone (record { span = span; name = name })) ∷ [])
 parameters_in n (layer.Group span held) = parameters_of n (parts_of held)
 parameters_in n (layer.Cover span None None) = Fits []
+parameters_in n (layer.Cover span None (Some rest)) = Fits (rest_parameter rest ∷ [])
+parameters_in n (layer.Cover span (Some held) (Some rest)) = refined_map (λ es. es ++ rest_parameter rest ∷ []) (parameters_of n (parts_of held))
 parameters_in n x = Misfit (span_in x).begin
 
--- the parameters that a name or a group before `=>` is
+-- the parameters that a name or parentheses before `=>` are
 unfoldable pub refine_parameters : ℕ → Expression → Refined (List Parameter)
 refine_parameters n x = parameters_in n (out-Expression x)
