@@ -1,11 +1,1 @@
-pub mod Calls
-pub mod Functions
-pub mod Objects
-pub mod Search
-pub mod Strings
-pub mod Arrays
-pub mod Errors
-pub mod Iterators
-pub mod Fifth
-pub mod Steps
 pub mod Turns

@@ -7,20 +7,20 @@ use Rattle.es_realm.specs.declared.edition.Edition.{Edition}
 use Rattle.es_realm.specs.declared.edition.Edition.TheVariants.{Sixth, Fifth}
 use Rattle.es_realm.specs.declared.realm.RealmOf.{RealmOf}
 use Rattle.es_realm.specs.declared.realm.RealmOf.TheVariants.{Six, Five}
-use Rattle.es_builtins.specs.declared.call.BuiltinStep.TheVariants.{OutOfMemory}
-use Rattle.es_builtins.specs.declared.call.BuiltinCall.{BuiltinCall}
-use Rattle.es_builtins.specs.declared.call.BuiltinStep.{BuiltinStep}
-use Rattle.es_builtins.specs.declared.call.Pending.{Pending}
-use Rattle.es_builtins.specs.declared.call.Pending.TheVariants as pending
-use Rattle.es_builtins.specs.Calls.{Turn, Effect, still, answered, arg, over, gives, leaves}
-use Rattle.es_builtins.specs.Functions.{call_at, apply_at}
-use Rattle.es_builtins.specs.Objects as object
-use Rattle.es_builtins.specs.Strings as string
-use Rattle.es_builtins.specs.Arrays as array
-use Rattle.es_builtins.specs.Errors.{error_of, error_text}
-use Rattle.es_builtins.specs.Iterators as iterator
-use Rattle.es_builtins.specs.Fifth as fifth
-use Rattle.es_builtins.specs.Steps.{Settled, settle, settle_attempt, receive_result}
+use Rattle.es_calls.specs.declared.call.BuiltinStep.TheVariants.{OutOfMemory}
+use Rattle.es_calls.specs.declared.call.BuiltinCall.{BuiltinCall}
+use Rattle.es_calls.specs.declared.call.BuiltinStep.{BuiltinStep}
+use Rattle.es_calls.specs.declared.call.Pending.{Pending}
+use Rattle.es_calls.specs.declared.call.Pending.TheVariants as pending
+use Rattle.es_calls.specs.Calls.{Turn, Effect, still, answered, arg, over, gives, leaves}
+use Rattle.es_sequence_functions.specs.Functions.{call_at, apply_at}
+use Rattle.es_object_functions.specs.Objects as object
+use Rattle.es_sequence_functions.specs.Strings as string
+use Rattle.es_sequence_functions.specs.Arrays as array
+use Rattle.es_object_functions.specs.Errors.{error_of, error_text}
+use Rattle.es_sequence_functions.specs.Iterators as iterator
+use Rattle.es_object_functions.specs.Fifth as fifth
+use Rattle.es_calls.specs.Steps.{Settled, settle, settle_attempt, receive_result}
 use Rattle.es_operators.specs.Conversions.{method_given}
 
 -- Object and Array leave at X7; String, Error and its kinds

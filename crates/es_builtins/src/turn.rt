@@ -2,10 +2,11 @@
 ghost use Rattle.std.specs.Prelude.{◌≡◌, IfOk};
 ghost use Rattle.es_builtins.specs.Turns.{constructor_turn, object_turn, array_turn, string_turn, prototype_turn, fifth_turn, turn_of};
 
-use crate::call::{BuiltinCall, Want};
-use crate::{array, error, fifth, function, iterator, object, string};
+use es_calls::{BuiltinCall, Want};
 use es_heap::Heap;
+use es_object_functions::{error, fifth, object};
 use es_realm::Edition;
+use es_sequence_functions::{array, function, iterator, string};
 use es_value::Value;
 use std::alloc::{AllocError, Global};
 

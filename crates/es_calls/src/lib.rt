@@ -1,0 +1,14 @@
+//! Calls of the functions of the library: what a call keeps between its steps, what one turn of its function wants, and how it is
+//! given that.
+#![tactic(auto)]
+
+mod call;
+mod properties;
+mod settling;
+
+pub use call::{
+    BuiltinCall, BuiltinStep, ErrorKind, Pending, Place, Want, index_key, is_nothing, is_undefined,
+    number_in, object_in, plus, position, share_all, text_in,
+};
+pub use properties::{add_property, class_text};
+pub use settling::{receive_method, receive_result, settle};

@@ -1,0 +1,5 @@
+pub mod Arrays
+pub mod Functions
+pub mod Iterators
+pub mod Search
+pub mod Strings
