@@ -1,0 +1,543 @@
+//! What the lines do.
+use crate::operate::{binary, construct, delete, extend, instance, unary, write, written};
+use crate::outcome::Outcome;
+use crate::realm::Realm;
+use crate::show::{kind_name, shown};
+use crate::words::{index_of, key_of, value_of};
+use es_builtins::{BuiltinCall, BuiltinStep, ErrorKind, step_builtin};
+use es_heap::{Class, Heap, HeapFault, Key, Prop};
+use es_realm::names::{ARRAY_PROTOTYPE, FUNCTION_PROTOTYPE, OBJECT_PROTOTYPE};
+use es_realm::{Edition, Read, Write, read_value};
+use es_value::{ObjId, Str, Value};
+use sqlite_items::Items;
+use std::alloc::{AllocError, Global};
+use std::str::SplitWhitespace;
+
+/// How many steps a line may take.
+const STEPS: u32 = 20_000_000;
+
+/// What a function of the list does.
+#[derive(Drop)]
+enum Behavior {
+    Gives(Value),
+    Throws(Value),
+    Receiver,
+    Argument(usize),
+}
+
+/// What is called.
+#[derive(Clone, Copy)]
+enum Callee {
+    Library(u16),
+    /// A function of the list, by its place among these.
+    Listed(usize),
+    Nothing,
+}
+
+#[derive(Drop)]
+pub struct Play {
+    heap: Heap,
+    realm: Realm,
+    /// How many objects the realm began with.
+    library: usize,
+    slots: Vec<Value>,
+    functions: Vec<Behavior>,
+    /// What is printed before the answer.
+    calls: String,
+}
+
+impl Play {
+    pub fn new(alloc: Global) -> Result<Play, AllocError> {
+        Play::in_realm(alloc, Edition::Sixth)
+    }
+
+    fn in_realm(alloc: Global, edition: Edition) -> Result<Play, AllocError> {
+        let (heap, realm) = Realm::start(alloc, edition)?;
+        let library = heap.len();
+        Ok(Play {
+            heap,
+            realm,
+            library,
+            slots: Vec::new(alloc),
+            functions: Vec::new(alloc),
+            calls: String::new(alloc),
+        })
+    }
+
+    /// What a line answers.
+    pub fn answer(&mut self, alloc: Global, line: &str) -> Result<String, AllocError> {
+        let mut words = line.split_whitespace();
+        let operation = words.next().unwrap_or("");
+        if operation == "realm" {
+            let edition = if words.next() == Some("5") {
+                Edition::Fifth
+            } else {
+                Edition::Sixth
+            };
+            *self = Play::in_realm(alloc, edition)?;
+            return String::from_str(alloc, "realm");
+        }
+        self.calls = String::new(alloc);
+        let outcome = match operation {
+            "call" => self.call(alloc, &mut words)?,
+            "read" => self.read(alloc, &mut words)?,
+            "define" => self.define(alloc, &mut words)?,
+            "accessor" => self.accessor(alloc, &mut words)?,
+            "seal" => self.seal(alloc, &mut words)?,
+            "function" => self.function(alloc, &mut words)?,
+            "binary" => self.binary(alloc, &mut words)?,
+            "unary" => self.unary(alloc, &mut words)?,
+            "write" => self.write(alloc, &mut words)?,
+            "delete" => self.delete(alloc, &mut words)?,
+            "new" => construct(
+                alloc,
+                self.realm.edition(),
+                &self.heap,
+                &self.next_value(alloc, &mut words)?,
+            )?,
+            "extends" => extend(alloc, &self.heap, &self.next_value(alloc, &mut words)?)?,
+            "record" => self.record(alloc, &mut words)?,
+            _ => self.object(alloc, operation, &mut words)?,
+        };
+        self.ending(alloc, outcome)
+    }
+
+    fn ending(&mut self, alloc: Global, outcome: Outcome) -> Result<String, AllocError> {
+        match outcome {
+            Outcome::Value(value) => {
+                self.slots.push(value.share()?)?;
+                let answer = self.shown(alloc, &value)?;
+                self.after_calls(alloc, "", answer.as_str())
+            }
+            Outcome::ThrowsValue(value) => {
+                let thrown = self.shown(alloc, &value)?;
+                self.after_calls(alloc, "throws ", thrown.as_str())
+            }
+            Outcome::Throws(kind) => self.after_calls(alloc, "throws ", kind_name(kind)),
+            Outcome::Leaves(exit) => {
+                let number = format!(in alloc; "{exit}")?;
+                self.after_calls(alloc, "leaves ", number.as_str())
+            }
+            Outcome::Stuck => self.after_calls(alloc, "stuck", ""),
+        }
+    }
+
+    fn after_calls(&self, alloc: Global, word: &str, rest: &str) -> Result<String, AllocError> {
+        let calls = self.calls.as_str();
+        format!(in alloc; "{calls}{word}{rest}")
+    }
+
+    fn shown(&self, alloc: Global, value: &Value) -> Result<String, AllocError> {
+        shown(alloc, &self.slots, self.library, value)
+    }
+
+    fn next_value(&self, alloc: Global, words: &mut SplitWhitespace) -> Result<Value, AllocError> {
+        value_of(alloc, &self.slots, words.next().unwrap_or(""))
+    }
+
+    fn next_object(
+        &self,
+        alloc: Global,
+        words: &mut SplitWhitespace,
+    ) -> Result<Option<ObjId>, AllocError> {
+        Ok(object_in(&self.next_value(alloc, words)?))
+    }
+
+    fn object(
+        &mut self,
+        alloc: Global,
+        operation: &str,
+        words: &mut SplitWhitespace,
+    ) -> Result<Outcome, AllocError> {
+        let id = match operation {
+            "array" => {
+                let id = self.heap.make(alloc, Some(ARRAY_PROTOTYPE), Class::Array)?;
+                self.add_items(alloc, id, words)?;
+                id
+            }
+            "arguments" => {
+                let id = self
+                    .heap
+                    .make(alloc, Some(OBJECT_PROTOTYPE), Class::Arguments)?;
+                let count = self.add_items(alloc, id, words)?;
+                self.put(
+                    alloc,
+                    id,
+                    key_of(alloc, "'length")?,
+                    plain(Value::Number(count)),
+                )?;
+                id
+            }
+            "namespace" => self.heap.make(alloc, None, Class::Namespace(0))?,
+            _ => {
+                let prototype = self.next_object(alloc, words)?;
+                self.heap.make(alloc, prototype, Class::Object)?
+            }
+        };
+        Ok(Outcome::Value(Value::Object(id)))
+    }
+
+    /// Gives an object these items, and answers how many there are, holes among them.
+    fn add_items(
+        &mut self,
+        alloc: Global,
+        id: ObjId,
+        words: &mut SplitWhitespace,
+    ) -> Result<i64, AllocError> {
+        let mut count = 0i64;
+        for word in words {
+            if word != "_" {
+                let value = value_of(alloc, &self.slots, word)?;
+                let key = format!(in alloc; "'{count}")?;
+                self.put(alloc, id, key_of(alloc, key.as_str())?, plain(value))?;
+            }
+            count = count.saturating_add(1);
+        }
+        Ok(count)
+    }
+
+    /// Defines a property, and answers whether that wasn't refused.
+    fn put(
+        &mut self,
+        alloc: Global,
+        id: ObjId,
+        key: Key,
+        property: Prop,
+    ) -> Result<bool, AllocError> {
+        match self.heap.define_own(alloc, id, key, property) {
+            Ok(()) => Ok(true),
+            Err(HeapFault::OutOfMemory) => Err(AllocError),
+            Err(_) => Ok(false),
+        }
+    }
+
+    fn function(
+        &mut self,
+        alloc: Global,
+        words: &mut SplitWhitespace,
+    ) -> Result<Outcome, AllocError> {
+        let behavior = match words.next() {
+            Some("gives") => Behavior::Gives(self.next_value(alloc, words)?),
+            Some("throws") => Behavior::Throws(self.next_value(alloc, words)?),
+            Some("receiver") => Behavior::Receiver,
+            _ => Behavior::Argument(index_of(words.next().unwrap_or(""))),
+        };
+        let class = Class::Function(self.functions.len());
+        self.functions.push(behavior)?;
+        let parent = self
+            .next_object(alloc, words)?
+            .unwrap_or(FUNCTION_PROTOTYPE);
+        let id = self.heap.make(alloc, Some(parent), class)?;
+        Ok(Outcome::Value(Value::Object(id)))
+    }
+
+    fn define(
+        &mut self,
+        alloc: Global,
+        words: &mut SplitWhitespace,
+    ) -> Result<Outcome, AllocError> {
+        let Some(id) = self.next_object(alloc, words)? else {
+            return Ok(Outcome::Stuck);
+        };
+        let key = key_of(alloc, words.next().unwrap_or(""))?;
+        let property = Prop::Plain {
+            value: self.next_value(alloc, words)?,
+            writable: words.next() == Some("1"),
+            configurable: words.next() == Some("1"),
+        };
+        Ok(Outcome::Value(Value::Bool(self.put(alloc, id, key, property)?)))
+    }
+
+    fn accessor(
+        &mut self,
+        alloc: Global,
+        words: &mut SplitWhitespace,
+    ) -> Result<Outcome, AllocError> {
+        let Some(id) = self.next_object(alloc, words)? else {
+            return Ok(Outcome::Stuck);
+        };
+        let key = key_of(alloc, words.next().unwrap_or(""))?;
+        let property = Prop::Accessor {
+            get: self.next_object(alloc, words)?,
+            set: self.next_object(alloc, words)?,
+            configurable: words.next() == Some("1"),
+        };
+        Ok(Outcome::Value(Value::Bool(self.put(alloc, id, key, property)?)))
+    }
+
+    fn seal(&mut self, alloc: Global, words: &mut SplitWhitespace) -> Result<Outcome, AllocError> {
+        let Some(id) = self.next_object(alloc, words)? else {
+            return Ok(Outcome::Stuck);
+        };
+        self.heap.prevent_extensions(id);
+        Ok(Outcome::Value(Value::Undefined))
+    }
+
+    fn read(&mut self, alloc: Global, words: &mut SplitWhitespace) -> Result<Outcome, AllocError> {
+        let base = self.next_value(alloc, words)?;
+        let key = key_of(alloc, words.next().unwrap_or(""))?;
+        match read_value(alloc, self.realm.edition(), &self.heap, &base, &key)? {
+            Read::Have(value) => Ok(Outcome::Value(value)),
+            Read::Getter(getter) => self.call_function(alloc, getter, base, Items::new(alloc)),
+            Read::Binding(_) => Ok(Outcome::Value(read_out(alloc)?)),
+            Read::NoObject => Ok(Outcome::Throws(ErrorKind::TypeError)),
+            Read::Leaves(exit) => Ok(Outcome::Leaves(exit)),
+        }
+    }
+
+    fn binary(&self, alloc: Global, words: &mut SplitWhitespace) -> Result<Outcome, AllocError> {
+        let operator = words.next().unwrap_or("");
+        let left = self.next_value(alloc, words)?;
+        let right = self.next_value(alloc, words)?;
+        if operator == "instanceof" {
+            return instance(alloc, self.realm.edition(), &self.heap, &left, &right);
+        }
+        binary(alloc, operator, &left, &right)
+    }
+
+    fn unary(&self, alloc: Global, words: &mut SplitWhitespace) -> Result<Outcome, AllocError> {
+        let operator = words.next().unwrap_or("");
+        let value = self.next_value(alloc, words)?;
+        unary(alloc, &self.heap, operator, &value)
+    }
+
+    fn write(&mut self, alloc: Global, words: &mut SplitWhitespace) -> Result<Outcome, AllocError> {
+        let base = self.next_value(alloc, words)?;
+        let key = key_of(alloc, words.next().unwrap_or(""))?;
+        let value = self.next_value(alloc, words)?;
+        let edition = self.realm.edition();
+        match write(alloc, edition, &mut self.heap, &base, key, value.share()?)? {
+            Write::Setter(setter) => self.set(alloc, setter, base, value),
+            answer => Ok(written(answer)),
+        }
+    }
+
+    /// A call of a setter, whose value is lost.
+    fn set(
+        &mut self,
+        alloc: Global,
+        setter: ObjId,
+        base: Value,
+        value: Value,
+    ) -> Result<Outcome, AllocError> {
+        let mut args = Items::new(alloc);
+        args.push(value)?;
+        match self.call_function(alloc, setter, base, args)? {
+            Outcome::Value(_) => Ok(Outcome::Value(Value::Undefined)),
+            outcome => Ok(outcome),
+        }
+    }
+
+    /// A call of a getter or setter.
+    fn call_function(
+        &mut self,
+        alloc: Global,
+        function: ObjId,
+        receiver: Value,
+        args: Items<Value>,
+    ) -> Result<Outcome, AllocError> {
+        let mut stack = Vec::new(alloc);
+        match self.enter(alloc, &mut stack, &Value::Object(function), receiver, args)? {
+            None => self.run(alloc, stack),
+            Some(outcome) => Ok(outcome),
+        }
+    }
+
+    fn delete(
+        &mut self,
+        alloc: Global,
+        words: &mut SplitWhitespace,
+    ) -> Result<Outcome, AllocError> {
+        let Some(id) = self.next_object(alloc, words)? else {
+            return Ok(Outcome::Stuck);
+        };
+        let key = key_of(alloc, words.next().unwrap_or(""))?;
+        Ok(delete(self.realm.edition(), &mut self.heap, id, &key))
+    }
+
+    /// Records a key of a static member that a class inherits.
+    fn record(
+        &mut self,
+        alloc: Global,
+        words: &mut SplitWhitespace,
+    ) -> Result<Outcome, AllocError> {
+        let Some(id) = self.next_object(alloc, words)? else {
+            return Ok(Outcome::Stuck);
+        };
+        let key = key_of(alloc, words.next().unwrap_or(""))?;
+        self.heap.record_key(alloc, id, key)?;
+        Ok(Outcome::Value(Value::Undefined))
+    }
+
+    fn call(&mut self, alloc: Global, words: &mut SplitWhitespace) -> Result<Outcome, AllocError> {
+        let number = words.next().unwrap_or("").parse::<u16>().unwrap_or(42);
+        let this_value = self.next_value(alloc, words)?;
+        let mut args = Vec::new(alloc);
+        for word in words {
+            args.push(value_of(alloc, &self.slots, word)?)?;
+        }
+        let mut stack = Vec::new(alloc);
+        stack.push(BuiltinCall::begin(alloc, number, this_value, args))?;
+        self.run(alloc, stack)
+    }
+
+    /// Takes steps until the call at the bottom of the stack ends.
+    fn run(&mut self, alloc: Global, stack: Vec<BuiltinCall>) -> Result<Outcome, AllocError> {
+        let mut stack = stack;
+        for _ in 0..STEPS {
+            if let Some(outcome) = self.step(alloc, &mut stack)? {
+                return Ok(outcome);
+            }
+        }
+        Ok(Outcome::Stuck)
+    }
+
+    fn step(
+        &mut self,
+        alloc: Global,
+        stack: &mut Vec<BuiltinCall>,
+    ) -> Result<Option<Outcome>, AllocError> {
+        let Some(call) = stack.last_mut() else {
+            return Ok(Some(Outcome::Stuck));
+        };
+        match step_builtin(call, alloc, self.realm.lend(), &mut self.heap) {
+            BuiltinStep::Running => Ok(None),
+            BuiltinStep::CallOut {
+                callee,
+                this_value,
+                args,
+            } => self.enter(alloc, stack, &callee, this_value, args),
+            BuiltinStep::ReadOut { .. } => Ok(deliver(stack, read_out(alloc)?)),
+            BuiltinStep::Done(value) => {
+                stack.pop();
+                Ok(deliver(stack, value))
+            }
+            BuiltinStep::Throws(kind) => Ok(Some(Outcome::Throws(kind))),
+            BuiltinStep::Leaves(exit) => Ok(Some(Outcome::Leaves(exit))),
+            BuiltinStep::OutOfMemory => Err(AllocError),
+        }
+    }
+
+    /// Begins a call of the library, or answers one of a function of the list.
+    fn enter(
+        &mut self,
+        alloc: Global,
+        stack: &mut Vec<BuiltinCall>,
+        callee: &Value,
+        this_value: Value,
+        args: Items<Value>,
+    ) -> Result<Option<Outcome>, AllocError> {
+        match callee_of(&self.heap, callee) {
+            Callee::Library(number) => {
+                stack.push(BuiltinCall::begin(
+                    alloc,
+                    number,
+                    this_value,
+                    shared(alloc, args.as_slice())?,
+                ))?;
+                Ok(None)
+            }
+            Callee::Listed(place) => {
+                self.note(alloc, callee, &this_value, args.as_slice())?;
+                self.behave(stack, place, this_value, args.as_slice())
+            }
+            Callee::Nothing => Ok(Some(Outcome::Stuck)),
+        }
+    }
+
+    fn behave(
+        &self,
+        stack: &mut Vec<BuiltinCall>,
+        place: usize,
+        this_value: Value,
+        args: &[Value],
+    ) -> Result<Option<Outcome>, AllocError> {
+        let value = match self.functions.get(place) {
+            Some(Behavior::Throws(value)) => {
+                return Ok(Some(Outcome::ThrowsValue(value.share()?)));
+            }
+            Some(Behavior::Gives(value)) => value.share()?,
+            Some(Behavior::Receiver) => this_value,
+            Some(Behavior::Argument(index)) => match args.get(*index) {
+                Some(argument) => argument.share()?,
+                None => Value::Undefined,
+            },
+            None => Value::Undefined,
+        };
+        Ok(deliver(stack, value))
+    }
+
+    /// Notes a call of a function of the list, with its receiver and its arguments.
+    fn note(
+        &mut self,
+        alloc: Global,
+        callee: &Value,
+        this_value: &Value,
+        args: &[Value],
+    ) -> Result<(), AllocError> {
+        let name = self.shown(alloc, callee)?;
+        let receiver = self.shown(alloc, this_value)?;
+        self.calls.push_str(name.as_str())?;
+        self.calls.push_str(" on ")?;
+        self.calls.push_str(receiver.as_str())?;
+        for argument in args {
+            let text = self.shown(alloc, argument)?;
+            self.calls.push_str(", ")?;
+            self.calls.push_str(text.as_str())?;
+        }
+        self.calls.push_str("; ")?;
+        Ok(())
+    }
+}
+
+fn callee_of(heap: &Heap, callee: &Value) -> Callee {
+    match callee {
+        Value::Object(id) => match heap.class(*id) {
+            Class::Builtin(number) => Callee::Library(*number),
+            Class::Function(place) => Callee::Listed(*place),
+            _ => Callee::Nothing,
+        },
+        _ => Callee::Nothing,
+    }
+}
+
+fn shared(alloc: Global, values: &[Value]) -> Result<Vec<Value>, AllocError> {
+    let mut list = Vec::new(alloc);
+    for value in values {
+        list.push(value.share()?)?;
+    }
+    Ok(list)
+}
+
+/// Hands a value to the call that waits for it, or ends the line with it.
+fn deliver(stack: &mut Vec<BuiltinCall>, value: Value) -> Option<Outcome> {
+    match stack.last_mut() {
+        Some(call) => {
+            call.receive(value);
+            None
+        }
+        None => Some(Outcome::Value(value)),
+    }
+}
+
+fn object_in(value: &Value) -> Option<ObjId> {
+    match value {
+        Value::Object(id) => Some(*id),
+        _ => None,
+    }
+}
+
+fn plain(value: Value) -> Prop {
+    Prop::Plain {
+        value,
+        writable: true,
+        configurable: true,
+    }
+}
+
+/// What each binding of a namespace object gives.
+fn read_out(alloc: Global) -> Result<Value, AllocError> {
+    let mut units = Vec::new(alloc);
+    units.push(u16::from(b'b'))?;
+    Ok(Value::Text(Str::of_vec(alloc, units)?))
+}
