@@ -1,1 +1,5 @@
+pub mod Posts
+pub mod Meanings
+pub mod Spans
+pub mod Derived
 pub mod Examples
