@@ -18,7 +18,7 @@ use Rattle.es6_ast.specs.declared.tree.Statement.{Statement}
 use Rattle.es6_ast.specs.declared.tree.Statement.TheVariants as stat
 use Rattle.es6_ast.specs.Tokens.{Read, Filled, IsWord, IsMark, across, is_identifier}
 use Rattle.es6_ast.specs.Grammar.{Flags, with_in, level_sequence, level_assignment, level_power, level_unary, level_left_hand_side, level_member, NotStar, name_alone, IsName, IsExpression, IsNewCallee, AreArrowParameters, IsAssigned, IsPattern, IsTarget, IsPart, IsObjectPart, IsProperty, IsBlock, IsFunction, IsListed, IsStatement, AreMembers}
-use Rattle.es6_reading.specs.Parser.{Input, Parser, on, next_is, take_as, mark, word, next_mark, is_left, Reading, Stand, Listed, Under, Labelled, Inner, on_group}
+use Rattle.es6_reading.specs.Parser.{Input, Parser, on, next_is, take_as, is_mark, mark, word, next_mark, is_left, Reading, Stand, Listed, Under, Labelled, Inner, on_group}
 use Rattle.es6_reading.specs.Words.{is_arrow, is_template_head}
 use Rattle.es6_reading.specs.Refine.{Fits, refine_part, target_before}
 use Rattle.es6_reading.specs.Expressions.{parameters_before}
@@ -82,11 +82,14 @@ abbrev pub ObjectPartIn : Flags → Input → ObjectPart → Input → Type 0
 ObjectPartIn f s e c = Moves s c × IsObjectPart f true s.tokens e c.tokens
 
 -- what is bound, and the initializer that may follow it, with the flags of each
-pub data InitializedIn (f g : Flags) : Input → Part → Input → Type 0 where
-  name_in_turn : {s c : Input} {q : Part} (n : Identifier) → Moves s c → IsName s.tokens n c.tokens → q ≡ name_alone n → InitializedIn f g s q c
-  pattern_in_turn : {s c : Input} {q : Part} (y : Pattern) → Moves s c → IsPattern f true s.tokens y c.tokens → q ≡ roll-Part (record { span = across s.tokens c.tokens; pattern = y; default = None }) → InitializedIn f g s q c
-  initialized_in : {s c : Input} {q : Part} {equals : Filled} {us : List Filled} (y : Pattern) (value : Expression) → Moves s c → IsTarget f true s.tokens y (equals ∷ us) → IsMark marks.Assign equals → IsExpression g level_assignment us value c.tokens
-      → q ≡ roll-Part (record { span = across s.tokens c.tokens; pattern = y; default = Some value }) → InitializedIn f g s q c
+pub data IsInitialized (f g : Flags) : List Filled → Part → List Filled → Type 0 where
+  lone_name : {ts us : List Filled} {q : Part} (n : Identifier) → IsName ts n us → q ≡ name_alone n → IsInitialized f g ts q us
+  lone_pattern : {ts us : List Filled} {q : Part} (y : Pattern) → IsPattern f true ts y us → q ≡ roll-Part (record { span = across ts us; pattern = y; default = None }) → IsInitialized f g ts q us
+  with_initializer : {equals : Filled} {ts us vs : List Filled} {q : Part} (y : Pattern) (value : Expression) → IsTarget f true ts y (equals ∷ us) → IsMark marks.Assign equals → IsExpression g level_assignment us value vs
+      → q ≡ roll-Part (record { span = across ts vs; pattern = y; default = Some value }) → IsInitialized f g ts q vs
+
+abbrev pub InitializedIn : Flags → Flags → Input → Part → Input → Type 0
+InitializedIn f g s q c = Moves s c × IsInitialized f g s.tokens q c.tokens
 
 -- a member, before whatever members follow it
 pub record MemberIn (f : Flags) (s : Input) (m : ClassMember) (c : Input) : Type 0 where
@@ -113,7 +116,7 @@ pub record Refines : Type 0 where
   pub part : (n : ℕ) (f : Flags) (ts us : List Filled) (x : Expression) (q : Part) → IsExpression (with_in f) level_assignment ts x us → refine_part n x ≡ Fits q → IsPart (with_in f) true ts q us
   pub target : (n : ℕ) (f : Flags) (operator : AssignOperator) (ts us : List Filled) (x : Expression) (p : Pattern) → IsExpression f level_left_hand_side ts x us → target_before n operator x ≡ Fits p → IsAssigned f operator ts p us
 
--- The readers for one construct deeper give derivations. No semicolon is inserted.
+-- The readers for one construct deeper give derivations. No semicolon is inserted. Within a pattern `in` is an operator.
 pub record Sound (i : Inner) : Type 0 where
   pub refines : Refines
   pub plain : i.inserting ≡ false
@@ -126,8 +129,8 @@ pub record Sound (i : Inner) : Type 0 where
   pub block : (f : Flags) (s : Input) → Holds (BlockIn f s) (i.block f s)
   pub property : (f : Flags) (s : Input) → Holds (PropertyIn f s) (i.property f s)
   pub target : (f : Flags) (s : Input) → Holds (TargetIn f s) (i.target f s)
-  pub part : (f : Flags) (s : Input) → Holds (PartIn f s) (i.part f s)
-  pub object_part : (f : Flags) (s : Input) → Holds (ObjectPartIn f s) (i.object_part f s)
+  pub part : (f : Flags) (s : Input) → Holds (PartIn (with_in f) s) (i.part f s)
+  pub object_part : (f : Flags) (s : Input) → Holds (ObjectPartIn (with_in f) s) (i.object_part f s)
   pub variable : (f : Flags) (s : Input) → Holds (InitializedIn f f s) (i.variable f s)
   pub member : (f : Flags) (s : Input) → Holds (MemberIn f s) (i.member f s)
   pub statement : (f : Flags) (stand : Stand) (s : Input) → Holds (StatementIn f stand s) (i.statement f stand s)
@@ -153,6 +156,10 @@ one {t = t} = record { first = t; tokens = []; all = refl; end = refl }
 
 pub step : {P : Filled → Type 0} {s c : Input} → Next P s c → Moves s c
 step (next h) = one
+
+-- the token is no arrow
+pub not-arrow : (k : TokenKind) (t : Filled) → t.kind ≡ Read k → is_mark marks.Arrow (Read k) ≡ false → is_arrow t ≡ false
+not-arrow k t e h = rw e (rw h refl)
 
 -- ## Marks, words and groups
 

@@ -2,4 +2,5 @@ pub mod Posts
 pub mod Meanings
 pub mod Spans
 pub mod Derived
+pub mod SoundPatterns
 pub mod Examples
