@@ -3,4 +3,5 @@ pub mod Meanings
 pub mod Spans
 pub mod Derived
 pub mod SoundPatterns
+pub mod SoundFunctions
 pub mod Examples
