@@ -5,3 +5,6 @@ pub mod Derived
 pub mod SoundPatterns
 pub mod SoundFunctions
 pub mod Examples
+pub mod RefineViews
+pub mod Refines
+pub mod RefineBinds

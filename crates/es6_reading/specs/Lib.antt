@@ -1,6 +1,7 @@
 pub mod Parser
 pub mod Words
 pub mod Refine
+pub mod Refinements
 pub mod Parts
 pub mod Expressions
 pub mod Statements
