@@ -8,3 +8,5 @@ pub mod Examples
 pub mod RefineViews
 pub mod Refines
 pub mod RefineBinds
+pub mod RefineTargetOf
+pub mod RefineTargets

@@ -65,7 +65,7 @@ part-binds : (n : ℕ) (ih : Binds n) {f : Flags} {ts us : List Filled} {q : Par
 part-binds n ih (g.part_alone x q d e) = rw e (weaken-fits (ih _ _ _ x d) (λ u h. g.part_alone x _ h refl))
 part-binds n ih (g.part_with_default x value q d m v e) = rw e (weaken-fits (ih _ _ _ x d) (λ u h. g.part_with_default x value _ h m v refl))
 
-bound-rest : {ts us : List Filled} {f : Flags} {x : Expression} {p : Pattern} → p ≡ pattern.Target x → Named ts x us → IsRest f true ts p us
+pub bound-rest : {ts us : List Filled} {f : Flags} {x : Expression} {p : Pattern} → p ≡ pattern.Target x → Named ts x us → IsRest f true ts p us
 bound-rest e (named n d k) = g.bound_rest n _ d (e ∙ ap pattern.Target k)
 
 rest-binds : {f : Flags} {ts us : List Filled} {p : Pattern} → IsRest f false ts p us → IfFits (λ u. IsRest f true ts p us) (rest_binds (out-Pattern p))
@@ -95,7 +95,7 @@ object-parts-bind n ih (g.next_object_part e es d m ds) = then-fits (object-part
 
 -- ## Targets
 
-bound-target : {ts us : List Filled} {f : Flags} {x : Expression} {p : Pattern} → p ≡ pattern.Target x → Named ts x us → IsTarget f true ts p us
+pub bound-target : {ts us : List Filled} {f : Flags} {x : Expression} {p : Pattern} → p ≡ pattern.Target x → Named ts x us → IsTarget f true ts p us
 bound-target e (named n d k) = g.bound_name n _ d (e ∙ ap pattern.Target k)
 
 pub binds : (n : ℕ) → Binds n
