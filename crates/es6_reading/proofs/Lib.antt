@@ -10,3 +10,6 @@ pub mod Refines
 pub mod RefineBinds
 pub mod RefineTargetOf
 pub mod RefineTargets
+pub mod RefineParameters
+pub mod RefineMisfits
+pub mod Refinement

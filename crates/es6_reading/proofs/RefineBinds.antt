@@ -1,5 +1,5 @@
 -- A pattern that is assigned and has names for all its targets binds, too.
-use Rattle.std.proofs.Common.{◌≡◌, ℕ, zero, suc, Bool, true, false, List, [], ◌∷◌, Option, Some, None, refl, sym, ap, ◌∙◌}
+use Rattle.std.proofs.Common.{◌≡◌, ℕ, zero, suc, true, false, List, refl, sym, ap, ◌∙◌}
 use Rattle.std.proofs.lemmas.Bool.{true≢false}
 use Rattle.es6_ast.specs.declared.tree.Identifier.{Identifier}
 use Rattle.es6_ast.specs.declared.tree.Expression.{Expression, out-Expression}
@@ -10,13 +10,13 @@ use Rattle.es6_ast.specs.declared.tree.ArrayPart.{ArrayPart, out-ArrayPart}
 use Rattle.es6_ast.specs.declared.tree.ArrayPart.TheVariants as array_part
 use Rattle.es6_ast.specs.declared.tree.ObjectPart.{ObjectPart, out-ObjectPart}
 use Rattle.es6_ast.specs.declared.tree.ObjectPart.TheVariants as object_part
-use Rattle.es6_ast.specs.declared.tree.Part.{Part, roll-Part}
+use Rattle.es6_ast.specs.declared.tree.Part.{Part}
 use Rattle.es6_ast.specs.declared.tree.Argument.TheOpen as layer
 use Rattle.es6_ast.specs.declared.tree.Argument.TheOpen.{Expression-F, Pattern-F}
 use Rattle.es6_ast.specs.Tokens.{Filled}
 use Rattle.es6_ast.specs.Grammar as g
 use Rattle.es6_ast.specs.Grammar.{Flags, with_in, IsName, IsExpression, IsTarget, IsPattern, IsPart, IsRest, AreArrayParts, AreObjectParts, IsObjectPart}
-use Rattle.es6_reading.specs.Refine.{Open, Refined, Fits, Misfit, is_name_in, is_name, begin_of_expression, bound, rest_binds, array_part_binds, object_part_binds, all_bind, binds_in, binds_names}
+use Rattle.es6_reading.specs.Refine.{Open, Fits, is_name_in, is_name, begin_of_expression, bound, rest_binds, array_part_binds, object_part_binds, all_bind, binds_names}
 use Rattle.es6_reading.specs.Refinements.{IfFits, fits, misfits, too_nested}
 use Rattle.es6_reading.proofs.Refines.{weaken-fits, then-fits, if-fits}
 use Rattle.es6_reading.proofs.RefineViews.{IsAccess, IsAnother, View, a_name, an_array, an_object, an_access, a_group, an_assignment, a_sequence, another, view}

@@ -1,20 +1,16 @@
 -- What every expression is as a target, by its own layer, and when it is a simple one.
-use Rattle.std.proofs.Common.{◌≡◌, ℕ, zero, suc, Bool, true, false, List, [], ◌∷◌, Option, Some, None, cond, map, refl, sym, ap, ◌∙◌}
-use Rattle.std.specs.Prelude.{is_none}
+use Rattle.std.proofs.Common.{◌≡◌, ℕ, zero, suc, Bool, true, false, List, [], ◌∷◌, Option, cond, map, refl, sym, ap, ◌∙◌}
 use Rattle.es6_ast.specs.declared.operators.AssignOperator.{AssignOperator}
 use Rattle.es6_ast.specs.declared.operators.AssignOperator.TheVariants as assign
 use Rattle.es6_ast.specs.declared.tree.Arrow.{Arrow, fold-Arrow}
 use Rattle.es6_ast.specs.declared.tree.Class.{Class, fold-Class}
 use Rattle.es6_ast.specs.declared.tree.Function.{Function, fold-Function}
 use Rattle.es6_ast.specs.declared.tree.Template.{Template, fold-Template}
-use Rattle.es6_ast.specs.declared.tree.Method.{Method, fold-Method}
 use Rattle.es6_ast.specs.declared.tree.Expression.{Expression, out-Expression, roll-Expression, roll-out-Expression, fold-roll-Expression}
 use Rattle.es6_ast.specs.declared.tree.Link.{Link, out-Link, roll-Link, roll-out-Link, fold-roll-Link}
-use Rattle.es6_ast.specs.declared.tree.Element.{Element}
-use Rattle.es6_ast.specs.declared.tree.Property.{Property}
 use Rattle.es6_ast.specs.declared.tree.Argument.TheOpen as layer
 use Rattle.es6_ast.specs.declared.tree.Argument.TheOpen.{Expression-F, Link-F}
-use Rattle.es6_ast.specs.Targets.{AsTarget, AsElement, as_target, is_simple, is_pattern, misfit, with_default, no_target, property_target, argument_target, element_target, expression_target, link_target, pattern_target, property_target_of, ends_in_access}
+use Rattle.es6_ast.specs.Targets.{AsTarget, AsElement, as_target, is_simple, with_default, no_target, property_target, argument_target, element_target, expression_target, link_target, pattern_target, property_target_of, ends_in_access}
 use Rattle.es6_ast.proofs.TargetLaws.{is_access as is_access', as_element, pattern_misfit, property_misfit}
 use Rattle.es6_reading.specs.Refine.{Open, Refined, Fits, Misfit, TooNested, is_access, is_access_in, held_at, fits_if, simple, simple_in}
 

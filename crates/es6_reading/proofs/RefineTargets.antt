@@ -1,6 +1,5 @@
 -- The tokens of an expression spell the target, and the part, that it is refined to.
-use Rattle.std.proofs.Common.{◌≡◌, ℕ, zero, suc, Bool, true, false, List, [], ◌∷◌, Option, Some, None, cond, refl, sym, ap, ◌∙◌, ◌-◌, length, take, arith}
-use Rattle.es_text.specs.declared.Span.{Span}
+use Rattle.std.proofs.Common.{◌≡◌, ℕ, zero, suc, Bool, true, false, List, [], ◌∷◌, Some, None, refl, ap, ◌∙◌, ◌-◌, length, take, arith}
 use Rattle.es6_lexer.specs.declared.token.Punctuator.TheVariants as mark
 use Rattle.es6_ast.specs.declared.operators.AssignOperator.{AssignOperator}
 use Rattle.es6_ast.specs.declared.operators.AssignOperator.TheVariants as assign
@@ -11,9 +10,8 @@ use Rattle.es6_ast.specs.declared.tree.Pattern.{Pattern, out-Pattern}
 use Rattle.es6_ast.specs.declared.tree.Pattern.TheVariants as pattern
 use Rattle.es6_ast.specs.declared.tree.ArrayPart.{ArrayPart}
 use Rattle.es6_ast.specs.declared.tree.ArrayPart.TheVariants.{SkippedPart, SinglePart, RestPart}
-use Rattle.es6_ast.specs.declared.tree.ObjectPart.{ObjectPart}
-use Rattle.es6_ast.specs.declared.tree.ObjectPart.TheVariants.{NamedPart, KeyedPart}
-use Rattle.es6_ast.specs.declared.tree.Element.{Element, out-Element}
+use Rattle.es6_ast.specs.declared.tree.ObjectPart.TheVariants.{KeyedPart}
+use Rattle.es6_ast.specs.declared.tree.Element.{Element}
 use Rattle.es6_ast.specs.declared.tree.Element.TheVariants as element
 use Rattle.es6_ast.specs.declared.tree.Argument.{Argument, out-Argument}
 use Rattle.es6_ast.specs.declared.tree.Argument.TheVariants as argument
@@ -27,7 +25,7 @@ use Rattle.es6_ast.specs.Tokens.{Read, Filled, IsMark, end_of, across}
 use Rattle.es6_ast.specs.Targets.{is_simple}
 use Rattle.es6_ast.specs.Grammar as g
 use Rattle.es6_ast.specs.Grammar.{Flags, with_in, level_assignment, level_left_hand_side, level_primary, assign_kind, IsName, IsExpression, IsAssigned, IsTarget, IsPart, IsRest, IsKey, IsArgument, IsProperty, IsObjectPart, AreElements, AreProperties, AreArrayParts, AreObjectParts}
-use Rattle.es6_reading.specs.Refine.{Open, Refined, Fits, Misfit, TooNested, refined_map, refined_cons, fits_if, span_in, span_of, is_name_in, bound, simple_in, alone, made_part, target_of_default, part_in, rest_of, argument_part, element_part, array_parts_of, property_part, object_parts_of, target_in, refine, binds_names}
+use Rattle.es6_reading.specs.Refine.{Open, Refined, Fits, refined_map, fits_if, span_in, span_of, is_name_in, simple_in, alone, made_part, target_of_default, part_in, rest_of, argument_part, array_parts_of, property_part, object_parts_of, target_in, refine, binds_names}
 use Rattle.es6_reading.specs.Refinements.{IfFits, fits, misfits, too_nested}
 use Rattle.es6_reading.proofs.Refines.{map-fits, weaken-fits, cons-fits}
 use Rattle.es6_reading.proofs.RefineViews.{IsAccess, IsAnother, View, a_name, an_array, an_object, an_access, a_group, an_assignment, a_sequence, another}
@@ -55,7 +53,7 @@ IsNever (layer.SuperIndex span index) = ⊥
 IsNever (layer.Group span held) = ⊥
 IsNever _ = Unit {0}
 
-never-if-another : (l : Open Expression-F) → IsAnother l → IsNever l
+pub never-if-another : (l : Open Expression-F) → IsAnother l → IsNever l
 never-if-another (layer.Name span name) h = h
 never-if-another (layer.ArrayList span elements comma) h = h
 never-if-another (layer.ObjectList span properties) h = h
@@ -83,22 +81,22 @@ never-alone false zero x h = too_nested
 never-alone false (suc n) x h = never-simple (λ u. pattern.Target x) _ (out-Expression x) h
 
 -- literals apart, an expression is a target by itself
-abbrev IsAlone : Open Expression-F → Type 0
+abbrev pub IsAlone : Open Expression-F → Type 0
 IsAlone (layer.ArrayList span elements comma) = ⊥
 IsAlone (layer.ObjectList span properties) = ⊥
 IsAlone _ = Unit {0}
 
-target-alone : (b : Bool) (n : ℕ) (t : Expression → Refined Pattern) (p : Expression → Refined Part) (x : Expression) (l : Open Expression-F) → IsAlone l → target_in b n t p x l ≡ alone b n x
+pub target-alone : (b : Bool) (n : ℕ) (t : Expression → Refined Pattern) (p : Expression → Refined Part) (x : Expression) (l : Open Expression-F) → IsAlone l → target_in b n t p x l ≡ alone b n x
 target-alone b n t p x (layer.ArrayList span elements comma) h = absurd h
 target-alone b n t p x (layer.ObjectList span properties) h = absurd h
 target-alone b n t p x l h = refl
 
-alone-if-never : (l : Open Expression-F) → IsNever l → IsAlone l
+pub alone-if-never : (l : Open Expression-F) → IsNever l → IsAlone l
 alone-if-never (layer.ArrayList span elements comma) h = h
 alone-if-never (layer.ObjectList span properties) h = h
 alone-if-never l h = tt
 
-alone-if-access : (l : Open Expression-F) → IsAccess l → IsAlone l
+pub alone-if-access : (l : Open Expression-F) → IsAccess l → IsAlone l
 alone-if-access (layer.ArrayList span elements comma) h = h
 alone-if-access (layer.ObjectList span properties) h = h
 alone-if-access l h = tt
@@ -137,19 +135,19 @@ default-fits false n p (g.updated_target operator y x h d e) = absurd (cc)
 -- ## Parts
 
 -- assignments apart, an expression is a part without a default
-abbrev HasNoDefault : Open Expression-F → Type 0
+abbrev pub HasNoDefault : Open Expression-F → Type 0
 HasNoDefault (layer.Assign span operator target value) = ⊥
 HasNoDefault _ = Unit {0}
 
-part-alone : (b : Bool) (n : ℕ) (t : Expression → Refined Pattern) (x : Expression) (l : Open Expression-F) → HasNoDefault l → part_in b n t x l ≡ refined_map (made_part (span_of x) None) (t x)
+pub part-alone : (b : Bool) (n : ℕ) (t : Expression → Refined Pattern) (x : Expression) (l : Open Expression-F) → HasNoDefault l → part_in b n t x l ≡ refined_map (made_part (span_of x) None) (t x)
 part-alone b n t x (layer.Assign span operator target value) h = absurd h
 part-alone b n t x l h = refl
 
-no-default-if-access : (l : Open Expression-F) → IsAccess l → HasNoDefault l
+pub no-default-if-access : (l : Open Expression-F) → IsAccess l → HasNoDefault l
 no-default-if-access (layer.Assign span operator target value) h = h
 no-default-if-access l h = tt
 
-no-default-if-another : (l : Open Expression-F) → IsAnother l → HasNoDefault l
+pub no-default-if-another : (l : Open Expression-F) → IsAnother l → HasNoDefault l
 no-default-if-another (layer.Assign span operator target value) h = h
 no-default-if-another l h = tt
 
@@ -164,7 +162,7 @@ assignment-part : (b : Bool) (n : ℕ) (operator : AssignOperator) (f : Flags) {
 assignment-part b n assign.Assign f {target = target} {value = value} x d k v o = map-fits (made_part _ (Some value)) (default-fits b n target d) (λ p h. g.part_with_default p value _ h k v refl)
 assignment-part b n operator f x d k v o = map-fits (made_part (span_of x) None) (never {Q = λ p. ⊥} b n x (rw o tt)) (λ p u. absurd u)
 
-layer-of : {x y : Expression} {l : Open Expression-F} → x ≡ y → out-Expression y ≡ l → out-Expression x ≡ l
+pub layer-of : {x y : Expression} {l : Open Expression-F} → x ≡ y → out-Expression y ≡ l → out-Expression x ≡ l
 layer-of e o = ap out-Expression e ∙ o
 
 token-across : (t : Filled) (ts : List Filled) → t.span ≡ across (t ∷ ts) ts

@@ -1,7 +1,5 @@
 -- What an expression that is derived is, as far as patterns and parameters are made of it.
-use Rattle.std.proofs.Common.{◌≡◌, ℕ, ◌+◌, ◌≤◌, Bool, true, false, List, [], ◌∷◌, Option, Some, None, refl, sym, ap, ◌∙◌, arith, length, take}
-use Rattle.std.specs.Prelude.{codes, ◌-◌}
-use Rattle.es_text.specs.declared.Span.{Span}
+use Rattle.std.proofs.Common.{◌≡◌, ℕ, ◌≤◌, Bool, true, false, List, ◌∷◌, Some, None, refl, ap, ◌∙◌, arith}
 use Rattle.es6_lexer.specs.declared.token.Punctuator.TheVariants as mark
 use Rattle.es6_ast.specs.declared.operators.AssignOperator.{AssignOperator}
 use Rattle.es6_ast.specs.declared.tree.Identifier.{Identifier}
@@ -12,7 +10,7 @@ use Rattle.es6_ast.specs.declared.tree.Property.{Property}
 use Rattle.es6_ast.specs.declared.tree.Pattern.{Pattern}
 use Rattle.es6_ast.specs.declared.tree.Argument.TheOpen as layer
 use Rattle.es6_ast.specs.declared.tree.Argument.TheOpen.{Expression-F}
-use Rattle.es6_ast.specs.Tokens.{Read, Filled, IsWord, IsMark, begin_of, end_of, across}
+use Rattle.es6_ast.specs.Tokens.{Read, Filled, IsMark, across}
 use Rattle.es6_ast.specs.Grammar as g
 use Rattle.es6_ast.specs.Grammar.{Flags, with_in, level_sequence, level_assignment, level_left_hand_side, level_call, level_member, level_primary, chain_level, assign_kind, IsName, IsExpression, IsNode, IsSuperCall, AreElements, AreProperties, IsAssigned, AreMore}
 use Rattle.es6_reading.specs.Refine.{Open, span_of}

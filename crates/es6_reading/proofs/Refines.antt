@@ -1,6 +1,6 @@
 -- What holds of refinements, put together along their parts.
-use Rattle.std.proofs.Common.{◌≡◌, ℕ, Bool, true, false, List, [], ◌∷◌, refl}
-use Rattle.es6_reading.specs.Refine.{Refined, Fits, Misfit, TooNested, refined_map, refined_cons, refined_then, fits_if}
+use Rattle.std.proofs.Common.{◌≡◌, ℕ, Bool, true, false, List, ◌∷◌, refl}
+use Rattle.es6_reading.specs.Refine.{Refined, refined_map, refined_cons, refined_then, fits_if}
 use Rattle.es6_reading.specs.Refinements.{IfFits, fits, misfits, too_nested}
 
 pub map-fits : {A B : Type 0} {P : A → Type 0} {Q : B → Type 0} {r : Refined A} (k : A → B) → IfFits P r → ((x : A) → P x → Q (k x)) → IfFits Q (refined_map k r)

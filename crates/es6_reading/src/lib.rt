@@ -6,6 +6,7 @@
 
 ghost use Rattle.es6_reading.specs.Examples.{AreRead, AreStopped, IsDeepest};
 ghost use Rattle.es6_reading.specs.Program.{IsProgramRead};
+ghost use Rattle.es6_reading.specs.Refinements.{AreRefined};
 
 /// Small modules are read to their end.
 pub fn small_modules_are_read()
@@ -25,4 +26,9 @@ pub fn one_construct_too_many_stops()
 /// A program of four modules, with classes, generators, patterns and templates, is read.
 pub fn a_program_is_read()
     ensures { IsProgramRead }
+{}
+
+/// What an expression is refined to, as a pattern or as parameters, is spelled by the tokens that spell the expression.
+pub fn derived_expressions_are_refined()
+    ensures { AreRefined }
 {}
