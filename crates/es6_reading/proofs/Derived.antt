@@ -3,7 +3,6 @@ use Rattle.std.proofs.Common.{◌≡◌, ℕ, Bool, true, false, List, [], ◌�
 use Rattle.es6_lexer.specs.declared.token.TokenKind.{TokenKind}
 use Rattle.es6_lexer.specs.declared.token.Punctuator.{Punctuator as Mark}
 use Rattle.es6_lexer.specs.declared.token.Punctuator.TheVariants as marks
-use Rattle.es6_ast.specs.declared.operators.AssignOperator.{AssignOperator}
 use Rattle.es6_ast.specs.declared.tree.Block.{Block}
 use Rattle.es6_ast.specs.declared.tree.ClassMember.{ClassMember}
 use Rattle.es6_ast.specs.declared.tree.Expression.{Expression}
@@ -17,10 +16,10 @@ use Rattle.es6_ast.specs.declared.tree.Property.{Property}
 use Rattle.es6_ast.specs.declared.tree.Statement.{Statement}
 use Rattle.es6_ast.specs.declared.tree.Statement.TheVariants as stat
 use Rattle.es6_ast.specs.Tokens.{Read, Filled, IsWord, IsMark, across, is_identifier}
-use Rattle.es6_ast.specs.Grammar.{Flags, with_in, level_sequence, level_assignment, level_power, level_unary, level_left_hand_side, level_member, NotStar, name_alone, IsName, IsExpression, IsNewCallee, AreArrowParameters, IsAssigned, IsPattern, IsTarget, IsPart, IsObjectPart, IsProperty, IsBlock, IsFunction, IsListed, IsStatement, AreMembers}
+use Rattle.es6_ast.specs.Grammar.{Flags, with_in, level_sequence, level_assignment, level_power, level_unary, level_left_hand_side, level_member, NotStar, name_alone, IsName, IsExpression, IsNewCallee, AreArrowParameters, IsPattern, IsTarget, IsPart, IsObjectPart, IsProperty, IsBlock, IsFunction, IsListed, IsStatement, AreMembers}
 use Rattle.es6_reading.specs.Parser.{Input, Parser, on, next_is, take_as, is_mark, mark, word, next_mark, is_left, Reading, Stand, Listed, Under, Labelled, Inner, on_group}
 use Rattle.es6_reading.specs.Words.{is_arrow, is_template_head}
-use Rattle.es6_reading.specs.Refine.{Fits, refine_part, target_before}
+use Rattle.es6_reading.specs.Refine.{Fits}
 use Rattle.es6_reading.specs.Expressions.{parameters_before}
 use Rattle.es6_reading.specs.Statements.{label_of}
 use Rattle.es6_reading.proofs.Posts.{Holds, fault, weaken, Taken, taken, Misses, on-holds, take-holds, choose-holds, if-holds}
@@ -111,14 +110,8 @@ StatementIn f stand s x c = Moves s c × IsAtStand f stand s.tokens x c.tokens
 
 -- ## Readers of one construct deeper
 
--- what an expression is refined to is derived from its tokens
-pub record Refines : Type 0 where
-  pub part : (n : ℕ) (f : Flags) (ts us : List Filled) (x : Expression) (q : Part) → IsExpression (with_in f) level_assignment ts x us → refine_part n x ≡ Fits q → IsPart (with_in f) true ts q us
-  pub target : (n : ℕ) (f : Flags) (operator : AssignOperator) (ts us : List Filled) (x : Expression) (p : Pattern) → IsExpression f level_left_hand_side ts x us → target_before n operator x ≡ Fits p → IsAssigned f operator ts p us
-
 -- The readers for one construct deeper give derivations. No semicolon is inserted. Within a pattern `in` is an operator.
 pub record Sound (i : Inner) : Type 0 where
-  pub refines : Refines
   pub plain : i.inserting ≡ false
   pub sequence : (f : Flags) (s : Input) → Holds (ReadWhole f level_sequence s) (i.sequence f s)
   pub assignment : (f : Flags) (s : Input) → Holds (ReadWhole f level_assignment s) (i.assignment f s)

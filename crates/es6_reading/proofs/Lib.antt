@@ -2,9 +2,6 @@ pub mod Posts
 pub mod Meanings
 pub mod Spans
 pub mod Derived
-pub mod SoundPatterns
-pub mod SoundFunctions
-pub mod Examples
 pub mod RefineViews
 pub mod Refines
 pub mod RefineBinds
@@ -13,3 +10,7 @@ pub mod RefineTargets
 pub mod RefineParameters
 pub mod RefineMisfits
 pub mod Refinement
+pub mod SoundPatterns
+pub mod SoundFunctions
+pub mod SoundPrimary
+pub mod Examples

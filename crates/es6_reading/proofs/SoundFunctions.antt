@@ -1,5 +1,5 @@
 -- What the readers of functions, methods, classes and templates give is derived, if the readers for one construct deeper are sound.
-use Rattle.std.proofs.Common.{◌≡◌, ℕ, zero, suc, Bool, true, false, ◌&&◌, not, List, [], ◌∷◌, Option, Some, None, refl, sym, ap, ◌∙◌, subst}
+use Rattle.std.proofs.Common.{◌≡◌, ℕ, zero, suc, Bool, true, false, List, [], ◌∷◌, Option, Some, None, refl, ap, ◌∙◌}
 use Rattle.std.specs.Prelude.{codes}
 use Rattle.es_text.specs.declared.Span.{Span}
 use Rattle.es6_lexer.specs.declared.token.TokenKind.TheVariants as kinds
@@ -12,7 +12,7 @@ use Rattle.es6_ast.specs.declared.tree.Parameter.{Parameter}
 use Rattle.es6_ast.specs.declared.tree.Parameter.TheVariants.{SingleParameter}
 use Rattle.es6_ast.specs.declared.tree.Key.{Key}
 use Rattle.es6_ast.specs.declared.tree.Key.TheVariants.{WordKey}
-use Rattle.es6_ast.specs.declared.tree.Block.{Block, roll-Block}
+use Rattle.es6_ast.specs.declared.tree.Block.{roll-Block}
 use Rattle.es6_ast.specs.declared.tree.Class.{Class, roll-Class}
 use Rattle.es6_ast.specs.declared.tree.ClassMember.{ClassMember}
 use Rattle.es6_ast.specs.declared.tree.Function.{Function, roll-Function}
@@ -21,17 +21,17 @@ use Rattle.es6_ast.specs.declared.tree.Part.{Part}
 use Rattle.es6_ast.specs.declared.tree.Stretch.{Stretch}
 use Rattle.es6_ast.specs.declared.tree.Template.{Template, roll-Template}
 use Rattle.es6_ast.specs.declared.tree.TemplatePart.{TemplatePart}
-use Rattle.es6_ast.specs.Tokens.{Filling, Read, Inserted, Filled, IsWord, IsMark, across, begin_of}
+use Rattle.es6_ast.specs.Tokens.{Filling, Read, Inserted, Filled, IsWord, IsMark, begin_of}
 use Rattle.es6_ast.specs.Grammar as g
 use Rattle.es6_ast.specs.Grammar.{Flags, with_in, of_function, level_sequence, level_left_hand_side, method_of, IsName, IsStar, IsKey, AreParameters, IsFunction, IsSignature, IsMethod, IsClass, IsClassTail, AreMembers, AreStatements, IsBlock, IsTemplate, AreTemplateParts, IsExpression}
-use Rattle.es6_reading.specs.Parser.{Input, Parser, next_is, next_mark, Listed, Reading, Inner, group}
-use Rattle.es6_reading.specs.Words.{WordToken, accessor_at, accessor_name, same_truth, stretch_if, stretch_in, stretch_at, is_template_head}
-use Rattle.es6_reading.specs.Parts.{statements, block, function_body, Signature, signature, star, rest_of_function, named_function, function_after_word, method_after_key, no_parameter, one_parameter, accessor_parameters, accessor_kind, accessor, generator_method, method_after_accessor_word, method, member_of, member_after_static, one_member, members, heritage, rest_of_class, named_class, class_after_word, template_part, template_parts, parted_template, on_template}
+use Rattle.es6_reading.specs.Parser.{Input, Parser, next_is, Listed, Reading, Inner, group}
+use Rattle.es6_reading.specs.Words.{WordToken, accessor_at, accessor_name, stretch_in, stretch_at, is_template_head}
+use Rattle.es6_reading.specs.Parts.{statements, block, function_body, signature, star, rest_of_function, named_function, function_after_word, method_after_key, no_parameter, one_parameter, accessor_parameters, accessor_kind, accessor, generator_method, method_after_accessor_word, method, member_of, member_after_static, one_member, members, heritage, rest_of_class, named_class, class_after_word, template_part, template_parts, parted_template, on_template}
 use Rattle.es6_reading.proofs.Posts.{Holds, took, fault, bind, weaken, Misses, choose-holds, if-holds, refused-holds}
 use Rattle.es6_reading.proofs.Meanings.{accessor-means, IsStretch, stretch-means}
 use Rattle.es6_reading.proofs.Spans.{Moves, Goes, stays, goes, then-goes, ◌⟫◌, span-across}
-use Rattle.es6_reading.proofs.Derived.{ReadIn, ReadWhole, NameIn, BlockIn, PartIn, MemberIn, StatementIn, Sound, Next, next, on-means, take-means, one, step, not-arrow, on-mark, take-mark, on-word, group-holds}
-use Rattle.es6_reading.proofs.SoundPatterns.{sound-identifier, KeyIn, key-rule, sound-key, ParametersIn, sound-parameters}
+use Rattle.es6_reading.proofs.Derived.{ReadIn, ReadWhole, NameIn, BlockIn, PartIn, MemberIn, StatementIn, Sound, Next, next, on-means, take-means, one, not-arrow, on-mark, take-mark, on-word, group-holds}
+use Rattle.es6_reading.proofs.SoundPatterns.{sound-identifier, KeyIn, key-rule, sound-key, sound-parameters}
 
 -- ## Statements in braces
 

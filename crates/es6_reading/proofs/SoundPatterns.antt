@@ -1,9 +1,8 @@
 -- What the readers of names, keys, patterns and parameters give is derived, if the readers for one construct deeper are sound.
-use Rattle.std.proofs.Common.{◌≡◌, ℕ, zero, suc, Bool, true, false, List, [], ◌∷◌, Option, Some, None, refl, sym, ap, ◌∙◌, subst}
+use Rattle.std.proofs.Common.{◌≡◌, ℕ, zero, suc, true, List, [], ◌∷◌, Some, None, refl, sym, ap, ◌∙◌, subst}
 use Rattle.es_text.specs.declared.Span.{Span}
 use Rattle.es6_lexer.specs.declared.token.Punctuator.TheVariants as marks
 use Rattle.es6_ast.specs.declared.tree.Identifier.{Identifier}
-use Rattle.es6_ast.specs.declared.tree.Expression.{Expression}
 use Rattle.es6_ast.specs.declared.tree.Pattern.{Pattern}
 use Rattle.es6_ast.specs.declared.tree.Pattern.TheVariants as pattern
 use Rattle.es6_ast.specs.declared.tree.ArrayPart.{ArrayPart}
@@ -13,12 +12,12 @@ use Rattle.es6_ast.specs.declared.tree.ObjectPart.TheVariants.{NamedPart, KeyedP
 use Rattle.es6_ast.specs.declared.tree.Parameter.{Parameter}
 use Rattle.es6_ast.specs.declared.tree.Parameter.TheVariants.{SingleParameter, RestParameter}
 use Rattle.es6_ast.specs.declared.tree.Key.{Key}
-use Rattle.es6_ast.specs.declared.tree.Key.TheVariants.{WordKey, TextKey, IntegerKey, ComputedKey}
+use Rattle.es6_ast.specs.declared.tree.Key.TheVariants.{WordKey, ComputedKey}
 use Rattle.es6_ast.specs.declared.tree.Part.{Part, roll-Part}
 use Rattle.es6_ast.specs.Tokens.{Filled, IsWord, IsMark, across, begin_of}
 use Rattle.es6_ast.specs.Grammar as g
 use Rattle.es6_ast.specs.Grammar.{Flags, with_in, level_assignment, name_target, name_alone, IsName, IsAnyName, IsKey, IsPattern, IsTarget, IsPart, AreArrayParts, AreObjectParts, IsObjectPart, AreParameters}
-use Rattle.es6_reading.specs.Parser.{Input, next_is, next_mark, Reading, Inner}
+use Rattle.es6_reading.specs.Parser.{Input, Reading, Inner}
 use Rattle.es6_reading.specs.Words.{any_name, free_name, KeyToken, WordToken, TextToken, IntegerToken, key_at}
 use Rattle.es6_reading.specs.Parts.{identifier, name_of_any_kind, key_of, computed_key, key, rest_part, array_parts, object_parts, binding_pattern, binding, initialized, one_part, keyed_part, named_part, one_object_part, rest_parameter, more_parameters, parameters}
 use Rattle.es6_reading.proofs.Posts.{Holds, took, fault, bind, weaken, refused-holds, no-number-holds}
