@@ -13,4 +13,5 @@ pub mod Refinement
 pub mod SoundPatterns
 pub mod SoundFunctions
 pub mod SoundPrimary
+pub mod SoundChains
 pub mod Examples
