@@ -14,4 +14,5 @@ pub mod SoundPatterns
 pub mod SoundFunctions
 pub mod SoundPrimary
 pub mod SoundChains
+pub mod SoundLevels
 pub mod Examples

@@ -200,7 +200,7 @@ held-whole : (f : Flags) {s c : Input} {x : Expression} {xs : List Expression} �
     → IsExpression (with_in f) level_sequence s.tokens (sequenced x xs (record { begin = begin_of s.tokens; end = c.last })) c.tokens
 held-whole f {s = s} {c = c} {x = x} {xs = xs} m ds = subst (λ span. IsExpression (with_in f) level_sequence s.tokens (sequenced x xs span) c.tokens) (sym (span-across m)) (held-expression f ds)
 
-refined-so : {A : Type 0} {Q : A → Type 0} {r : Refined A} {x : A} → IfFits Q r → r ≡ Fits x → Q x
+pub refined-so : {A : Type 0} {Q : A → Type 0} {r : Refined A} {x : A} → IfFits Q r → r ≡ Fits x → Q x
 refined-so {Q = Q} (fits h) e = subst Q (fits_same e) h
 refined-so misfits e = absurd (cc)
 refined-so too_nested e = absurd (cc)
