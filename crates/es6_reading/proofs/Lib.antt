@@ -16,3 +16,5 @@ pub mod SoundPrimary
 pub mod SoundChains
 pub mod SoundLevels
 pub mod Examples
+pub mod SoundStatements
+pub mod SoundLoops
