@@ -18,3 +18,4 @@ pub mod SoundLevels
 pub mod Examples
 pub mod SoundStatements
 pub mod SoundLoops
+pub mod SoundCompound
