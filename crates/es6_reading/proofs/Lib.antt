@@ -19,3 +19,4 @@ pub mod Examples
 pub mod SoundStatements
 pub mod SoundLoops
 pub mod SoundCompound
+pub mod SoundDeclarations

@@ -1,5 +1,5 @@
--- What the readers of jumps, switches, tries, declarations and labels give is derived, and so is every statement, if the readers
--- for one construct deeper are sound, and those of expressions at the same depth.
+-- What the readers of jumps, switches and tries give is derived, if the readers for one construct deeper are sound, and those of
+-- expressions at the same depth.
 use Rattle.std.proofs.Common.{◌≡◌, ℕ, zero, suc, Bool, true, false, ◌||◌, not, List, [], ◌∷◌, Option, Some, None, refl, sym, ap, ◌∙◌, subst}
 use Rattle.std.specs.Prelude.{codes}
 use Rattle.es6_lexer.specs.declared.token.TokenKind.TheVariants as kinds
@@ -65,11 +65,11 @@ continue-rule f {x = x} (next w) (label_in m d) (next e) = (then-goes one m ⟫ 
 break-rule : (f : Flags) {s a b c : Input} {x : Option Identifier} → Next (IsWord (codes "break")) s a → LabelIn a x b → Next IsEnd b c → StatementIn f Under s (stat.Break (record { begin = begin_of s.tokens; end = c.last }) x) c
 break-rule f {x = x} (next w) (label_in m d) (next e) = (then-goes one m ⟫ one, g.break x _ w d e (ap (λ span. stat.Break span x) (span-across (then-goes (one {last = 0}) m ⟫ one))))
 
-sound-continue : (i : Inner) (sound : Sound i) (f : Flags) (s a : Input) → Next (IsWord (codes "continue")) s a → Holds (StatementIn f Under s) (continue_statement i (begin_of s.tokens) a)
+pub sound-continue : (i : Inner) (sound : Sound i) (f : Flags) (s a : Input) → Next (IsWord (codes "continue")) s a → Holds (StatementIn f Under s) (continue_statement i (begin_of s.tokens) a)
 unfolding continue_statement
 sound-continue i sound f s a w = bind (sound-label a) λ x b d. bind (sound-semicolon i sound b) λ u c e. took (continue-rule f w d e)
 
-sound-break : (i : Inner) (sound : Sound i) (f : Flags) (s a : Input) → Next (IsWord (codes "break")) s a → Holds (StatementIn f Under s) (break_statement i (begin_of s.tokens) a)
+pub sound-break : (i : Inner) (sound : Sound i) (f : Flags) (s a : Input) → Next (IsWord (codes "break")) s a → Holds (StatementIn f Under s) (break_statement i (begin_of s.tokens) a)
 unfolding break_statement
 sound-break i sound f s a w = bind (sound-label a) λ x b d. bind (sound-semicolon i sound b) λ u c e. took (break-rule f w d e)
 
@@ -102,14 +102,14 @@ return-rule : (f : Flags) {s a b c : Input} {x : Option Expression} → f.has_re
 return-rule f h (next {t = t} w) returns_nothing (next {t = u} {ts = us} e) = (one ⟫ one, g.return_bare _ h w e (ap (λ span. stat.Return span None) (span-across (one {t = t} {last = 0} ⟫ one {t = u} {ts = us}))))
 return-rule f h (next w) (returns_value (value_in {x = x} l m d)) (next e) = (one ⟫ m ⟫ one, g.return_value x _ h w l d e (ap (λ span. stat.Return span (Some x)) (span-across (one {last = 0} ⟫ m ⟫ one))))
 
-sound-return : (i : Inner) (sound : Sound i) (whole : Whole i) (f : Flags) (s a : Input) → f.has_return ≡ true → Next (IsWord (codes "return")) s a → Holds (StatementIn f Under s) (return_statement i f (begin_of s.tokens) a)
+pub sound-return : (i : Inner) (sound : Sound i) (whole : Whole i) (f : Flags) (s a : Input) → f.has_return ≡ true → Next (IsWord (codes "return")) s a → Holds (StatementIn f Under s) (return_statement i f (begin_of s.tokens) a)
 unfolding return_statement
 sound-return i sound whole f s a h w = bind (sound-returned i whole f a) λ x b d. bind (sound-semicolon i sound b) λ u c e. took (return-rule f h w d e)
 
 throw-rule : (f : Flags) {s a b c : Input} {x : Expression} → Next (IsWord (codes "throw")) s a → ValueIn f a x b → Next IsEnd b c → StatementIn f Under s (stat.Throw (record { begin = begin_of s.tokens; end = c.last }) x) c
 throw-rule f {x = x} (next w) (value_in l m d) (next e) = (one ⟫ m ⟫ one, g.throw x _ w l d e (ap (λ span. stat.Throw span x) (span-across (one {last = 0} ⟫ m ⟫ one))))
 
-sound-throw : (i : Inner) (sound : Sound i) (whole : Whole i) (f : Flags) (s a : Input) → Next (IsWord (codes "throw")) s a → Holds (StatementIn f Under s) (throw_statement i f (begin_of s.tokens) a)
+pub sound-throw : (i : Inner) (sound : Sound i) (whole : Whole i) (f : Flags) (s a : Input) → Next (IsWord (codes "throw")) s a → Holds (StatementIn f Under s) (throw_statement i f (begin_of s.tokens) a)
 unfolding throw_statement
 sound-throw i sound whole f s a w = if-holds _ _ _ a (λ h. refused-holds a)
     (λ h. bind (whole.sequence_of (with_in f) a) λ x b r. bind (sound-semicolon i sound b) λ u c e. took (throw-rule f w (value-on-line f a.tokens a.last x b h r) e))
@@ -117,7 +117,7 @@ sound-throw i sound whole f s a w = if-holds _ _ _ a (λ h. refused-holds a)
 debugger-rule : (f : Flags) {s a c : Input} → Next (IsWord (codes "debugger")) s a → Next IsEnd a c → StatementIn f Under s (stat.Debugger (record { begin = begin_of s.tokens; end = c.last })) c
 debugger-rule f (next {t = t} w) (next {t = u} {ts = ts} e) = (one ⟫ one, g.debugger _ w e (ap (λ span. stat.Debugger span) (span-across (one {t = t} {last = 0} ⟫ one {t = u} {ts = ts}))))
 
-sound-debugger : (i : Inner) (sound : Sound i) (f : Flags) (s a : Input) → Next (IsWord (codes "debugger")) s a → Holds (StatementIn f Under s) (debugger_statement i (begin_of s.tokens) a)
+pub sound-debugger : (i : Inner) (sound : Sound i) (f : Flags) (s a : Input) → Next (IsWord (codes "debugger")) s a → Holds (StatementIn f Under s) (debugger_statement i (begin_of s.tokens) a)
 unfolding debugger_statement
 sound-debugger i sound f s a w = bind (sound-semicolon i sound a) λ u c e. took (debugger-rule f w e)
 
@@ -187,7 +187,7 @@ switch-rule : (f : Flags) {s a b c : Input} {x : Expression} {xs : List Case} �
 switch-rule f {x = x} {xs = xs} (next w) (paren (next p) m d (next q)) (cases_group (next b) (m', d')) =
     (one ⟫ one ⟫ m ⟫ one ⟫ one ⟫ m', g.switch x xs _ w p d q b d' (ap (λ span. stat.Switch span x xs) (span-across (one {last = 0} ⟫ one ⟫ m ⟫ one ⟫ one ⟫ m'))))
 
-sound-switch : (i : Inner) (sound : Sound i) (f : Flags) (s a : Input) → Next (IsWord (codes "switch")) s a → Holds (StatementIn f Under s) (switch_statement i f (begin_of s.tokens) a)
+pub sound-switch : (i : Inner) (sound : Sound i) (f : Flags) (s a : Input) → Next (IsWord (codes "switch")) s a → Holds (StatementIn f Under s) (switch_statement i f (begin_of s.tokens) a)
 unfolding switch_statement
 sound-switch i sound f s a w = bind (sound-paren i sound f a) λ x b p.
     bind (group-holds {Q = CasesGroup f b} i _ _ _ b (λ d h. weaken (sound-cases i sound f true i.fuel d) (λ xs c cs. cases_group h cs)) (λ m. refused-holds b)) λ xs c cs. took (switch-rule f w p cs)
@@ -221,7 +221,7 @@ try-both-rule : (f : Flags) {s a b e d c : Input} {x y : Block} {h : Catch} → 
     → StatementIn f Under s (stat.Try (record { begin = begin_of s.tokens; end = c.last }) x (Some h) (Some y)) c
 try-both-rule f {x = x} {y = y} {h = h} (next w) (m, d) (m', d') (next u) (m'', d'') = (one ⟫ m ⟫ m' ⟫ one ⟫ m'', g.try_both x y h _ w d d' u d'' (ap (λ span. stat.Try span x (Some h) (Some y)) (span-across (one {last = 0} ⟫ m ⟫ m' ⟫ one ⟫ m''))))
 
-sound-try : (i : Inner) (sound : Sound i) (f : Flags) (s a : Input) → Next (IsWord (codes "try")) s a → Holds (StatementIn f Under s) (try_statement i f (begin_of s.tokens) a)
+pub sound-try : (i : Inner) (sound : Sound i) (f : Flags) (s a : Input) → Next (IsWord (codes "try")) s a → Holds (StatementIn f Under s) (try_statement i f (begin_of s.tokens) a)
 unfolding try_statement after_handler only_finally
 sound-try i sound f s a w = bind (sound-block i sound f a) λ x b d. if-holds _ _ _ b
     (λ h. bind (sound-catch i sound f b) λ k e c. on-word _ _ _ e
