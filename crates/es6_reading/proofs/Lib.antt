@@ -20,3 +20,4 @@ pub mod SoundStatements
 pub mod SoundLoops
 pub mod SoundCompound
 pub mod SoundDeclarations
+pub mod SoundImports
