@@ -21,3 +21,4 @@ pub mod SoundLoops
 pub mod SoundCompound
 pub mod SoundDeclarations
 pub mod SoundImports
+pub mod SoundModules
