@@ -1,5 +1,4 @@
--- What the readers of jumps, switches and tries give is derived, if the readers for one construct deeper are sound, and those of
--- expressions at the same depth.
+-- What the readers of jumps, switches and tries give is derived, if the readers for one construct deeper are sound.
 use Rattle.std.proofs.Common.{◌≡◌, ℕ, zero, suc, Bool, true, false, ◌||◌, not, List, [], ◌∷◌, Option, Some, None, refl, sym, ap, ◌∙◌, subst}
 use Rattle.std.specs.Prelude.{codes}
 use Rattle.es6_lexer.specs.declared.token.TokenKind.TheVariants as kinds
@@ -30,12 +29,8 @@ use Rattle.es6_reading.proofs.Derived.{ReadWhole, NameIn, BlockIn, IsUnderLabel,
 use Rattle.es6_reading.proofs.SoundPatterns.{name-rule, sound-identifier}
 use Rattle.es6_reading.proofs.SoundFunctions.{sound-block, FunctionIn, sound-named-function, sound-function, ClassIn, sound-class}
 use Rattle.es6_reading.proofs.SoundStatements.{sound-semicolon, not-word, DeclaresIn, sound-declares, var-rule, lexical-rule, ParenIn, paren, sound-paren, sound-if, sound-do, sound-while}
+use Rattle.es6_reading.proofs.SoundLevels.{sound-sequence}
 use Rattle.es6_reading.proofs.SoundLoops.{sound-for}
-
--- the readers of expressions at the same depth
-pub record Whole (i : Inner) : Type 0 where
-  pub sequence_of : (f : Flags) (s : Input) → Holds (ReadWhole f level_sequence s) (sequence i f s)
-  pub assignment_of : (f : Flags) (s : Input) → Holds (ReadWhole f level_assignment s) (assignment i f s)
 
 -- ## Jumps
 
@@ -92,27 +87,27 @@ data ReturnedIn (f : Flags) : Input → Option Expression → Input → Type 0 w
   returns_nothing : {s : Input} → ReturnedIn f s None s
   returns_value : {s c : Input} {x : Expression} → ValueIn f s x c → ReturnedIn f s (Some x) c
 
-sound-returned : (i : Inner) (whole : Whole i) (f : Flags) (s : Input) → Holds (ReturnedIn f s) (returned i f s)
+sound-returned : (i : Inner) (sound : Sound i) (f : Flags) (s : Input) → Holds (ReturnedIn f s) (returned i f s)
 unfolding returned
-sound-returned i whole f s = if-holds _ _ _ s
-    (λ h. bind (whole.sequence_of (with_in f) s) λ x c r. took (returns_value (value-on-line f s.tokens s.last x c (on-line s.tokens h) r)))
+sound-returned i sound f s = if-holds _ _ _ s
+    (λ h. bind (sound-sequence i sound (with_in f) s) λ x c r. took (returns_value (value-on-line f s.tokens s.last x c (on-line s.tokens h) r)))
     (λ h. took returns_nothing)
 
 return-rule : (f : Flags) {s a b c : Input} {x : Option Expression} → f.has_return ≡ true → Next (IsWord (codes "return")) s a → ReturnedIn f a x b → Next IsEnd b c → StatementIn f Under s (stat.Return (record { begin = begin_of s.tokens; end = c.last }) x) c
 return-rule f h (next {t = t} w) returns_nothing (next {t = u} {ts = us} e) = (one ⟫ one, g.return_bare _ h w e (ap (λ span. stat.Return span None) (span-across (one {t = t} {last = 0} ⟫ one {t = u} {ts = us}))))
 return-rule f h (next w) (returns_value (value_in {x = x} l m d)) (next e) = (one ⟫ m ⟫ one, g.return_value x _ h w l d e (ap (λ span. stat.Return span (Some x)) (span-across (one {last = 0} ⟫ m ⟫ one))))
 
-pub sound-return : (i : Inner) (sound : Sound i) (whole : Whole i) (f : Flags) (s a : Input) → f.has_return ≡ true → Next (IsWord (codes "return")) s a → Holds (StatementIn f Under s) (return_statement i f (begin_of s.tokens) a)
+pub sound-return : (i : Inner) (sound : Sound i) (f : Flags) (s a : Input) → f.has_return ≡ true → Next (IsWord (codes "return")) s a → Holds (StatementIn f Under s) (return_statement i f (begin_of s.tokens) a)
 unfolding return_statement
-sound-return i sound whole f s a h w = bind (sound-returned i whole f a) λ x b d. bind (sound-semicolon i sound b) λ u c e. took (return-rule f h w d e)
+sound-return i sound f s a h w = bind (sound-returned i sound f a) λ x b d. bind (sound-semicolon i sound b) λ u c e. took (return-rule f h w d e)
 
 throw-rule : (f : Flags) {s a b c : Input} {x : Expression} → Next (IsWord (codes "throw")) s a → ValueIn f a x b → Next IsEnd b c → StatementIn f Under s (stat.Throw (record { begin = begin_of s.tokens; end = c.last }) x) c
 throw-rule f {x = x} (next w) (value_in l m d) (next e) = (one ⟫ m ⟫ one, g.throw x _ w l d e (ap (λ span. stat.Throw span x) (span-across (one {last = 0} ⟫ m ⟫ one))))
 
-pub sound-throw : (i : Inner) (sound : Sound i) (whole : Whole i) (f : Flags) (s a : Input) → Next (IsWord (codes "throw")) s a → Holds (StatementIn f Under s) (throw_statement i f (begin_of s.tokens) a)
+pub sound-throw : (i : Inner) (sound : Sound i) (f : Flags) (s a : Input) → Next (IsWord (codes "throw")) s a → Holds (StatementIn f Under s) (throw_statement i f (begin_of s.tokens) a)
 unfolding throw_statement
-sound-throw i sound whole f s a w = if-holds _ _ _ a (λ h. refused-holds a)
-    (λ h. bind (whole.sequence_of (with_in f) a) λ x b r. bind (sound-semicolon i sound b) λ u c e. took (throw-rule f w (value-on-line f a.tokens a.last x b h r) e))
+sound-throw i sound f s a w = if-holds _ _ _ a (λ h. refused-holds a)
+    (λ h. bind (sound-sequence i sound (with_in f) a) λ x b r. bind (sound-semicolon i sound b) λ u c e. took (throw-rule f w (value-on-line f a.tokens a.last x b h r) e))
 
 debugger-rule : (f : Flags) {s a c : Input} → Next (IsWord (codes "debugger")) s a → Next IsEnd a c → StatementIn f Under s (stat.Debugger (record { begin = begin_of s.tokens; end = c.last })) c
 debugger-rule f (next {t = t} w) (next {t = u} {ts = ts} e) = (one ⟫ one, g.debugger _ w e (ap (λ span. stat.Debugger span) (span-across (one {t = t} {last = 0} ⟫ one {t = u} {ts = ts}))))

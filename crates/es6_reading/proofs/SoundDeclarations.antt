@@ -1,5 +1,5 @@
 -- What the readers of labels and declarations give is derived, and so is every statement, if the readers for one construct deeper
--- are sound, and those of expressions at the same depth.
+-- are sound.
 use Rattle.std.proofs.Common.{◌≡◌, ℕ, zero, suc, Bool, true, false, ◌||◌, not, List, [], ◌∷◌, Option, Some, None, refl, sym, ap, ◌∙◌, subst}
 use Rattle.std.specs.Prelude.{codes}
 use Rattle.es6_lexer.specs.declared.token.TokenKind.TheVariants as kinds
@@ -30,8 +30,9 @@ use Rattle.es6_reading.proofs.Derived.{ReadWhole, NameIn, BlockIn, IsUnderLabel,
 use Rattle.es6_reading.proofs.SoundPatterns.{name-rule, sound-identifier}
 use Rattle.es6_reading.proofs.SoundFunctions.{sound-block, FunctionIn, sound-named-function, sound-function, ClassIn, sound-class}
 use Rattle.es6_reading.proofs.SoundStatements.{sound-semicolon, not-word, DeclaresIn, sound-declares, var-rule, lexical-rule, ParenIn, paren, sound-paren, sound-if, sound-do, sound-while}
+use Rattle.es6_reading.proofs.SoundLevels.{sound-sequence}
 use Rattle.es6_reading.proofs.SoundLoops.{sound-for}
-use Rattle.es6_reading.proofs.SoundCompound.{Whole, sound-continue, sound-break, sound-return, sound-throw, sound-debugger, sound-switch, sound-try}
+use Rattle.es6_reading.proofs.SoundCompound.{sound-continue, sound-break, sound-return, sound-throw, sound-debugger, sound-switch, sound-try}
 
 -- ## First tokens
 
@@ -84,13 +85,13 @@ sound-label-or-end : (i : Inner) (sound : Sound i) (f : Flags) (s a : Input) (x 
 sound-label-or-end i sound f s a x h r (Some label) e = on-mark _ _ _ a (λ t b q. sound-labelled i sound f label s a b r.moves (r.named label e) q) (λ m. sound-expression-end i sound f s a x h r)
 sound-label-or-end i sound f s a x h r None e = sound-expression-end i sound f s a x h r
 
-sound-expression-statement : (i : Inner) (sound : Sound i) (whole : Whole i) (f : Flags) (s : Input) → BeginsExpression s → Holds (StatementIn f Under s) (expression_statement i f (begin_of s.tokens) s)
+sound-expression-statement : (i : Inner) (sound : Sound i) (f : Flags) (s : Input) → BeginsExpression s → Holds (StatementIn f Under s) (expression_statement i f (begin_of s.tokens) s)
 unfolding expression_statement
-sound-expression-statement i sound whole f s h = bind (whole.sequence_of f s) λ x a r. sound-label-or-end i sound f s a x h r (label_of x.shape x.value) refl
+sound-expression-statement i sound f s h = bind (sound-sequence i sound f s) λ x a r. sound-label-or-end i sound f s a x h r (label_of x.shape x.value) refl
 
-sound-plain : (i : Inner) (sound : Sound i) (whole : Whole i) (f : Flags) (s : Input) → next_is (next_mark marks.LeftBrace) s.tokens ≡ false → Holds (StatementIn f Under s) (plain_statement i f (begin_of s.tokens) s)
+sound-plain : (i : Inner) (sound : Sound i) (f : Flags) (s : Input) → next_is (next_mark marks.LeftBrace) s.tokens ≡ false → Holds (StatementIn f Under s) (plain_statement i f (begin_of s.tokens) s)
 unfolding plain_statement
-sound-plain i sound whole f s brace = if-holds _ _ _ s (λ w. fault) (λ w. if-holds _ _ _ s (λ k. fault) (λ k. sound-expression-statement i sound whole f s (begins-expression s brace k)))
+sound-plain i sound f s brace = if-holds _ _ _ s (λ w. fault) (λ w. if-holds _ _ _ s (λ k. fault) (λ k. sound-expression-statement i sound f s (begins-expression s brace k)))
 
 -- ## Declarations
 
@@ -140,33 +141,33 @@ at-stand f Listed (m, d) = (m, g.listed_statement _ d)
 at-stand f Under (m, d) = (m, d)
 at-stand f Labelled (m, d) = (m, statement_under d)
 
-sound-more : (i : Inner) (sound : Sound i) (whole : Whole i) (f : Flags) (stand : Stand) (s : Input) → next_is (next_mark marks.LeftBrace) s.tokens ≡ false → Holds (StatementIn f stand s) (on_more i f stand (begin_of s.tokens) (plain_statement i f (begin_of s.tokens)) s)
-sound-more i sound whole f Listed s brace = declaration-holds i sound f _ s (λ x c d. (d.0, g.listed_declaration x d.1)) (weaken (sound-plain i sound whole f s brace) (λ x c d. at-stand f Listed d))
-sound-more i sound whole f Under s brace = sound-plain i sound whole f s brace
-sound-more i sound whole f Labelled s brace = on-word _ _ _ s (λ t a w. sound-labelled-function i sound f s a w) (λ m. weaken (sound-plain i sound whole f s brace) (λ x c d. at-stand f Labelled d))
+sound-more : (i : Inner) (sound : Sound i) (f : Flags) (stand : Stand) (s : Input) → next_is (next_mark marks.LeftBrace) s.tokens ≡ false → Holds (StatementIn f stand s) (on_more i f stand (begin_of s.tokens) (plain_statement i f (begin_of s.tokens)) s)
+sound-more i sound f Listed s brace = declaration-holds i sound f _ s (λ x c d. (d.0, g.listed_declaration x d.1)) (weaken (sound-plain i sound f s brace) (λ x c d. at-stand f Listed d))
+sound-more i sound f Under s brace = sound-plain i sound f s brace
+sound-more i sound f Labelled s brace = on-word _ _ _ s (λ t a w. sound-labelled-function i sound f s a w) (λ m. weaken (sound-plain i sound f s brace) (λ x c d. at-stand f Labelled d))
 
-sound-jump : (i : Inner) (sound : Sound i) (whole : Whole i) (f : Flags) (stand : Stand) (s : Input) → next_is (next_mark marks.LeftBrace) s.tokens ≡ false → Holds (StatementIn f stand s) (jump_statement i f stand (begin_of s.tokens) s)
+sound-jump : (i : Inner) (sound : Sound i) (f : Flags) (stand : Stand) (s : Input) → next_is (next_mark marks.LeftBrace) s.tokens ≡ false → Holds (StatementIn f stand s) (jump_statement i f stand (begin_of s.tokens) s)
 unfolding jump_statement
-sound-jump i sound whole f stand s brace =
+sound-jump i sound f stand s brace =
     on-word _ _ _ s (λ t a w. stands (sound-continue i sound f s a w)) (λ m.
     on-word _ _ _ s (λ t a w. stands (sound-break i sound f s a w)) (λ m.
-    on-word _ _ _ s (λ t a w. stands (sound-throw i sound whole f s a w)) (λ m.
+    on-word _ _ _ s (λ t a w. stands (sound-throw i sound f s a w)) (λ m.
     on-word _ _ _ s (λ t a w. stands (sound-debugger i sound f s a w)) (λ m.
     choose-holds _ _ f.has_return s
-    (λ h. on-word _ _ _ s (λ t a w. stands (sound-return i sound whole f s a h w)) (λ m. sound-more i sound whole f stand s brace))
-    (λ h. sound-more i sound whole f stand s brace)))))
+    (λ h. on-word _ _ _ s (λ t a w. stands (sound-return i sound f s a h w)) (λ m. sound-more i sound f stand s brace))
+    (λ h. sound-more i sound f stand s brace)))))
   where
     stands : {o : Outcome Statement} → Holds (StatementIn f Under s) o → Holds (StatementIn f stand s) o
     stands h = weaken h (λ x c d. at-stand f stand d)
 
-sound-compound : (i : Inner) (sound : Sound i) (whole : Whole i) (f : Flags) (stand : Stand) (s : Input) → next_is (next_mark marks.LeftBrace) s.tokens ≡ false → Holds (StatementIn f stand s) (compound_statement i f stand (begin_of s.tokens) s)
+sound-compound : (i : Inner) (sound : Sound i) (f : Flags) (stand : Stand) (s : Input) → next_is (next_mark marks.LeftBrace) s.tokens ≡ false → Holds (StatementIn f stand s) (compound_statement i f stand (begin_of s.tokens) s)
 unfolding compound_statement
-sound-compound i sound whole f stand s brace =
+sound-compound i sound f stand s brace =
     on-word _ _ _ s (λ t a w. stands (sound-do i sound f s a w)) (λ m.
     on-word _ _ _ s (λ t a w. stands (sound-while i sound f s a w)) (λ m.
     on-word _ _ _ s (λ t a w. stands (sound-for i sound f s a w)) (λ m.
     on-word _ _ _ s (λ t a w. stands (sound-switch i sound f s a w)) (λ m.
-    on-word _ _ _ s (λ t a w. stands (sound-try i sound f s a w)) (λ m. sound-jump i sound whole f stand s brace)))))
+    on-word _ _ _ s (λ t a w. stands (sound-try i sound f s a w)) (λ m. sound-jump i sound f stand s brace)))))
   where
     stands : {o : Outcome Statement} → Holds (StatementIn f Under s) o → Holds (StatementIn f stand s) o
     stands h = weaken h (λ x c d. at-stand f stand d)
@@ -177,13 +178,13 @@ empty-rule f (next {t = t} {ts = ts} e) = (one, g.empty _ e refl)
 block-statement-rule : (f : Flags) {s c : Input} {b : Block} → BlockIn f s b c → StatementIn f Under s (stat.Block b) c
 block-statement-rule f (m, d) = (m, g.block _ _ d refl)
 
-pub sound-statement : (i : Inner) (sound : Sound i) (whole : Whole i) (f : Flags) (stand : Stand) (s : Input) → Holds (StatementIn f stand s) (statement i f stand s)
+pub sound-statement : (i : Inner) (sound : Sound i) (f : Flags) (stand : Stand) (s : Input) → Holds (StatementIn f stand s) (statement i f stand s)
 unfolding statement block_statement
-sound-statement i sound whole f stand s = if-holds _ _ _ s
+sound-statement i sound f stand s = if-holds _ _ _ s
     (λ h. bind (sound-block i sound f s) λ b c d. took (at-stand f stand (block-statement-rule f d)))
     (λ brace. if-holds _ _ _ s (λ h. stands (sound-if i sound f s))
     (λ h. on-mark _ _ _ s (λ t c e. took (at-stand f stand (empty-rule f e)))
-    (λ m. on-word _ _ _ s (λ t a w. weaken (sound-declares i sound f Var s a) (λ x c d. at-stand f stand (var-rule f w d))) (λ m. sound-compound i sound whole f stand s brace))))
+    (λ m. on-word _ _ _ s (λ t a w. weaken (sound-declares i sound f Var s a) (λ x c d. at-stand f stand (var-rule f w d))) (λ m. sound-compound i sound f stand s brace))))
   where
     stands : {o : Outcome Statement} → Holds (StatementIn f Under s) o → Holds (StatementIn f stand s) o
     stands h = weaken h (λ x c d. at-stand f stand d)

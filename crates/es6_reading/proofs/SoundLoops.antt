@@ -28,6 +28,9 @@ use Rattle.es6_reading.proofs.Meanings.{kind-means}
 use Rattle.es6_reading.proofs.Spans.{Moves, Goes, stays, goes, then-goes, ◌⟫◌, span-across}
 use Rattle.es6_reading.proofs.Derived.{ReadWhole, IsInitialized, lone_name, lone_pattern, with_initializer, InitializedIn, StatementIn, Sound, Next, next, on-means, one, step, on-mark, take-mark, on-word, take-word, group-holds}
 use Rattle.es6_reading.proofs.SoundPatterns.{target-to}
+use Rattle.es6_reading.proofs.SoundPrimary.{refined-so}
+use Rattle.es6_reading.proofs.SoundLevels.{fitting-holds}
+use Rattle.es6_reading.proofs.RefineMisfits.{assigned}
 use Rattle.es6_reading.proofs.SoundStatements.{variable-of, VariableIn, VariablesIn, variables_in, variables-next, variables-last, sound-variables}
 
 -- ## What follows the first semicolon
@@ -115,15 +118,10 @@ sound-first-expression : (i : Inner) (sound : Sound i) (f : Flags) (x : Reading)
 unfolding first_expression
 sound-first-expression i sound f x s a r = bind (take-mark _ a) λ t c e. sound-rest-of-for i sound f _ s c (first-expression f x r e)
 
-fitting-holds : {A B : Type 0} {Q : B → Input → Type 0} (r : Refined A) (p : A → Parser B) (s : Input) → ((x : A) → r ≡ Fits x → Holds Q (p x s)) → Holds Q (after (fitting r s) p)
-fitting-holds (Fits x) p s f = f x refl
-fitting-holds (Misfit at) p s f = bind {P = λ x c. ⊥} (refused-holds s) (λ x c h. absurd h)
-fitting-holds TooNested p s f = fault
-
 sound-in-turn : (i : Inner) (sound : Sound i) (f : Flags) (x : Reading) (s a b : Input) → ReadWhole (without_in f) level_sequence s x a → is_left x.shape ≡ true → Next (IsWord (codes "of")) a b → Holds (HeaderIn f s) (assigned_in_turn i f x.value b)
 unfolding assigned_in_turn
 sound-in-turn i sound f x s a b r h w = fitting-holds (target_before i.fuel assign.Assign x.value) _ b
-    (λ p e. sound-rest-of-of i sound f (Assigned p) s a b (r.moves, g.assigned_in_turn p _ (sound.refines.target i.fuel (without_in f) assign.Assign s.tokens a.tokens x.value p (r.left_side h) e) refl) w)
+    (λ p e. sound-rest-of-of i sound f (Assigned p) s a b (r.moves, g.assigned_in_turn p _ (refined-so (assigned i.fuel (without_in f) assign.Assign s.tokens a.tokens x.value (r.left_side h)) e) refl) w)
 
 sound-for-expression : (i : Inner) (sound : Sound i) (f : Flags) (s : Input) → Holds (HeaderIn f s) (for_expression i f s)
 unfolding for_expression

@@ -1,4 +1,4 @@
--- What the readers of exports give is derived, and so is every module, if the readers of what constructs hold are sound.
+-- What the readers of exports give is derived, and so is every module, if the readers of what its constructs hold are sound.
 use Rattle.std.proofs.Common.{◌≡◌, ℕ, zero, suc, Bool, true, false, ◌&&◌, cond, List, [], ◌∷◌, Option, Some, None, refl, sym, ap, ◌∙◌, subst}
 use Rattle.std.proofs.lemmas.Bool.{true≢false}
 use Rattle.std.specs.Prelude.{codes}
@@ -32,8 +32,8 @@ use Rattle.es6_reading.proofs.Spans.{Moves, Goes, stays, goes, goes-on, ◌⟫�
 use Rattle.es6_reading.proofs.Derived.{ReadWhole, StatementIn, Sound, Next, next, on-means, take-means, one, on-mark, take-mark, on-word, group-holds}
 use Rattle.es6_reading.proofs.SoundPatterns.{AnyNameIn, sound-any-name, name-span}
 use Rattle.es6_reading.proofs.SoundFunctions.{FunctionIn, sound-function, ClassIn, sound-class}
+use Rattle.es6_reading.proofs.SoundLevels.{sound-assignment}
 use Rattle.es6_reading.proofs.SoundStatements.{sound-semicolon, misses-word, DeclaresIn, declares, sound-declares, var-rule}
-use Rattle.es6_reading.proofs.SoundCompound.{Whole}
 use Rattle.es6_reading.proofs.SoundDeclarations.{DeclarationIn, declaration-holds, sound-statement}
 use Rattle.es6_reading.proofs.SoundImports.{free-of, FromIn, sound-from, ItemIn, sound-import-item}
 
@@ -142,16 +142,16 @@ default-value-rule : {span : Span} {s a b d c : Input} (x : Reading) → Next (I
 default-value-rule {span = span} {s = s} {c = c} x (next w) (next p) h k r (next e) =
     (one ⟫ one ⟫ r.moves ⟫ one, m.default_value x.value _ w p.0 h k r.derived e (ap (λ z. item.ExportDefault z span (DefaultValue x.value)) (span-across (one {last = 0} ⟫ one ⟫ r.moves ⟫ one)) ∙ ap (λ z. item.ExportDefault (across s.tokens c.tokens) z (DefaultValue x.value)) (sym p.1)))
 
-sound-default-value : (i : Inner) (sound : Sound i) (whole : Whole i) (span : Span) (s a b : Input) → Next (IsWord (codes "export")) s a → Next (IsDefault span) a b → NotWord (codes "function") b.tokens → NotWord (codes "class") b.tokens → Holds (ItemIn s) (default_value i (begin_of s.tokens) span b)
+sound-default-value : (i : Inner) (sound : Sound i) (span : Span) (s a b : Input) → Next (IsWord (codes "export")) s a → Next (IsDefault span) a b → NotWord (codes "function") b.tokens → NotWord (codes "class") b.tokens → Holds (ItemIn s) (default_value i (begin_of s.tokens) span b)
 unfolding default_value
-sound-default-value i sound whole span s a b w p h k = bind (whole.assignment_of of_module b) λ x d r. bind (sound-semicolon i sound d) λ u c e. took (default-value-rule x w p h k r e)
+sound-default-value i sound span s a b w p h k = bind (sound-assignment i sound of_module b) λ x d r. bind (sound-semicolon i sound d) λ u c e. took (default-value-rule x w p h k r e)
 
-sound-export-default : (i : Inner) (sound : Sound i) (whole : Whole i) (span : Span) (s a b : Input) → Next (IsWord (codes "export")) s a → Next (IsDefault span) a b → Holds (ItemIn s) (export_default i (begin_of s.tokens) span b)
+sound-export-default : (i : Inner) (sound : Sound i) (span : Span) (s a b : Input) → Next (IsWord (codes "export")) s a → Next (IsDefault span) a b → Holds (ItemIn s) (export_default i (begin_of s.tokens) span b)
 unfolding export_default
-sound-export-default i sound whole span s a b w p =
+sound-export-default i sound span s a b w p =
     on-word _ _ _ b (λ t d u. bind (sound-function i sound true b d u) λ k c e. took (default-function-rule w p e)) (λ h.
     on-word _ _ _ b (λ t d u. bind (sound-class i sound of_module true b d u) λ k c e. took (default-class-rule w p e)) (λ k.
-    sound-default-value i sound whole span s a b w p (misses-word (codes "function") b.tokens h) (misses-word (codes "class") b.tokens k)))
+    sound-default-value i sound span s a b w p (misses-word (codes "function") b.tokens h) (misses-word (codes "class") b.tokens k)))
 
 -- what is declared and exported
 data ExportedIn : Input → Statement → Input → Type 0 where
@@ -177,10 +177,10 @@ sound-export-declaration i sound s a w = bind (sound-exported i sound a) λ x c 
 default-means : (u t : Filled) → word (codes "default") t ≡ Some u → IsDefault u.span t
 default-means u t h = let e = word-means (codes "default") t u h in (e.0, ap (λ k. k.span) e.1)
 
-sound-export-item : (i : Inner) (sound : Sound i) (whole : Whole i) (s a : Input) → Next (IsWord (codes "export")) s a → Holds (ItemIn s) (export_item i (begin_of s.tokens) a)
+sound-export-item : (i : Inner) (sound : Sound i) (s a : Input) → Next (IsWord (codes "export")) s a → Holds (ItemIn s) (export_item i (begin_of s.tokens) a)
 unfolding export_item
-sound-export-item i sound whole s a w = on-mark _ _ _ a (λ t b p. sound-export-all i sound s a b w p) (λ k.
-    on-means (word (codes "default")) (λ u t. IsDefault u.span t) default-means _ _ a (λ u b p. sound-export-default i sound whole u.span s a b w p) (λ k.
+sound-export-item i sound s a w = on-mark _ _ _ a (λ t b p. sound-export-all i sound s a b w p) (λ k.
+    on-means (word (codes "default")) (λ u t. IsDefault u.span t) default-means _ _ a (λ u b p. sound-export-default i sound u.span s a b w p) (λ k.
     if-holds _ _ _ a (λ h. sound-export-names i sound s a w) (λ h. sound-export-declaration i sound s a w)))
 
 -- ## Modules
@@ -188,10 +188,10 @@ sound-export-item i sound whole s a w = on-mark _ _ _ a (λ t b p. sound-export-
 statement-item-rule : {s c : Input} {x : Statement} → StatementIn of_module Listed s x c → ItemIn s (item.Statement x) c
 statement-item-rule (m', d) = (m', m.statement_item _ _ d refl)
 
-sound-item : (i : Inner) (sound : Sound i) (whole : Whole i) (s : Input) → Holds (ItemIn s) (one_item i s)
+sound-item : (i : Inner) (sound : Sound i) (s : Input) → Holds (ItemIn s) (one_item i s)
 unfolding one_item statement_item
-sound-item i sound whole s = on-word _ _ _ s (λ t a w. sound-import-item i sound s a w) (λ k. on-word _ _ _ s (λ t a w. sound-export-item i sound whole s a w)
-    (λ k. bind (sound-statement i sound whole of_module Listed s) λ x c d. took (statement-item-rule d)))
+sound-item i sound s = on-word _ _ _ s (λ t a w. sound-import-item i sound s a w) (λ k. on-word _ _ _ s (λ t a w. sound-export-item i sound s a w)
+    (λ k. bind (sound-statement i sound of_module Listed s) λ x c d. took (statement-item-rule d)))
 
 data ItemsIn : Input → List Item → Input → Type 0 where
   items_in : {s c : Input} {xs : List Item} → AreItems s.tokens xs c.tokens → ItemsIn s xs c
@@ -199,11 +199,11 @@ data ItemsIn : Input → List Item → Input → Type 0 where
 items-next : {s a c : Input} {x : Item} {xs : List Item} → ItemIn s x a → ItemsIn a xs c → ItemsIn s (x ∷ xs) c
 items-next (m', d) (items_in ds) = items_in (m.next_item _ _ d ds)
 
-sound-items : (i : Inner) (sound : Sound i) (whole : Whole i) (turns : ℕ) (s : Input) → Holds (ItemsIn s) (items i turns s)
+sound-items : (i : Inner) (sound : Sound i) (turns : ℕ) (s : Input) → Holds (ItemsIn s) (items i turns s)
 unfolding items
-sound-items i sound whole zero s = fault
-sound-items i sound whole (suc turns) s = if-holds _ _ _ s (λ h. took (items_in m.no_item))
-    (λ h. bind (sound-item i sound whole s) λ x a d. bind (sound-items i sound whole turns a) λ xs c ds. took (items-next d ds))
+sound-items i sound zero s = fault
+sound-items i sound (suc turns) s = if-holds _ _ _ s (λ h. took (items_in m.no_item))
+    (λ h. bind (sound-item i sound s) λ x a d. bind (sound-items i sound turns a) λ xs c ds. took (items-next d ds))
 
 abbrev IsLast : Filled → Filled → Type 0
 IsLast u t = (t.kind ≡ Read kinds.End) × (t ≡ u)
@@ -228,8 +228,8 @@ last-rule : {s a : Input} {xs : List Item} {u : Filled} {ts : List Filled} {last
 last-rule {xs = xs} {ts = []} (items_in ds) (next e) h = (refl, m.module_ xs _ ds e.0 (ap (λ (t : Filled). record { span = record { begin = 0; end = t.span.end }; items = xs }) (sym e.1)))
 last-rule {ts = t ∷ ts} d e h = absurd (true≢false h)
 
-pub sound-module : (i : Inner) (sound : Sound i) (whole : Whole i) (s : Input) → Holds (ModuleOf s) (whole_module i s)
+pub sound-module : (i : Inner) (sound : Sound i) (s : Input) → Holds (ModuleOf s) (whole_module i s)
 unfolding whole_module
-sound-module i sound whole s = bind (sound-items i sound whole i.fuel s) λ xs a d. bind (take-means end_at IsLast end-means a) λ u c e. if-holds _ _ _ c
+sound-module i sound s = bind (sound-items i sound i.fuel s) λ xs a d. bind (take-means end_at IsLast end-means a) λ u c e. if-holds _ _ _ c
     (λ h. refused-holds c)
     (λ h. took (last-rule d e h))
