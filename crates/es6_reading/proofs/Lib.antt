@@ -15,6 +15,7 @@ pub mod SoundFunctions
 pub mod SoundPrimary
 pub mod SoundChains
 pub mod SoundLevels
+pub mod SoundProperties
 pub mod Examples
 pub mod SoundStatements
 pub mod SoundLoops

@@ -130,7 +130,7 @@ MethodIn f s x c = Moves s c × IsMethod f s.tokens x c.tokens
 abbrev placed : ℕ → ℕ → Span
 placed begin end = record { begin = begin; end = end }
 
-both : {A B C : Type 0} (make : A → B → C) {a b : A} {c d : B} → a ≡ b → c ≡ d → make a c ≡ make b d
+pub both : {A B C : Type 0} (make : A → B → C) {a b : A} {c d : B} → a ≡ b → c ≡ d → make a c ≡ make b d
 both make {a = a} {d = d} e h = ap (λ span. make a span) h ∙ ap (λ span. make span d) e
 
 plain-rule : (f : Flags) {s a c : Input} {k : Key} {es : List Parameter} {ss : List Statement} → KeyIn f s k a → SignatureIn false a es ss c
