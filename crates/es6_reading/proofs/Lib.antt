@@ -16,10 +16,11 @@ pub mod SoundPrimary
 pub mod SoundChains
 pub mod SoundLevels
 pub mod SoundProperties
-pub mod Examples
 pub mod SoundStatements
 pub mod SoundLoops
 pub mod SoundCompound
 pub mod SoundDeclarations
 pub mod SoundImports
 pub mod SoundModules
+pub mod Soundness
+pub mod Examples

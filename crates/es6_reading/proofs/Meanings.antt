@@ -79,7 +79,6 @@ spelled_so [] w = None
 spelled_so (p ∷ ps) w = cond (bytes_eq (spelling p) w) (Some p) (spelled_so ps w)
 
 own-spelling : (p : Mark) → spelled_so all_marks (spelling p) ≡ Some p
-
 own-spelling marks.LeftBrace = refl
 own-spelling marks.RightBrace = refl
 own-spelling marks.LeftParenthesis = refl
@@ -267,9 +266,11 @@ stretch-is : (first last : Bool) (span : Span) (k : Filling) (s : Stretch) → s
     → (k ≡ Read (kinds.Template s.cooked s.raw first last)) × (s.span ≡ span)
 stretch-is first last span (Read (kinds.Template cooked raw a b)) s h =
     let e = stretch-if-is (same_truth first a && same_truth last b) span cooked raw s h in
-    let f = and_true (same_truth first a) (same_truth last b) e.0 in
-    (stretch-kind first last a b cooked raw (same-truth-is first a f.0) (same-truth-is last b f.1)
-    ∙ ap (λ r. Read (kinds.Template r.cooked r.raw first last)) (sym e.1), ap (λ r. r.span) e.1)
+    let f = and_true (same_truth first a) (same_truth last b) e.0 in (
+      stretch-kind first last a b cooked raw (same-truth-is first a f.0) (same-truth-is last b f.1)
+          ∙ ap (λ r. Read (kinds.Template r.cooked r.raw first last)) (sym e.1),
+      ap (λ r. r.span) e.1,
+    )
 stretch-is first last span k s h = absurd (cc)
 
 -- the token is such a stretch of a template

@@ -1,9 +1,7 @@
 -- What the readers of jumps, switches and tries give is derived, if the readers for one construct deeper are sound.
-use Rattle.std.proofs.Common.{◌≡◌, ℕ, zero, suc, Bool, true, false, ◌||◌, not, List, [], ◌∷◌, Option, Some, None, refl, sym, ap, ◌∙◌, subst}
+use Rattle.std.proofs.Common.{◌≡◌, ℕ, zero, suc, Bool, true, false, ◌||◌, List, [], ◌∷◌, Option, Some, None, refl, sym, ap, subst}
 use Rattle.std.specs.Prelude.{codes}
-use Rattle.es6_lexer.specs.declared.token.TokenKind.TheVariants as kinds
 use Rattle.es6_lexer.specs.declared.token.Punctuator.TheVariants as marks
-use Rattle.es6_ast.specs.declared.operators.VariableKind.TheVariants.{Var}
 use Rattle.es6_ast.specs.declared.tree.Identifier.{Identifier}
 use Rattle.es6_ast.specs.declared.tree.Expression.{Expression}
 use Rattle.es6_ast.specs.declared.tree.Statement.{Statement}
@@ -12,25 +10,20 @@ use Rattle.es6_ast.specs.declared.tree.Pattern.{Pattern}
 use Rattle.es6_ast.specs.declared.tree.Block.{Block}
 use Rattle.es6_ast.specs.declared.tree.Case.{Case, roll-Case}
 use Rattle.es6_ast.specs.declared.tree.Catch.{Catch, roll-Catch}
-use Rattle.es6_ast.specs.declared.tree.Function.{Function}
-use Rattle.es6_ast.specs.declared.tree.Class.{Class}
-use Rattle.es6_ast.specs.Tokens.{Filling, Read, Inserted, Filled, IsWord, IsMark, IsOnLine, is_left_brace, is_star, is_identifier, begins, begin_of}
+use Rattle.es6_ast.specs.Tokens.{Filled, IsWord, IsMark, IsOnLine, begin_of}
 use Rattle.es6_ast.specs.Grammar as g
 use Rattle.es6_ast.specs.Grammar.{Flags, with_in, level_sequence, level_assignment, ends, NotBrace, NotStar, NotWord, IsEnd, IsName, IsStar, IsExpression, IsTarget, IsFunction, IsStatement, IsDeclaration, IsListed, IsLabel, IsCatch, AreCases, AreInCase}
-use Rattle.es6_reading.specs.Parser.{Input, Outcome, Took, Fault, Parser, next_is, is_mark, next_mark, next_word, Reading, Stand, Listed, Under, Labelled, Inner, ends_block}
-use Rattle.es6_reading.specs.Words.{free_name, lexical_kind_at}
-use Rattle.es6_reading.specs.Parts.{rest_of_function, named_function}
-use Rattle.es6_reading.specs.Expressions.{sequence, assignment}
-use Rattle.es6_reading.specs.Statements.{label_if, label_at, optional_label, continue_statement, break_statement, goes_on, returned, return_statement, begins_line, throw_statement, ends_case, in_case, case_clause, default_clause, cases, switch_statement, catch_parameter, handler, after_handler, only_finally, try_statement, debugger_statement, expression_end, labelled, label_of, label_or_end, expression_statement, function_declaration, class_declaration, on_declaration, labelled_function, on_more, begins_declaration, plain_statement, jump_statement, compound_statement, block_statement, statement}
+use Rattle.es6_reading.specs.Parser.{Input, next_is, Reading, Listed, Under, Inner, ends_block}
+use Rattle.es6_reading.specs.Words.{free_name}
+use Rattle.es6_reading.specs.Statements.{label_if, label_at, optional_label, continue_statement, break_statement, goes_on, returned, return_statement, begins_line, throw_statement, in_case, case_clause, default_clause, cases, switch_statement, catch_parameter, handler, after_handler, only_finally, try_statement, debugger_statement}
 use Rattle.es6_reading.proofs.Posts.{Holds, took, fault, bind, weaken, choose-holds, if-holds, refused-holds}
-use Rattle.es6_reading.proofs.Meanings.{or_false, not_true, free-name-means, lexical-kind-means}
+use Rattle.es6_reading.proofs.Meanings.{or_false, not_true, free-name-means}
 use Rattle.es6_reading.proofs.Spans.{Moves, Goes, stays, goes, goes-on, then-goes, ◌⟫◌, span-across}
-use Rattle.es6_reading.proofs.Derived.{ReadWhole, NameIn, BlockIn, IsUnderLabel, statement_under, function_under, IsAtStand, StatementIn, Sound, Next, next, on-means, one, on-mark, take-mark, on-word, take-word, group-holds, IsFree}
-use Rattle.es6_reading.proofs.SoundPatterns.{name-rule, sound-identifier}
-use Rattle.es6_reading.proofs.SoundFunctions.{sound-block, FunctionIn, sound-named-function, sound-function, ClassIn, sound-class}
-use Rattle.es6_reading.proofs.SoundStatements.{sound-semicolon, not-word, DeclaresIn, sound-declares, var-rule, lexical-rule, ParenIn, paren, sound-paren, sound-if, sound-do, sound-while}
+use Rattle.es6_reading.proofs.Derived.{ReadWhole, BlockIn, StatementIn, Sound, Next, next, on-means, one, on-mark, take-mark, on-word, take-word, group-holds, IsFree}
+use Rattle.es6_reading.proofs.SoundPatterns.{name-rule}
+use Rattle.es6_reading.proofs.SoundFunctions.{sound-block}
+use Rattle.es6_reading.proofs.SoundStatements.{sound-semicolon, ParenIn, paren, sound-paren}
 use Rattle.es6_reading.proofs.SoundLevels.{sound-sequence}
-use Rattle.es6_reading.proofs.SoundLoops.{sound-for}
 
 -- ## Jumps
 

@@ -1,35 +1,29 @@
 -- What the readers of labels and declarations give is derived, and so is every statement, if the readers for one construct deeper
 -- are sound.
-use Rattle.std.proofs.Common.{◌≡◌, ℕ, zero, suc, Bool, true, false, ◌||◌, not, List, [], ◌∷◌, Option, Some, None, refl, sym, ap, ◌∙◌, subst}
+use Rattle.std.proofs.Common.{◌≡◌, ℕ, false, List, [], ◌∷◌, Option, Some, None, refl, ap, ◌∙◌}
 use Rattle.std.specs.Prelude.{codes}
 use Rattle.es6_lexer.specs.declared.token.TokenKind.TheVariants as kinds
 use Rattle.es6_lexer.specs.declared.token.Punctuator.TheVariants as marks
 use Rattle.es6_ast.specs.declared.operators.VariableKind.TheVariants.{Var}
 use Rattle.es6_ast.specs.declared.tree.Identifier.{Identifier}
-use Rattle.es6_ast.specs.declared.tree.Expression.{Expression}
 use Rattle.es6_ast.specs.declared.tree.Statement.{Statement}
 use Rattle.es6_ast.specs.declared.tree.Statement.TheVariants as stat
-use Rattle.es6_ast.specs.declared.tree.Pattern.{Pattern}
 use Rattle.es6_ast.specs.declared.tree.Block.{Block}
-use Rattle.es6_ast.specs.declared.tree.Case.{Case, roll-Case}
-use Rattle.es6_ast.specs.declared.tree.Catch.{Catch, roll-Catch}
 use Rattle.es6_ast.specs.declared.tree.Function.{Function}
-use Rattle.es6_ast.specs.declared.tree.Class.{Class}
-use Rattle.es6_ast.specs.Tokens.{Filling, Read, Inserted, Filled, IsWord, IsMark, IsOnLine, is_left_brace, is_star, is_identifier, begins, begin_of, across}
+use Rattle.es6_ast.specs.Tokens.{Filling, Read, Filled, IsWord, IsMark, is_left_brace, begin_of, across}
 use Rattle.es6_ast.specs.Grammar as g
 use Rattle.es6_ast.specs.Grammar.{Flags, with_in, level_sequence, level_assignment, ends, NotBrace, NotStar, NotWord, IsEnd, IsName, IsStar, IsExpression, IsTarget, IsFunction, IsStatement, IsDeclaration, IsListed, IsLabel, IsCatch, AreCases, AreInCase}
-use Rattle.es6_reading.specs.Parser.{Input, Outcome, Took, Fault, Parser, next_is, is_mark, next_mark, next_word, Reading, Stand, Listed, Under, Labelled, Inner, ends_block}
-use Rattle.es6_reading.specs.Words.{free_name, lexical_kind_at}
-use Rattle.es6_reading.specs.Parts.{rest_of_function, named_function}
-use Rattle.es6_reading.specs.Expressions.{sequence, assignment}
-use Rattle.es6_reading.specs.Statements.{label_if, label_at, optional_label, continue_statement, break_statement, goes_on, returned, return_statement, begins_line, throw_statement, ends_case, in_case, case_clause, default_clause, cases, switch_statement, catch_parameter, handler, after_handler, only_finally, try_statement, debugger_statement, expression_end, labelled, label_of, label_or_end, expression_statement, function_declaration, class_declaration, on_declaration, labelled_function, on_more, begins_declaration, plain_statement, jump_statement, compound_statement, block_statement, statement}
-use Rattle.es6_reading.proofs.Posts.{Holds, took, fault, bind, weaken, choose-holds, if-holds, refused-holds}
-use Rattle.es6_reading.proofs.Meanings.{or_false, not_true, free-name-means, lexical-kind-means}
-use Rattle.es6_reading.proofs.Spans.{Moves, Goes, stays, goes, goes-on, then-goes, ◌⟫◌, span-across}
-use Rattle.es6_reading.proofs.Derived.{ReadWhole, NameIn, BlockIn, IsUnderLabel, statement_under, function_under, IsAtStand, StatementIn, Sound, Next, next, on-means, one, on-mark, take-mark, on-word, take-word, group-holds, IsFree}
-use Rattle.es6_reading.proofs.SoundPatterns.{name-rule, sound-identifier}
-use Rattle.es6_reading.proofs.SoundFunctions.{sound-block, FunctionIn, sound-named-function, sound-function, ClassIn, sound-class}
-use Rattle.es6_reading.proofs.SoundStatements.{sound-semicolon, not-word, DeclaresIn, sound-declares, var-rule, lexical-rule, ParenIn, paren, sound-paren, sound-if, sound-do, sound-while}
+use Rattle.es6_reading.specs.Parser.{Input, Outcome, Took, Fault, Parser, next_is, is_mark, next_mark, next_word, Reading, Stand, Listed, Under, Labelled, Inner}
+use Rattle.es6_reading.specs.Words.{lexical_kind_at}
+use Rattle.es6_reading.specs.Parts.{named_function}
+use Rattle.es6_reading.specs.Statements.{expression_end, labelled, label_of, label_or_end, expression_statement, function_declaration, class_declaration, on_declaration, labelled_function, on_more, begins_declaration, plain_statement, jump_statement, compound_statement, block_statement, statement}
+use Rattle.es6_reading.proofs.Posts.{Holds, took, fault, bind, weaken, choose-holds, if-holds}
+use Rattle.es6_reading.proofs.Meanings.{or_false, lexical-kind-means}
+use Rattle.es6_reading.proofs.Spans.{Moves, stays, ◌⟫◌, span-across}
+use Rattle.es6_reading.proofs.Derived.{ReadWhole, BlockIn, IsUnderLabel, statement_under, function_under, StatementIn, Sound, Next, next, on-means, one, on-mark, on-word}
+use Rattle.es6_reading.proofs.SoundPatterns.{sound-identifier}
+use Rattle.es6_reading.proofs.SoundFunctions.{sound-block, FunctionIn, sound-named-function, sound-function, sound-class}
+use Rattle.es6_reading.proofs.SoundStatements.{sound-semicolon, not-word, sound-declares, var-rule, lexical-rule, sound-if, sound-do, sound-while}
 use Rattle.es6_reading.proofs.SoundLevels.{sound-sequence}
 use Rattle.es6_reading.proofs.SoundLoops.{sound-for}
 use Rattle.es6_reading.proofs.SoundCompound.{sound-continue, sound-break, sound-return, sound-throw, sound-debugger, sound-switch, sound-try}

@@ -1,5 +1,5 @@
 -- What the readers of imports give is derived.
-use Rattle.std.proofs.Common.{◌≡◌, ℕ, zero, suc, Bool, true, false, List, [], ◌∷◌, Option, Some, None, refl, sym, ap, ◌∙◌}
+use Rattle.std.proofs.Common.{◌≡◌, ℕ, zero, suc, true, List, [], ◌∷◌, Option, Some, None, refl, sym, ap, ◌∙◌}
 use Rattle.std.specs.Prelude.{codes}
 use Rattle.es6_lexer.specs.declared.token.TokenKind.TheVariants as kinds
 use Rattle.es6_lexer.specs.declared.token.Punctuator.TheVariants as marks
@@ -10,7 +10,7 @@ use Rattle.es6_ast.specs.declared.module.Specifier.{Specifier}
 use Rattle.es6_ast.specs.declared.module.ImportedNames.{ImportedNames}
 use Rattle.es6_ast.specs.declared.module.ImportedNames.TheVariants.{NoNames, Namespace, Listed}
 use Rattle.es6_ast.specs.declared.module.ImportName.{ImportName}
-use Rattle.es6_ast.specs.Tokens.{Read, Filled, IsWord, IsMark, is_identifier, begin_of}
+use Rattle.es6_ast.specs.Tokens.{Filled, IsWord, IsMark, is_identifier, begin_of}
 use Rattle.es6_ast.specs.Grammar as g
 use Rattle.es6_ast.specs.Grammar.{IsEnd, IsName, IsAnyName}
 use Rattle.es6_ast.specs.Modules as m
@@ -18,10 +18,10 @@ use Rattle.es6_ast.specs.Modules.{IsSpecifier, IsFrom, IsImport, AreImports, Are
 use Rattle.es6_reading.specs.Parser.{Input, Inner}
 use Rattle.es6_reading.specs.Words.{text_at}
 use Rattle.es6_reading.specs.Modules.{specifier, from_clause, import_of, one_import, imports, namespace, imported_names, rest_of_import, default_import, import_alone, import_item}
-use Rattle.es6_reading.proofs.Posts.{Holds, took, fault, bind, weaken, choose-holds, if-holds, refused-holds}
+use Rattle.es6_reading.proofs.Posts.{Holds, took, fault, bind, choose-holds, if-holds, refused-holds}
 use Rattle.es6_reading.proofs.Meanings.{text-means}
 use Rattle.es6_reading.proofs.Spans.{Moves, ◌⟫◌, span-across}
-use Rattle.es6_reading.proofs.Derived.{NameIn, Sound, Next, next, take-means, one, step, IsKind, on-mark, take-mark, on-word, take-word, group-holds}
+use Rattle.es6_reading.proofs.Derived.{NameIn, Sound, Next, next, take-means, one, IsKind, on-mark, take-mark, on-word, take-word, group-holds}
 use Rattle.es6_reading.proofs.SoundPatterns.{sound-identifier, AnyNameIn, sound-any-name, name-span}
 use Rattle.es6_reading.proofs.SoundStatements.{sound-semicolon}
 

@@ -1,5 +1,5 @@
 -- What the readers of for statements give is derived, if the readers for one construct deeper are sound.
-use Rattle.std.proofs.Common.{◌≡◌, ℕ, Bool, true, false, List, [], ◌∷◌, Option, Some, None, refl, sym, ap, ◌∙◌}
+use Rattle.std.proofs.Common.{◌≡◌, true, false, List, [], ◌∷◌, Option, refl, sym, ap, ◌∙◌}
 use Rattle.std.proofs.lemmas.Bool.{true≢false}
 use Rattle.std.specs.Prelude.{codes, is_some}
 use Rattle.es6_lexer.specs.declared.token.Punctuator.{Punctuator as Mark}
@@ -9,7 +9,6 @@ use Rattle.es6_ast.specs.declared.operators.VariableKind.{VariableKind}
 use Rattle.es6_ast.specs.declared.tree.Expression.{Expression}
 use Rattle.es6_ast.specs.declared.tree.Statement.{Statement}
 use Rattle.es6_ast.specs.declared.tree.Statement.TheVariants as stat
-use Rattle.es6_ast.specs.declared.tree.Pattern.{Pattern}
 use Rattle.es6_ast.specs.declared.tree.ForFirst.{ForFirst}
 use Rattle.es6_ast.specs.declared.tree.ForFirst.TheVariants.{NoFirst, FirstVariables, FirstExpression}
 use Rattle.es6_ast.specs.declared.tree.ForTarget.{ForTarget}
@@ -18,15 +17,14 @@ use Rattle.es6_ast.specs.declared.tree.Part.{Part}
 use Rattle.es6_ast.specs.Tokens.{Filled, IsWord, IsMark, begin_of}
 use Rattle.es6_ast.specs.Grammar as g
 use Rattle.es6_ast.specs.Grammar.{Flags, with_in, without_in, level_sequence, level_assignment, kind_word, IsExpression, IsTarget, IsForFirst, IsForTarget, IsOptional}
-use Rattle.es6_reading.specs.Parser.{Input, Parser, after, mark, Reading, is_left, Under, Inner}
+use Rattle.es6_reading.specs.Parser.{Input, mark, Reading, is_left, Under, Inner}
 use Rattle.es6_reading.specs.Words.{kind_at}
-use Rattle.es6_reading.specs.Refine.{Refined, Fits, Misfit, TooNested, target_before}
-use Rattle.es6_reading.specs.Expressions.{fitting}
-use Rattle.es6_reading.specs.Statements.{is_whole, variables, Header, ForHeader, OfHeader, optional, rest_of_for, rest_of_of, first_variables, after_first_variable, after_bare_variable, for_variables, first_expression, assigned_in_turn, for_expression, for_header, loop_of, for_statement}
+use Rattle.es6_reading.specs.Refine.{target_before}
+use Rattle.es6_reading.specs.Statements.{is_whole, Header, ForHeader, OfHeader, optional, rest_of_for, rest_of_of, first_variables, after_first_variable, after_bare_variable, for_variables, first_expression, assigned_in_turn, for_expression, for_header, loop_of, for_statement}
 use Rattle.es6_reading.proofs.Posts.{Holds, took, fault, bind, weaken, choose-holds, if-holds, refused-holds}
 use Rattle.es6_reading.proofs.Meanings.{kind-means}
 use Rattle.es6_reading.proofs.Spans.{Moves, Goes, stays, goes, then-goes, ◌⟫◌, span-across}
-use Rattle.es6_reading.proofs.Derived.{ReadWhole, IsInitialized, lone_name, lone_pattern, with_initializer, InitializedIn, StatementIn, Sound, Next, next, on-means, one, step, on-mark, take-mark, on-word, take-word, group-holds}
+use Rattle.es6_reading.proofs.Derived.{ReadWhole, IsInitialized, lone_name, lone_pattern, with_initializer, InitializedIn, StatementIn, Sound, Next, next, on-means, one, on-mark, take-mark, on-word, take-word, group-holds}
 use Rattle.es6_reading.proofs.SoundPatterns.{target-to}
 use Rattle.es6_reading.proofs.SoundPrimary.{refined-so}
 use Rattle.es6_reading.proofs.SoundLevels.{fitting-holds}

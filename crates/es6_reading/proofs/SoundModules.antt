@@ -1,5 +1,5 @@
 -- What the readers of exports give is derived, and so is every module, if the readers of what its constructs hold are sound.
-use Rattle.std.proofs.Common.{◌≡◌, ℕ, zero, suc, Bool, true, false, ◌&&◌, cond, List, [], ◌∷◌, Option, Some, None, refl, sym, ap, ◌∙◌, subst}
+use Rattle.std.proofs.Common.{◌≡◌, ℕ, zero, suc, Bool, true, false, cond, List, [], ◌∷◌, Some, None, refl, sym, ap, ◌∙◌}
 use Rattle.std.proofs.lemmas.Bool.{true≢false}
 use Rattle.std.specs.Prelude.{codes}
 use Rattle.es_text.specs.declared.Span.{Span}
@@ -7,7 +7,6 @@ use Rattle.es6_lexer.specs.declared.token.TokenKind.TheVariants as kinds
 use Rattle.es6_lexer.specs.declared.token.Punctuator.TheVariants as marks
 use Rattle.es6_ast.specs.declared.operators.VariableKind.TheVariants.{Var}
 use Rattle.es6_ast.specs.declared.tree.Identifier.{Identifier}
-use Rattle.es6_ast.specs.declared.tree.Expression.{Expression}
 use Rattle.es6_ast.specs.declared.tree.Statement.{Statement}
 use Rattle.es6_ast.specs.declared.tree.Statement.TheVariants as stat
 use Rattle.es6_ast.specs.declared.tree.Part.{Part}
@@ -24,17 +23,17 @@ use Rattle.es6_ast.specs.Grammar as g
 use Rattle.es6_ast.specs.Grammar.{level_assignment, of_module, NotWord, IsEnd, IsAnyName, IsStatement, IsDeclaration}
 use Rattle.es6_ast.specs.Modules as m
 use Rattle.es6_ast.specs.Modules.{IsExported, IsExport, AreExports, IsItem, AreItems, IsModule}
-use Rattle.es6_reading.specs.Parser.{Input, Outcome, next_is, word, Reading, Listed, Under, Inner, group}
+use Rattle.es6_reading.specs.Parser.{Input, next_is, word, Reading, Listed, Inner, group}
 use Rattle.es6_reading.specs.Modules.{export_of, one_export, exports, are_own, own_names, export_names, export_all, default_value, export_default, exported_declaration, export_declaration, export_item, statement_item, one_item, is_end_kind, is_end, end_at, items, whole_module}
 use Rattle.es6_reading.proofs.Posts.{Holds, took, fault, bind, weaken, choose-holds, if-holds, refused-holds}
 use Rattle.es6_reading.proofs.Meanings.{and_true, word-means, some_same}
-use Rattle.es6_reading.proofs.Spans.{Moves, Goes, stays, goes, goes-on, ◌⟫◌, span-across}
+use Rattle.es6_reading.proofs.Spans.{Moves, ◌⟫◌, span-across}
 use Rattle.es6_reading.proofs.Derived.{ReadWhole, StatementIn, Sound, Next, next, on-means, take-means, one, on-mark, take-mark, on-word, group-holds}
-use Rattle.es6_reading.proofs.SoundPatterns.{AnyNameIn, sound-any-name, name-span}
+use Rattle.es6_reading.proofs.SoundPatterns.{AnyNameIn, sound-any-name}
 use Rattle.es6_reading.proofs.SoundFunctions.{FunctionIn, sound-function, ClassIn, sound-class}
 use Rattle.es6_reading.proofs.SoundLevels.{sound-assignment}
 use Rattle.es6_reading.proofs.SoundStatements.{sound-semicolon, misses-word, DeclaresIn, declares, sound-declares, var-rule}
-use Rattle.es6_reading.proofs.SoundDeclarations.{DeclarationIn, declaration-holds, sound-statement}
+use Rattle.es6_reading.proofs.SoundDeclarations.{declaration-holds, sound-statement}
 use Rattle.es6_reading.proofs.SoundImports.{free-of, FromIn, sound-from, ItemIn, sound-import-item}
 
 -- ## Names

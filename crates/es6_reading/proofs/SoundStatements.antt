@@ -1,39 +1,29 @@
 -- What the readers of semicolons, variables, conditions and loops give is derived, if the readers for one construct deeper are
 -- sound.
-use Rattle.std.proofs.Common.{◌≡◌, ℕ, zero, suc, Bool, true, false, List, [], ◌∷◌, Option, Some, None, refl, sym, ap, ◌∙◌}
+use Rattle.std.proofs.Common.{◌≡◌, ℕ, zero, suc, true, false, List, [], ◌∷◌, Some, None, refl, sym, ap, ◌∙◌}
 use Rattle.std.proofs.lemmas.Bool.{true≢false}
-use Rattle.std.specs.Prelude.{codes, is_some}
+use Rattle.std.specs.Prelude.{codes}
 use Rattle.es_text.specs.declared.Span.{Span}
-use Rattle.es6_lexer.specs.declared.token.Punctuator.{Punctuator as Mark}
 use Rattle.es6_lexer.specs.declared.token.Punctuator.TheVariants as marks
-use Rattle.es6_ast.specs.declared.operators.AssignOperator.TheVariants as assign
 use Rattle.es6_ast.specs.declared.operators.VariableKind.{VariableKind}
 use Rattle.es6_ast.specs.declared.operators.VariableKind.TheVariants.{Var}
 use Rattle.es6_ast.specs.declared.tree.Expression.{Expression}
 use Rattle.es6_ast.specs.declared.tree.Statement.{Statement}
 use Rattle.es6_ast.specs.declared.tree.Statement.TheVariants as stat
-use Rattle.es6_ast.specs.declared.tree.Pattern.{Pattern, out-Pattern}
+use Rattle.es6_ast.specs.declared.tree.Pattern.{Pattern}
 use Rattle.es6_ast.specs.declared.tree.Pattern.TheVariants as pattern
 use Rattle.es6_ast.specs.declared.tree.Condition.{Condition, roll-Condition}
-use Rattle.es6_ast.specs.declared.tree.ForFirst.{ForFirst}
-use Rattle.es6_ast.specs.declared.tree.ForFirst.TheVariants.{NoFirst, FirstVariables, FirstExpression}
-use Rattle.es6_ast.specs.declared.tree.ForTarget.{ForTarget}
-use Rattle.es6_ast.specs.declared.tree.ForTarget.TheVariants.{Declared, Assigned}
 use Rattle.es6_ast.specs.declared.tree.Part.{Part, roll-Part}
-use Rattle.es6_ast.specs.Tokens.{Filled, IsWord, IsMark, is_word, begins, begin_of}
+use Rattle.es6_ast.specs.Tokens.{Filled, IsWord, IsMark, begin_of}
 use Rattle.es6_ast.specs.Grammar as g
 use Rattle.es6_ast.specs.Grammar.{Flags, with_in, without_in, level_sequence, level_assignment, kind_word, is_lexical, NotWord, IsEnd, IsDoWhileEnd, IsExpression, IsTarget, IsVariable, AreVariables, IsDeclaration, IsCondition, IsIf, IsForFirst, IsForTarget, IsOptional}
-use Rattle.es6_reading.specs.Parser.{Input, Parser, after, next_is, mark, word, next_mark, next_word, ending, Reading, is_left, Under, Inner, semicolon, semicolon_of_do_while}
-use Rattle.es6_reading.specs.Words.{kind_at}
-use Rattle.es6_reading.specs.Refine.{Refined, Fits, Misfit, TooNested, target_before}
-use Rattle.es6_reading.specs.Parts.{initialized}
-use Rattle.es6_reading.specs.Expressions.{fitting}
-use Rattle.es6_reading.specs.Statements.{is_whole, one_variable, variables, variables_statement, parenthesized, condition, Otherwise, with_condition, otherwise, if_statement, do_statement, while_statement, Header, ForHeader, OfHeader, optional, rest_of_for, rest_of_of, first_variables, after_first_variable, after_bare_variable, for_variables, first_expression, assigned_in_turn, for_expression, for_header, loop_of, for_statement}
-use Rattle.es6_reading.proofs.Posts.{Holds, took, fault, bind, weaken, Misses, choose-holds, if-holds, refused-holds}
-use Rattle.es6_reading.proofs.Meanings.{ending-means, do-while-ending-means, word-misses, kind-means}
+use Rattle.es6_reading.specs.Parser.{Input, Parser, next_is, word, next_word, ending, Under, Inner, semicolon, semicolon_of_do_while}
+use Rattle.es6_reading.specs.Statements.{is_whole, one_variable, variables, variables_statement, parenthesized, condition, Otherwise, with_condition, otherwise, if_statement, do_statement, while_statement}
+use Rattle.es6_reading.proofs.Posts.{Holds, took, fault, bind, Misses, choose-holds, if-holds, refused-holds}
+use Rattle.es6_reading.proofs.Meanings.{ending-means, do-while-ending-means, word-misses}
 use Rattle.es6_reading.proofs.Spans.{Moves, Goes, stays, goes, goes-on, then-goes, ◌⟫◌, span-across}
-use Rattle.es6_reading.proofs.Derived.{ReadWhole, IsInitialized, lone_name, lone_pattern, with_initializer, InitializedIn, StatementIn, Sound, Next, next, on-means, one, on-mark, take-mark, on-word, take-word, group-holds}
-use Rattle.es6_reading.proofs.SoundPatterns.{target-to, pattern-to, sound-initialized}
+use Rattle.es6_reading.proofs.Derived.{IsInitialized, lone_name, lone_pattern, with_initializer, InitializedIn, StatementIn, Sound, Next, next, on-means, one, on-mark, take-mark, on-word, take-word, group-holds}
+use Rattle.es6_reading.proofs.SoundPatterns.{sound-initialized}
 
 -- ## Ends of statements, and what the next token is not
 

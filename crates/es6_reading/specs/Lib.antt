@@ -6,5 +6,6 @@ pub mod Parts
 pub mod Expressions
 pub mod Statements
 pub mod Modules
+pub mod Laws
 pub mod Examples
 pub mod Program

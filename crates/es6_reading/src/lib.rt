@@ -5,8 +5,14 @@
 #![tactic(auto)]
 
 ghost use Rattle.es6_reading.specs.Examples.{AreRead, AreStopped, IsDeepest};
+ghost use Rattle.es6_reading.specs.Laws.{IsSound};
 ghost use Rattle.es6_reading.specs.Program.{IsProgramRead};
 ghost use Rattle.es6_reading.specs.Refinements.{AreRefined};
+
+/// What is read without inserted semicolons is derived from all of the tokens, with exact spans.
+pub fn what_is_read_is_derived()
+    ensures { IsSound }
+{}
 
 /// Small modules are read to their end.
 pub fn small_modules_are_read()
