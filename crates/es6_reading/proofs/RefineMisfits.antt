@@ -1,127 +1,164 @@
--- An expression that is refined to no pattern has a part that no pattern spells; so before `=` it stands by itself.
-use Rattle.std.proofs.Common.{◌≡◌, ℕ, zero, suc, Bool, true, false, ◌&&◌, List, [], ◌∷◌, Option, Some, None, cond, map, refl, sym, ap, ◌∙◌}
+-- An expression is refined to a pattern where no part of it is a misfit, and else stops at the first one; so what is none stands
+-- before `=` by itself.
+use Rattle.std.proofs.Common.{◌≡◌, ℕ, zero, suc, Bool, true, false, ◌&&◌, List, [], ◌∷◌, Option, Some, None, cond, map, refl, sym, ap, ◌∙◌, subst}
 use Rattle.std.specs.Prelude.{is_none}
 use Rattle.es_text.specs.declared.Span.{Span}
 use Rattle.es6_ast.specs.declared.operators.AssignOperator.{AssignOperator}
 use Rattle.es6_ast.specs.declared.operators.AssignOperator.TheVariants as assign
 use Rattle.es6_ast.specs.declared.tree.Expression.{Expression, out-Expression}
-use Rattle.es6_ast.specs.declared.tree.Expression.TheVariants as expr
-use Rattle.es6_ast.specs.declared.tree.Pattern.{Pattern, out-Pattern}
+use Rattle.es6_ast.specs.declared.tree.Pattern.{Pattern, out-Pattern, roll-Pattern, roll-out-Pattern, fold-roll-Pattern}
 use Rattle.es6_ast.specs.declared.tree.Pattern.TheVariants as pattern
 use Rattle.es6_ast.specs.declared.tree.ArrayPart.TheVariants.{SinglePart, RestPart}
 use Rattle.es6_ast.specs.declared.tree.ObjectPart.TheVariants.{KeyedPart}
-use Rattle.es6_ast.specs.declared.tree.Element.{Element}
-use Rattle.es6_ast.specs.declared.tree.Element.TheVariants as element
-use Rattle.es6_ast.specs.declared.tree.Argument.{Argument, out-Argument}
-use Rattle.es6_ast.specs.declared.tree.Argument.TheVariants as argument
-use Rattle.es6_ast.specs.declared.tree.Property.{Property, out-Property, fold-roll-Property}
-use Rattle.es6_ast.specs.declared.tree.Property.TheVariants as property
-use Rattle.es6_ast.specs.declared.tree.Method.{Method}
+use Rattle.es6_ast.specs.declared.tree.Element.{Element, out-Element, roll-Element, roll-out-Element, fold-roll-Element}
+use Rattle.es6_ast.specs.declared.tree.Argument.{Argument, out-Argument, roll-Argument, roll-out-Argument, fold-roll-Argument}
+use Rattle.es6_ast.specs.declared.tree.Property.{Property, out-Property, roll-Property, roll-out-Property, fold-roll-Property}
+use Rattle.es6_ast.specs.declared.tree.Arrow.{Arrow, out-Arrow, roll-out-Arrow, fold-roll-Arrow}
+use Rattle.es6_ast.specs.declared.tree.Class.{Class, out-Class, roll-out-Class, fold-roll-Class}
+use Rattle.es6_ast.specs.declared.tree.Function.{Function, out-Function, roll-out-Function, fold-roll-Function}
+use Rattle.es6_ast.specs.declared.tree.Method.{Method, out-Method, roll-out-Method, fold-Method, fold-roll-Method}
+use Rattle.es6_ast.specs.declared.tree.Template.{Template, out-Template, roll-out-Template, fold-roll-Template}
 use Rattle.es6_ast.specs.declared.tree.Argument.TheOpen as layer
-use Rattle.es6_ast.specs.declared.tree.Argument.TheOpen.{Expression-F}
+use Rattle.es6_ast.specs.declared.tree.Argument.TheOpen.{Expression-F, Pattern-F, Element-F, Argument-F, Property-F}
 use Rattle.es6_ast.specs.Tokens.{Filled}
-use Rattle.es6_ast.specs.Targets.{AsTarget, AsElement, NoElement, OneElement, LastElement, as_target, is_simple, is_pattern, misfit, with_default, no_target, property_target, first_of_two, first_misfit, elements_misfit, argument_target, element_target, expression_target, link_target, pattern_target, property_target_of, ends_in_access}
+use Rattle.es6_ast.specs.Targets.{AsTarget, AsElement, as_target, is_pattern, misfit, with_default, no_target, property_target, first_of_two, first_misfit, elements_misfit, argument_target, element_target, expression_target, link_target, pattern_target, property_target_of, ends_in_access}
 use Rattle.es6_ast.specs.Grammar as g
-use Rattle.es6_ast.specs.Grammar.{Flags, with_in, level_left_hand_side, IsExpression, IsAssigned, IsTarget, IsArgument, IsProperty, AreElements, AreProperties}
-use Rattle.es6_ast.proofs.TargetLaws.{is_access as is_access', as_argument, as_element, as_element-Hole, as_element-Present, as_argument-Single, as_argument-Spread, pattern_misfit, pattern_misfit-Target, property_misfit, property_misfit-Plain}
-use Rattle.es6_reading.specs.Refine.{Open, Refined, Fits, Misfit, TooNested, refined_map, refined_cons, span_of, alone, made_part, target_of_default, argument_part, array_parts_of, property_part, object_parts_of, refine, refine_pattern, else_itself, target_before}
-use Rattle.es6_reading.specs.Refinements.{IfFits, fits, misfits, too_nested}
-use Rattle.es6_reading.proofs.RefineViews.{View, a_name, an_array, an_object, an_access, a_group, an_assignment, a_sequence, another}
-use Rattle.es6_reading.proofs.RefineBinds.{view-of}
-use Rattle.es6_reading.proofs.RefineTargetOf.{layer_target, as_target-is, Decides, it_is, it_is_not, unknown, simple-decides, simple-is-no-literal}
-use Rattle.es6_reading.proofs.RefineTargets.{reads_part, IsAlone, HasNoDefault, target-alone, part-alone, alone-if-access, alone-if-never, never-if-another, no-default-if-access, no-default-if-another, layer-of, targets}
+use Rattle.es6_ast.specs.Grammar.{Flags, level_left_hand_side, IsExpression, IsAssigned, IsTarget}
+use Rattle.es6_ast.proofs.TargetLaws.{is_access as is_access', as_argument, as_element, pattern_misfit, property_misfit}
+use Rattle.es6_reading.specs.Refine.{Open, Refined, Fits, refined_map, refined_cons, fits_if, held_at, span_of, is_access, simple, simple_in, alone, made_part, target_of_default, is_last, argument_part, element_part, array_parts_of, property_part, object_parts_of, target_in, part_in, refine, refine_pattern, else_itself, target_before}
+use Rattle.es6_reading.specs.Refinements.{IfFits, fits, misfits, too_nested, Places, no_misfit, first_misfit_at, too_deep}
+use Rattle.es6_reading.proofs.RefineTargetOf.{arrow_place, class_place, function_place, template_place, layer_target, as_target-is, accesses-are, Decides, it_is, it_is_not, unknown, simple-decides, simple-is-no-literal}
+use Rattle.es6_reading.proofs.RefineTargets.{reads_part, IsAlone, HasNoDefault, part-alone, targets}
 
--- this holds where nothing fits
-pub data Missed {A : Type 0} (M : Type 0) : Refined A → Type 0 where
-  not_missed : {x : A} → Missed M (Fits x)
-  missed : {at : ℕ} → M → Missed M (Misfit at)
-  unseen : Missed M TooNested
+-- ## Put together along the parts
 
-always : {A : Type 0} {M : Type 0} (r : Refined A) → M → Missed M r
-always (Fits x) m = not_missed
-always (Misfit at) m = missed m
-always TooNested m = unseen
+map-places : {A B : Type 0} {m : Option ℕ} {r : Refined A} (k : A → B) → Places m r → Places m (refined_map k r)
+map-places k (no_misfit e) = no_misfit e
+map-places k (first_misfit_at e) = first_misfit_at e
+map-places k too_deep = too_deep
 
-map-missed : {A B : Type 0} {M N : Type 0} {r : Refined A} (k : A → B) → Missed M r → (M → N) → Missed N (refined_map k r)
-map-missed k not_missed f = not_missed
-map-missed k (missed m) f = missed (f m)
-map-missed k unseen f = unseen
+cons-places : {A : Type 0} {m n : Option ℕ} {r : Refined A} {rs : Refined (List A)} → Places m r → Places n rs → Places (first_of_two m n) (refined_cons r rs)
+cons-places {n = n} (no_misfit e) (no_misfit h) = no_misfit (ap (λ o. first_of_two o n) e ∙ h)
+cons-places {n = n} (no_misfit e) (first_misfit_at h) = first_misfit_at (ap (λ o. first_of_two o n) e ∙ h)
+cons-places (no_misfit e) too_deep = too_deep
+cons-places {n = n} (first_misfit_at e) h = first_misfit_at (ap (λ o. first_of_two o n) e)
+cons-places too_deep h = too_deep
 
-cons-missed : {A : Type 0} {M N L : Type 0} {r : Refined A} {rs : Refined (List A)} → Missed M r → Missed N rs → (M → L) → (N → L) → Missed L (refined_cons r rs)
-cons-missed not_missed not_missed f h = not_missed
-cons-missed not_missed (missed n) f h = missed (h n)
-cons-missed not_missed unseen f h = unseen
-cons-missed (missed m) ns f h = missed (f m)
-cons-missed unseen ns f h = unseen
+-- ## Where the other nodes stand
 
--- a place is there
-abbrev IsMiss : Option ℕ → Type 0
-IsMiss m = is_none m ≡ false
+method_place : Method → ℕ
+method_place =
+    fold-Method AsElement (Unit {0}) (Unit {0}) AsElement AsTarget (Unit {0}) (Unit {0}) (Unit {0}) Bool (Unit {0}) (Unit {0}) (Option ℕ) (Option ℕ) (Unit {0}) ℕ (Unit {0}) (Unit {0}) (Unit {0}) ℕ (Unit {0}) (Unit {0}) ℕ ℕ (Unit {0}) (Unit {0}) ℕ (Unit {0})
+    (argument_target (λ x. x)) (λ x. tt) (λ x. tt) (element_target (λ x. x)) (expression_target (λ x. x) (λ x. x) (λ x. x) (λ x. x) (λ x. x) (λ x. x) (λ x. x) (λ x. x) (λ x. x)) (λ x. tt) (λ x. tt) (λ x. tt) link_target (λ x. tt) (λ x. tt) (pattern_target (λ x. x)) (property_target_of (λ x. x) (λ x. x)) (λ x. tt) (λ x. x.span.begin) (λ x. tt) (λ x. tt) (λ x. tt) (λ x. x.span.begin) (λ x. tt) (λ x. tt) (λ x. x.span.begin) (λ x. x.span.begin) (λ x. tt) (λ x. tt) (λ x. x.span.begin) (λ x. tt)
 
-first-miss : (m n : Option ℕ) → IsMiss m → IsMiss (first_of_two m n)
-first-miss None n h = absurd (cc)
-first-miss (Some at) n h = refl
+arrow-place-is : (a : Arrow) → arrow_place a ≡ (out-Arrow a).span.begin
+arrow-place-is a = ap arrow_place (sym (roll-out-Arrow a)) ∙ fold-roll-Arrow AsElement (Unit {0}) (Unit {0}) AsElement AsTarget (Unit {0}) (Unit {0}) (Unit {0}) Bool (Unit {0}) (Unit {0}) (Option ℕ) (Option ℕ) (Unit {0}) ℕ (Unit {0}) (Unit {0}) (Unit {0}) ℕ (Unit {0}) (Unit {0}) ℕ ℕ (Unit {0}) (Unit {0}) ℕ (Unit {0})
+    (argument_target (λ x. x)) (λ x. tt) (λ x. tt) (element_target (λ x. x)) (expression_target (λ x. x) (λ x. x) (λ x. x) (λ x. x) (λ x. x) (λ x. x) (λ x. x) (λ x. x) (λ x. x)) (λ x. tt) (λ x. tt) (λ x. tt) link_target (λ x. tt) (λ x. tt) (pattern_target (λ x. x)) (property_target_of (λ x. x) (λ x. x)) (λ x. tt) (λ x. x.span.begin) (λ x. tt) (λ x. tt) (λ x. tt) (λ x. x.span.begin) (λ x. tt) (λ x. tt) (λ x. x.span.begin) (λ x. x.span.begin) (λ x. tt) (λ x. tt) (λ x. x.span.begin) (λ x. tt) (out-Arrow a)
 
-later-miss : (m n : Option ℕ) → IsMiss n → IsMiss (first_of_two m n)
-later-miss None n h = h
-later-miss (Some at) n h = refl
+class-place-is : (a : Class) → class_place a ≡ (out-Class a).span.begin
+class-place-is a = ap class_place (sym (roll-out-Class a)) ∙ fold-roll-Class AsElement (Unit {0}) (Unit {0}) AsElement AsTarget (Unit {0}) (Unit {0}) (Unit {0}) Bool (Unit {0}) (Unit {0}) (Option ℕ) (Option ℕ) (Unit {0}) ℕ (Unit {0}) (Unit {0}) (Unit {0}) ℕ (Unit {0}) (Unit {0}) ℕ ℕ (Unit {0}) (Unit {0}) ℕ (Unit {0})
+    (argument_target (λ x. x)) (λ x. tt) (λ x. tt) (element_target (λ x. x)) (expression_target (λ x. x) (λ x. x) (λ x. x) (λ x. x) (λ x. x) (λ x. x) (λ x. x) (λ x. x) (λ x. x)) (λ x. tt) (λ x. tt) (λ x. tt) link_target (λ x. tt) (λ x. tt) (pattern_target (λ x. x)) (property_target_of (λ x. x) (λ x. x)) (λ x. tt) (λ x. x.span.begin) (λ x. tt) (λ x. tt) (λ x. tt) (λ x. x.span.begin) (λ x. tt) (λ x. tt) (λ x. x.span.begin) (λ x. x.span.begin) (λ x. tt) (λ x. tt) (λ x. x.span.begin) (λ x. tt) (out-Class a)
+
+function-place-is : (a : Function) → function_place a ≡ (out-Function a).span.begin
+function-place-is a = ap function_place (sym (roll-out-Function a)) ∙ fold-roll-Function AsElement (Unit {0}) (Unit {0}) AsElement AsTarget (Unit {0}) (Unit {0}) (Unit {0}) Bool (Unit {0}) (Unit {0}) (Option ℕ) (Option ℕ) (Unit {0}) ℕ (Unit {0}) (Unit {0}) (Unit {0}) ℕ (Unit {0}) (Unit {0}) ℕ ℕ (Unit {0}) (Unit {0}) ℕ (Unit {0})
+    (argument_target (λ x. x)) (λ x. tt) (λ x. tt) (element_target (λ x. x)) (expression_target (λ x. x) (λ x. x) (λ x. x) (λ x. x) (λ x. x) (λ x. x) (λ x. x) (λ x. x) (λ x. x)) (λ x. tt) (λ x. tt) (λ x. tt) link_target (λ x. tt) (λ x. tt) (pattern_target (λ x. x)) (property_target_of (λ x. x) (λ x. x)) (λ x. tt) (λ x. x.span.begin) (λ x. tt) (λ x. tt) (λ x. tt) (λ x. x.span.begin) (λ x. tt) (λ x. tt) (λ x. x.span.begin) (λ x. x.span.begin) (λ x. tt) (λ x. tt) (λ x. x.span.begin) (λ x. tt) (out-Function a)
+
+template-place-is : (a : Template) → template_place a ≡ (out-Template a).span.begin
+template-place-is a = ap template_place (sym (roll-out-Template a)) ∙ fold-roll-Template AsElement (Unit {0}) (Unit {0}) AsElement AsTarget (Unit {0}) (Unit {0}) (Unit {0}) Bool (Unit {0}) (Unit {0}) (Option ℕ) (Option ℕ) (Unit {0}) ℕ (Unit {0}) (Unit {0}) (Unit {0}) ℕ (Unit {0}) (Unit {0}) ℕ ℕ (Unit {0}) (Unit {0}) ℕ (Unit {0})
+    (argument_target (λ x. x)) (λ x. tt) (λ x. tt) (element_target (λ x. x)) (expression_target (λ x. x) (λ x. x) (λ x. x) (λ x. x) (λ x. x) (λ x. x) (λ x. x) (λ x. x) (λ x. x)) (λ x. tt) (λ x. tt) (λ x. tt) link_target (λ x. tt) (λ x. tt) (pattern_target (λ x. x)) (property_target_of (λ x. x) (λ x. x)) (λ x. tt) (λ x. x.span.begin) (λ x. tt) (λ x. tt) (λ x. tt) (λ x. x.span.begin) (λ x. tt) (λ x. tt) (λ x. x.span.begin) (λ x. x.span.begin) (λ x. tt) (λ x. tt) (λ x. x.span.begin) (λ x. tt) (out-Template a)
+
+method-place-is : (a : Method) → method_place a ≡ (out-Method a).span.begin
+unfolding method_place
+method-place-is a = ap method_place (sym (roll-out-Method a)) ∙ fold-roll-Method AsElement (Unit {0}) (Unit {0}) AsElement AsTarget (Unit {0}) (Unit {0}) (Unit {0}) Bool (Unit {0}) (Unit {0}) (Option ℕ) (Option ℕ) (Unit {0}) ℕ (Unit {0}) (Unit {0}) (Unit {0}) ℕ (Unit {0}) (Unit {0}) ℕ ℕ (Unit {0}) (Unit {0}) ℕ (Unit {0})
+    (argument_target (λ x. x)) (λ x. tt) (λ x. tt) (element_target (λ x. x)) (expression_target (λ x. x) (λ x. x) (λ x. x) (λ x. x) (λ x. x) (λ x. x) (λ x. x) (λ x. x) (λ x. x)) (λ x. tt) (λ x. tt) (λ x. tt) link_target (λ x. tt) (λ x. tt) (pattern_target (λ x. x)) (property_target_of (λ x. x) (λ x. x)) (λ x. tt) (λ x. x.span.begin) (λ x. tt) (λ x. tt) (λ x. tt) (λ x. x.span.begin) (λ x. tt) (λ x. tt) (λ x. x.span.begin) (λ x. x.span.begin) (λ x. tt) (λ x. tt) (λ x. x.span.begin) (λ x. tt) (out-Method a)
+
+-- ## Layers of the parts
+
+abbrev pattern_layer : Open Pattern-F → Option ℕ
+pattern_layer l = pattern_target as_target l
+
+roll-pattern : (l : Open Pattern-F) → pattern_misfit (roll-Pattern l) ≡ pattern_layer l
+roll-pattern (layer.Target x) = fold-roll-Pattern AsElement (Unit {0}) (Unit {0}) AsElement AsTarget (Unit {0}) (Unit {0}) (Unit {0}) Bool (Unit {0}) (Unit {0}) (Option ℕ) (Option ℕ) (Unit {0}) ℕ (Unit {0}) (Unit {0}) (Unit {0}) ℕ (Unit {0}) (Unit {0}) ℕ ℕ (Unit {0}) (Unit {0}) ℕ (Unit {0})
+    (argument_target (λ x. x)) (λ x. tt) (λ x. tt) (element_target (λ x. x)) (expression_target (λ x. x) (λ x. x) (λ x. x) (λ x. x) (λ x. x) (λ x. x) (λ x. x) (λ x. x) (λ x. x)) (λ x. tt) (λ x. tt) (λ x. tt) link_target (λ x. tt) (λ x. tt) (pattern_target (λ x. x)) (property_target_of (λ x. x) (λ x. x)) (λ x. tt) (λ x. x.span.begin) (λ x. tt) (λ x. tt) (λ x. tt) (λ x. x.span.begin) (λ x. tt) (λ x. tt) (λ x. x.span.begin) (λ x. x.span.begin) (λ x. tt) (λ x. tt) (λ x. x.span.begin) (λ x. tt) (layer.Target x)
+roll-pattern l = fold-roll-Pattern AsElement (Unit {0}) (Unit {0}) AsElement AsTarget (Unit {0}) (Unit {0}) (Unit {0}) Bool (Unit {0}) (Unit {0}) (Option ℕ) (Option ℕ) (Unit {0}) ℕ (Unit {0}) (Unit {0}) (Unit {0}) ℕ (Unit {0}) (Unit {0}) ℕ ℕ (Unit {0}) (Unit {0}) ℕ (Unit {0})
+    (argument_target (λ x. x)) (λ x. tt) (λ x. tt) (element_target (λ x. x)) (expression_target (λ x. x) (λ x. x) (λ x. x) (λ x. x) (λ x. x) (λ x. x) (λ x. x) (λ x. x) (λ x. x)) (λ x. tt) (λ x. tt) (λ x. tt) link_target (λ x. tt) (λ x. tt) (pattern_target (λ x. x)) (property_target_of (λ x. x) (λ x. x)) (λ x. tt) (λ x. x.span.begin) (λ x. tt) (λ x. tt) (λ x. tt) (λ x. x.span.begin) (λ x. tt) (λ x. tt) (λ x. x.span.begin) (λ x. x.span.begin) (λ x. tt) (λ x. tt) (λ x. x.span.begin) (λ x. tt) l
+
+pattern-is : (p : Pattern) → pattern_misfit p ≡ pattern_layer (out-Pattern p)
+pattern-is p = ap pattern_misfit (sym (roll-out-Pattern p)) ∙ roll-pattern (out-Pattern p)
+
+abbrev argument_layer : Open Argument-F → AsElement
+argument_layer l = argument_target as_target l
+
+roll-argument : (l : Open Argument-F) → as_argument (roll-Argument l) ≡ argument_layer l
+roll-argument (layer.Single x) = fold-roll-Argument AsElement (Unit {0}) (Unit {0}) AsElement AsTarget (Unit {0}) (Unit {0}) (Unit {0}) Bool (Unit {0}) (Unit {0}) (Option ℕ) (Option ℕ) (Unit {0}) ℕ (Unit {0}) (Unit {0}) (Unit {0}) ℕ (Unit {0}) (Unit {0}) ℕ ℕ (Unit {0}) (Unit {0}) ℕ (Unit {0})
+    (argument_target (λ x. x)) (λ x. tt) (λ x. tt) (element_target (λ x. x)) (expression_target (λ x. x) (λ x. x) (λ x. x) (λ x. x) (λ x. x) (λ x. x) (λ x. x) (λ x. x) (λ x. x)) (λ x. tt) (λ x. tt) (λ x. tt) link_target (λ x. tt) (λ x. tt) (pattern_target (λ x. x)) (property_target_of (λ x. x) (λ x. x)) (λ x. tt) (λ x. x.span.begin) (λ x. tt) (λ x. tt) (λ x. tt) (λ x. x.span.begin) (λ x. tt) (λ x. tt) (λ x. x.span.begin) (λ x. x.span.begin) (λ x. tt) (λ x. tt) (λ x. x.span.begin) (λ x. tt) (layer.Single x)
+roll-argument l = fold-roll-Argument AsElement (Unit {0}) (Unit {0}) AsElement AsTarget (Unit {0}) (Unit {0}) (Unit {0}) Bool (Unit {0}) (Unit {0}) (Option ℕ) (Option ℕ) (Unit {0}) ℕ (Unit {0}) (Unit {0}) (Unit {0}) ℕ (Unit {0}) (Unit {0}) ℕ ℕ (Unit {0}) (Unit {0}) ℕ (Unit {0})
+    (argument_target (λ x. x)) (λ x. tt) (λ x. tt) (element_target (λ x. x)) (expression_target (λ x. x) (λ x. x) (λ x. x) (λ x. x) (λ x. x) (λ x. x) (λ x. x) (λ x. x) (λ x. x)) (λ x. tt) (λ x. tt) (λ x. tt) link_target (λ x. tt) (λ x. tt) (pattern_target (λ x. x)) (property_target_of (λ x. x) (λ x. x)) (λ x. tt) (λ x. x.span.begin) (λ x. tt) (λ x. tt) (λ x. tt) (λ x. x.span.begin) (λ x. tt) (λ x. tt) (λ x. x.span.begin) (λ x. x.span.begin) (λ x. tt) (λ x. tt) (λ x. x.span.begin) (λ x. tt) l
+
+argument-is : (a : Argument) → as_argument a ≡ argument_layer (out-Argument a)
+argument-is a = ap as_argument (sym (roll-out-Argument a)) ∙ roll-argument (out-Argument a)
+
+abbrev element_layer : Open Element-F → AsElement
+element_layer l = element_target as_argument l
+
+roll-element : (l : Open Element-F) → as_element (roll-Element l) ≡ element_layer l
+roll-element (layer.Present a) = fold-roll-Element AsElement (Unit {0}) (Unit {0}) AsElement AsTarget (Unit {0}) (Unit {0}) (Unit {0}) Bool (Unit {0}) (Unit {0}) (Option ℕ) (Option ℕ) (Unit {0}) ℕ (Unit {0}) (Unit {0}) (Unit {0}) ℕ (Unit {0}) (Unit {0}) ℕ ℕ (Unit {0}) (Unit {0}) ℕ (Unit {0})
+    (argument_target (λ x. x)) (λ x. tt) (λ x. tt) (element_target (λ x. x)) (expression_target (λ x. x) (λ x. x) (λ x. x) (λ x. x) (λ x. x) (λ x. x) (λ x. x) (λ x. x) (λ x. x)) (λ x. tt) (λ x. tt) (λ x. tt) link_target (λ x. tt) (λ x. tt) (pattern_target (λ x. x)) (property_target_of (λ x. x) (λ x. x)) (λ x. tt) (λ x. x.span.begin) (λ x. tt) (λ x. tt) (λ x. tt) (λ x. x.span.begin) (λ x. tt) (λ x. tt) (λ x. x.span.begin) (λ x. x.span.begin) (λ x. tt) (λ x. tt) (λ x. x.span.begin) (λ x. tt) (layer.Present a)
+roll-element l = fold-roll-Element AsElement (Unit {0}) (Unit {0}) AsElement AsTarget (Unit {0}) (Unit {0}) (Unit {0}) Bool (Unit {0}) (Unit {0}) (Option ℕ) (Option ℕ) (Unit {0}) ℕ (Unit {0}) (Unit {0}) (Unit {0}) ℕ (Unit {0}) (Unit {0}) ℕ ℕ (Unit {0}) (Unit {0}) ℕ (Unit {0})
+    (argument_target (λ x. x)) (λ x. tt) (λ x. tt) (element_target (λ x. x)) (expression_target (λ x. x) (λ x. x) (λ x. x) (λ x. x) (λ x. x) (λ x. x) (λ x. x) (λ x. x) (λ x. x)) (λ x. tt) (λ x. tt) (λ x. tt) link_target (λ x. tt) (λ x. tt) (pattern_target (λ x. x)) (property_target_of (λ x. x) (λ x. x)) (λ x. tt) (λ x. x.span.begin) (λ x. tt) (λ x. tt) (λ x. tt) (λ x. x.span.begin) (λ x. tt) (λ x. tt) (λ x. x.span.begin) (λ x. x.span.begin) (λ x. tt) (λ x. tt) (λ x. x.span.begin) (λ x. tt) l
+
+element-is : (e : Element) → as_element e ≡ element_layer (out-Element e)
+element-is e = ap as_element (sym (roll-out-Element e)) ∙ roll-element (out-Element e)
+
+abbrev property_layer : Open Property-F → Option ℕ
+property_layer l = property_target_of as_target method_place l
+
+roll-property : (l : Open Property-F) → property_misfit (roll-Property l) ≡ property_layer l
+unfolding method_place
+roll-property (layer.Defined m) = fold-roll-Property AsElement (Unit {0}) (Unit {0}) AsElement AsTarget (Unit {0}) (Unit {0}) (Unit {0}) Bool (Unit {0}) (Unit {0}) (Option ℕ) (Option ℕ) (Unit {0}) ℕ (Unit {0}) (Unit {0}) (Unit {0}) ℕ (Unit {0}) (Unit {0}) ℕ ℕ (Unit {0}) (Unit {0}) ℕ (Unit {0})
+    (argument_target (λ x. x)) (λ x. tt) (λ x. tt) (element_target (λ x. x)) (expression_target (λ x. x) (λ x. x) (λ x. x) (λ x. x) (λ x. x) (λ x. x) (λ x. x) (λ x. x) (λ x. x)) (λ x. tt) (λ x. tt) (λ x. tt) link_target (λ x. tt) (λ x. tt) (pattern_target (λ x. x)) (property_target_of (λ x. x) (λ x. x)) (λ x. tt) (λ x. x.span.begin) (λ x. tt) (λ x. tt) (λ x. tt) (λ x. x.span.begin) (λ x. tt) (λ x. tt) (λ x. x.span.begin) (λ x. x.span.begin) (λ x. tt) (λ x. tt) (λ x. x.span.begin) (λ x. tt) (layer.Defined m)
+roll-property l = fold-roll-Property AsElement (Unit {0}) (Unit {0}) AsElement AsTarget (Unit {0}) (Unit {0}) (Unit {0}) Bool (Unit {0}) (Unit {0}) (Option ℕ) (Option ℕ) (Unit {0}) ℕ (Unit {0}) (Unit {0}) (Unit {0}) ℕ (Unit {0}) (Unit {0}) ℕ ℕ (Unit {0}) (Unit {0}) ℕ (Unit {0})
+    (argument_target (λ x. x)) (λ x. tt) (λ x. tt) (element_target (λ x. x)) (expression_target (λ x. x) (λ x. x) (λ x. x) (λ x. x) (λ x. x) (λ x. x) (λ x. x) (λ x. x) (λ x. x)) (λ x. tt) (λ x. tt) (λ x. tt) link_target (λ x. tt) (λ x. tt) (pattern_target (λ x. x)) (property_target_of (λ x. x) (λ x. x)) (λ x. tt) (λ x. x.span.begin) (λ x. tt) (λ x. tt) (λ x. tt) (λ x. x.span.begin) (λ x. tt) (λ x. tt) (λ x. x.span.begin) (λ x. x.span.begin) (λ x. tt) (λ x. tt) (λ x. x.span.begin) (λ x. tt) l
+
+property-is : (q : Property) → property_misfit q ≡ property_layer (out-Property q)
+property-is q = ap property_misfit (sym (roll-out-Property q)) ∙ roll-property (out-Property q)
 
 -- ## Expressions by themselves
 
-chain-miss : (b : Bool) (x y : AsTarget) → x.simple ≡ true → IsMiss y.target_misfit → (cond b x y).simple ≡ false → IsMiss (cond b x y).target_misfit
-chain-miss true x y k h e = absurd (cc)
-chain-miss false x y k h e = h
+if-places : (b : Bool) (span : Span) → Places (cond b (property_target span) (no_target span.begin)).target_misfit (fits_if b span.begin)
+if-places true span = no_misfit refl
+if-places false span = first_misfit_at refl
 
-group-miss : (b : Bool) (at : ℕ) → b ≡ false → IsMiss (cond b None (Some at))
-group-miss true at e = absurd (cc)
-group-miss false at e = refl
+held-places : {b : Bool} {r : Refined (Unit {0})} (at : ℕ) → Decides b r → Places (cond b None (Some at)) (held_at at r)
+held-places at (it_is h) = no_misfit (rw h refl)
+held-places at (it_is_not h) = first_misfit_at (rw h refl)
+held-places at unknown = too_deep
 
-default-miss : (operator : AssignOperator) (x : AsTarget) (m : Option ℕ) → IsMiss x.target_misfit → IsMiss (with_default operator x m).target_misfit
-default-miss assign.Assign x m h = h
-default-miss operator x m h = h
+default-misfit : (operator : AssignOperator) (x : AsTarget) (m : Option ℕ) → (with_default operator x m).target_misfit ≡ x.target_misfit
+default-misfit assign.Assign x m = refl
+default-misfit operator x m = refl
 
-layer-miss : (l : Open Expression-F) → (layer_target l).simple ≡ false → (layer_target l).literal ≡ false → IsMiss (layer_target l).target_misfit
-layer-miss (layer.Name span name) h k = absurd (cc)
-layer-miss (layer.SuperMember span name) h k = absurd (cc)
-layer-miss (layer.SuperIndex span index) h k = absurd (cc)
-layer-miss (layer.ArrayList span elements comma) h k = absurd (cc)
-layer-miss (layer.ObjectList span properties) h k = absurd (cc)
-layer-miss (layer.Chain span head links) h k = chain-miss (ends_in_access (map is_access' links)) (property_target span) (no_target span.begin) refl refl h
-layer-miss (layer.Group span held) h k = group-miss (as_target held).simple span.begin h
-layer-miss (layer.Assign span operator target value) h k = default-miss operator (no_target span.begin) (pattern_misfit target) refl
-layer-miss l h k = refl
+simple-places : (n : ℕ) (l : Open Expression-F) → IsAlone l → Places (layer_target l).target_misfit (simple_in (simple n) l)
+simple-places n (layer.Name span name) h = no_misfit refl
+simple-places n (layer.SuperMember span name) h = no_misfit refl
+simple-places n (layer.SuperIndex span index) h = no_misfit refl
+simple-places n (layer.ArrayList span elements comma) h = absurd h
+simple-places n (layer.ObjectList span properties) h = absurd h
+simple-places n (layer.Chain span head links) h = rw (accesses-are links) (if-places (ends_in_access (map is_access links)) span)
+simple-places n (layer.Group span held) h = held-places span.begin (simple-decides n held)
+simple-places n (layer.Template m) h = first_misfit_at (ap Some (template-place-is m))
+simple-places n (layer.Function k) h = first_misfit_at (ap Some (function-place-is k))
+simple-places n (layer.Arrow a) h = first_misfit_at (ap Some (arrow-place-is a))
+simple-places n (layer.Class k) h = first_misfit_at (ap Some (class-place-is k))
+simple-places n (layer.Assign span operator target value) h = first_misfit_at (default-misfit operator (no_target span.begin) (pattern_misfit target))
+simple-places n l h = first_misfit_at refl
 
-simple-miss : (x : Expression) → is_simple x ≡ false → (as_target x).literal ≡ false → IsMiss (misfit x)
-simple-miss x h k = rw (misfit, as_target-is x) (layer-miss (out-Expression x) (rw (is_simple, as_target-is x) at h) (rw (as_target-is x) at k))
+alone-places : (n : ℕ) (x : Expression) → IsAlone (out-Expression x) → Places (layer_target (out-Expression x)).target_misfit (alone false n x)
+alone-places zero x h = too_deep
+alone-places (suc n) x h = map-places (λ u. pattern.Target x) (simple-places n (out-Expression x) h)
 
-literal-by-default : (operator : AssignOperator) (x : AsTarget) (m : Option ℕ) → x.literal ≡ false → (with_default operator x m).literal ≡ false
-literal-by-default assign.Assign x m h = h
-literal-by-default operator x m h = h
-
-chain-literal : (b : Bool) (x y : AsTarget) → x.literal ≡ false → y.literal ≡ false → (cond b x y).literal ≡ false
-chain-literal true x y h k = h
-chain-literal false x y h k = k
-
-alone-no-literal : (l : Open Expression-F) → IsAlone l → (layer_target l).literal ≡ false
-alone-no-literal (layer.ArrayList span elements comma) h = absurd h
-alone-no-literal (layer.ObjectList span properties) h = absurd h
-alone-no-literal (layer.Chain span head links) h = chain-literal (ends_in_access (map is_access' links)) (property_target span) (no_target span.begin) refl refl
-alone-no-literal (layer.Assign span operator target value) h = literal-by-default operator (no_target span.begin) (pattern_misfit target) refl
-alone-no-literal l h = refl
-
-decided-miss : {A : Type 0} {M : Type 0} {b : Bool} {r : Refined (Unit {0})} (k : Unit {0} → A) → Decides b r → (b ≡ false → M) → Missed M (refined_map k r)
-decided-miss k (it_is h) f = not_missed
-decided-miss k (it_is_not h) f = missed (f h)
-decided-miss k unknown f = unseen
-
-alone-missed : (n : ℕ) (x : Expression) → ((as_target x).literal ≡ false) → Missed (IsMiss (misfit x)) (alone false n x)
-alone-missed n x h = decided-miss (λ u. pattern.Target x) (simple-decides n x) (λ k. simple-miss x k h)
-
-abbrev Misses : ℕ → Type 0
-Misses n = (f : Flags) (least : ℕ) (ts us : List Filled) (x : Expression) → IsExpression f least ts x us → Missed (IsMiss (misfit x)) (refine false n x)
-
-refine-missed : (n : ℕ) (x : Expression) → IsAlone (out-Expression x) → Missed (IsMiss (misfit x)) (refine false (suc n) x)
-refine-missed n x h = rw (target-alone false n _ _ x (out-Expression x) h) (alone-missed n x (rw (as_target-is x) (alone-no-literal (out-Expression x) h)))
+abbrev AllPlaced : ℕ → Type 0
+AllPlaced n = (x : Expression) → Places (misfit x) (refine false n x)
 
 -- ## Parts
 
@@ -134,107 +171,70 @@ layer-part (layer.Assign span operator target value) h = absurd h
 layer-part (layer.Chain span head links) h = chain-part (ends_in_access (map is_access' links)) (property_target span) (no_target span.begin) refl refl
 layer-part l h = refl
 
-part-same : (x : Expression) → HasNoDefault (out-Expression x) → (as_target x).part_misfit ≡ misfit x
-part-same x h = rw (misfit, as_target-is x) (layer-part (out-Expression x) h)
+default-places : (n : ℕ) → AllPlaced n → (p : Pattern) (l : Open Pattern-F) → Places (pattern_layer l) (target_of_default false n (refine false n) p l)
+default-places n ih p (layer.Target x) = ih x
+default-places n ih p l = no_misfit refl
 
-part-missed : (n : ℕ) (x : Expression) → HasNoDefault (out-Expression x) → Missed (IsMiss (misfit x)) (refine false n x) → Missed (IsMiss (as_target x).part_misfit) (reads_part false n x)
-part-missed n x h d = rw (part-alone false n (refine false n) x (out-Expression x) h, part-same x h) (map-missed (made_part (span_of x) None) d (λ m. m))
+plain-places : (n : ℕ) → AllPlaced n → (x : Expression) (l : Open Expression-F) → misfit x ≡ (layer_target l).target_misfit → HasNoDefault l → Places (layer_target l).part_misfit (part_in false n (refine false n) x l)
+plain-places n ih x l o h = rw (layer-part l h, part-alone false n (refine false n) x l h) (rw (← o) (map-places (made_part (span_of x) None) (ih x)))
 
--- what stands before a default is by itself no pattern
-no-pattern-miss : (y : Expression) (b : Bool) → (as_target y).literal ≡ b → is_pattern y ≡ false → is_simple y ≡ false → IsMiss (misfit y)
-no-pattern-miss y true e h k = rw (is_pattern, e) at h
-no-pattern-miss y false e h k = simple-miss y k e
+assignment-places : (n : ℕ) → AllPlaced n → (x : Expression) (span : Span) (operator : AssignOperator) (target : Pattern) (value : _) → misfit x ≡ (layer_target (layer.Assign span operator target value)).target_misfit → Places (layer_target (layer.Assign span operator target value)).part_misfit (part_in false n (refine false n) x (layer.Assign span operator target value))
+assignment-places n ih x span assign.Assign target value o = rw (pattern-is target) (map-places (made_part span (Some value)) (default-places n ih target (out-Pattern target)))
+assignment-places n ih x span operator target value o = rw (← o) (map-places (made_part (span_of x) None) (ih x))
 
-target-miss : (n : ℕ) {f : Flags} {ts us : List Filled} (p : Pattern) → IsAssigned f assign.Assign ts p us → Missed (IsMiss (pattern_misfit p)) (target_of_default false n p (out-Pattern p))
-target-miss n p (g.assigned_pattern x (g.array_pattern parts x' m ds e)) = rw (e, pattern.outs-ArrayPattern) not_missed
-target-miss n p (g.assigned_pattern x (g.object_pattern parts x' m ds e)) = rw (e, pattern.outs-ObjectPattern) not_missed
-target-miss n p (g.assigned_target y x d h e) = rw (e, pattern.outs-Target, pattern_misfit-Target y) (decided-miss (λ u. pattern.Target y) (simple-decides n y) (λ k. no-pattern-miss y (as_target y).literal refl h k))
-target-miss n p (g.updated_target operator y x h d e) = absurd (cc)
+part-layer-places : (n : ℕ) → AllPlaced n → (x : Expression) (l : Open Expression-F) → misfit x ≡ (layer_target l).target_misfit → Places (layer_target l).part_misfit (part_in false n (refine false n) x l)
+part-layer-places n ih x (layer.Assign span operator target value) o = assignment-places n ih x span operator target value o
+part-layer-places n ih x l o = plain-places n ih x l o tt
 
-assign-target : (x : Expression) (l : Open Expression-F) → out-Expression x ≡ l → as_target x ≡ layer_target l
-assign-target x l o = as_target-is x ∙ ap layer_target o
+misfit-is : (x : Expression) → misfit x ≡ (layer_target (out-Expression x)).target_misfit
+misfit-is x = ap (λ t. t.target_misfit) (as_target-is x)
 
-assign-miss : (operator : AssignOperator) (x : AsTarget) (m : Option ℕ) → (operator ≡ assign.Assign → ⊥) → IsMiss x.part_misfit → IsMiss (with_default operator x m).part_misfit
-assign-miss assign.Assign x m h k = absurd (h refl)
-assign-miss operator x m h k = k
-
--- an assignment as a part
-assignment-missed : (n : ℕ) (operator : AssignOperator) {f : Flags} {ts us : List Filled} (target : Pattern) (span : Span) (value x : Expression) → IsAssigned f operator ts target us → out-Expression x ≡ layer.Assign span operator target value → Missed (IsMiss (as_target x).part_misfit) (reads_part false n x)
-assignment-missed n assign.Assign target span value x d o = rw (assign-target x _ o, o) (map-missed (made_part span (Some value)) (target-miss n target d) (λ m. m))
-assignment-missed n operator target span value x d o = rw (assign-target x _ o) (always (reads_part false n x) refl)
-
-part-by-view : (n : ℕ) {f : Flags} {ts us : List Filled} (x : Expression) → View f ts x us → Missed (IsMiss (misfit x)) (refine false n x) → Missed (IsMiss (as_target x).part_misfit) (reads_part false n x)
-part-by-view n x (a_name m d' e) d = part-missed n x (rw (e, expr.outs-Name) tt) d
-part-by-view n x (an_array elements m ds e) d = part-missed n x (rw (e, expr.outs-ArrayList) tt) d
-part-by-view n x (an_object properties m ds e) d = part-missed n x (rw (e, expr.outs-ObjectList) tt) d
-part-by-view n x (an_access c s a) d = part-missed n x (no-default-if-access (out-Expression x) a) d
-part-by-view n x (a_group held p c q e) d = part-missed n x (rw (e, expr.outs-Group) tt) d
-part-by-view n x (an_assignment operator target value c k v e) d = assignment-missed n operator target _ value x c (layer-of e (expr.outs-Assign _ _ _ _))
-part-by-view n x (a_sequence first y rest c cs e) d = part-missed n x (rw (e, expr.outs-Sequence) tt) d
-part-by-view n x (another a) d = part-missed n x (no-default-if-another (out-Expression x) a) d
-
-part-misses : (n : ℕ) → Misses n → {f : Flags} {least : ℕ} {ts us : List Filled} (x : Expression) → IsExpression f least ts x us → Missed (IsMiss (as_target x).part_misfit) (reads_part false n x)
-part-misses n ih x d = part-by-view n x (view-of d) (ih _ _ _ _ x d)
+part-places : (n : ℕ) → AllPlaced n → (x : Expression) → Places (as_target x).part_misfit (reads_part false n x)
+part-places n ih x = rw (as_target-is x) (part-layer-places n ih x (out-Expression x) (misfit-is x))
 
 -- ## Elements and properties
 
--- what an element before others, or the last one, is as a part
-abbrev MissesAs : Bool → List AsElement → AsElement → Type 0
-MissesAs comma es e = IsMiss (elements_misfit comma (e ∷ es))
+rest-places : {A : Type 0} {m : Option ℕ} {r : Refined A} → Places m r → Places m (refined_cons r (Fits []))
+rest-places (no_misfit e) = no_misfit e
+rest-places (first_misfit_at e) = first_misfit_at e
+rest-places too_deep = too_deep
 
-last-argument : (n : ℕ) → Misses n → {f : Flags} {ts us : List Filled} {a : Argument} → IsArgument f ts a us → Missed (MissesAs false [] (as_argument a)) (argument_part false true (refine false n) (reads_part false n) (out-Argument a))
-last-argument n ih (g.single_argument x a d e) = rw (e, argument.outs-Single, as_argument-Single x) (map-missed SinglePart (part-misses n ih x d) (λ m. first-miss (as_target x).part_misfit None m))
-last-argument n ih (g.spread_argument x a m d e) = rw (e, argument.outs-Spread, as_argument-Spread) (map-missed (RestPart _) (ih _ _ _ _ x d) (λ m. m))
+-- an element, before those of which this holds
+argument-places : (n : ℕ) → AllPlaced n → (comma : Bool) (l : Open Argument-F) (es : List Element) → Places (elements_misfit comma (map as_element es)) (array_parts_of false comma (refine false n) (reads_part false n) es)
+    → Places (elements_misfit comma (argument_layer l ∷ map as_element es)) (refined_cons (argument_part false (is_last es comma) (refine false n) (reads_part false n) l) (array_parts_of false comma (refine false n) (reads_part false n) es))
+argument-places n ih comma (layer.Single x) es h = cons-places (map-places SinglePart (part-places n ih x)) h
+argument-places n ih true (layer.Spread span x) [] h = first_misfit_at refl
+argument-places n ih false (layer.Spread span x) [] h = rest-places (map-places (RestPart span) (ih x))
+argument-places n ih comma (layer.Spread span x) (e ∷ es) h = first_misfit_at refl
 
--- one that others, or a comma, follow
-inner-argument : (n : ℕ) → Misses n → (comma : Bool) (es : List AsElement) → ((at : ℕ) (m : Option ℕ) → MissesAs comma es (LastElement at m)) → {f : Flags} {ts us : List Filled} {a : Argument} → IsArgument f ts a us
-    → Missed (MissesAs comma es (as_argument a)) (argument_part false false (refine false n) (reads_part false n) (out-Argument a))
-inner-argument n ih comma es h (g.single_argument x a d e) = rw (e, argument.outs-Single, as_argument-Single x) (map-missed SinglePart (part-misses n ih x d) (λ m. first-miss (as_target x).part_misfit (elements_misfit comma es) m))
-inner-argument n ih comma es h (g.spread_argument x a m d e) = rw (e, argument.outs-Spread, as_argument-Spread) (missed (h _ (as_target x).target_misfit))
+element-places : (n : ℕ) → AllPlaced n → (comma : Bool) (l : Open Element-F) (es : List Element) → Places (elements_misfit comma (map as_element es)) (array_parts_of false comma (refine false n) (reads_part false n) es)
+    → Places (elements_misfit comma (element_layer l ∷ map as_element es)) (refined_cons (element_part false (is_last es comma) (refine false n) (reads_part false n) l) (array_parts_of false comma (refine false n) (reads_part false n) es))
+element-places n ih comma layer.Hole es h = map-places _ h
+element-places n ih comma (layer.Present a) es h = rw (argument-is a) (argument-places n ih comma (out-Argument a) es h)
 
--- a misfit of later elements is one of all
-later-element : (comma : Bool) (a : AsElement) (e : AsElement) (es : List AsElement) → IsMiss (elements_misfit comma (e ∷ es)) → IsMiss (elements_misfit comma (a ∷ e ∷ es))
-later-element comma NoElement e es h = h
-later-element comma (OneElement m) e es h = later-miss m (elements_misfit comma (e ∷ es)) h
-later-element comma (LastElement at m) e es h = refl
+elements-places : (n : ℕ) → AllPlaced n → (comma : Bool) (es : List Element) → Places (elements_misfit comma (map as_element es)) (array_parts_of false comma (refine false n) (reads_part false n) es)
+elements-places n ih comma [] = no_misfit refl
+elements-places n ih comma (e ∷ es) = rw (element-is e) (element-places n ih comma (out-Element e) es (elements-places n ih comma es))
 
-elements-missed : (n : ℕ) → Misses n → {f : Flags} {comma : Bool} {ts us : List Filled} {elements : List Element} → AreElements f comma ts elements us → Missed (IsMiss (elements_misfit comma (map as_element elements))) (array_parts_of false comma (refine false n) (reads_part false n) elements)
-elements-missed n ih (g.no_element h) = not_missed
-elements-missed n ih (g.hole e es m k ds) = rw (k, element.outs-Hole, as_element-Hole) (cons-missed {M = ⊥} not_missed (elements-missed n ih ds) (λ z. absurd z) (λ z. z))
-elements-missed n ih (g.last_element e a d h k) = rw (k, element.outs-Present, as_element-Present a) (cons-missed {N = ⊥} (last-argument n ih d) not_missed (λ z. z) (λ z. absurd z))
-elements-missed n ih (g.comma_element e a d m h k) = rw (k, element.outs-Present, as_element-Present a) (cons-missed {N = ⊥} (inner-argument n ih true [] (λ at p. refl) d) not_missed (λ z. z) (λ z. absurd z))
-elements-missed n ih (g.next_element {comma_after = comma} e e' es a d m k ds) = rw (k, element.outs-Present, as_element-Present a) (cons-missed (inner-argument n ih comma (as_element e' ∷ map as_element es) (λ at p. refl) d) (elements-missed n ih ds) (λ z. z) (later-element comma (as_argument a) (as_element e') (map as_element es)))
+property-places : (n : ℕ) → AllPlaced n → (l : Open Property-F) → Places (property_layer l) (property_part (reads_part false n) l)
+property-places n ih (layer.Plain span key x) = map-places (KeyedPart span key) (part-places n ih x)
+property-places n ih (layer.Defined m) = first_misfit_at (ap Some (method-place-is m))
+property-places n ih l = no_misfit refl
 
-defined-miss : (m : Method) → IsMiss (property_misfit (property.Defined m))
-defined-miss m = ap is_none (ap property_misfit (sym (property.rolls-Defined m)) ∙ fold-roll-Property AsElement (Unit {0}) (Unit {0}) AsElement AsTarget (Unit {0}) (Unit {0}) (Unit {0}) Bool (Unit {0}) (Unit {0}) (Option ℕ) (Option ℕ) (Unit {0}) ℕ (Unit {0}) (Unit {0}) (Unit {0}) ℕ (Unit {0}) (Unit {0}) ℕ ℕ (Unit {0}) (Unit {0}) ℕ (Unit {0})
-    (argument_target (λ x. x)) (λ x. tt) (λ x. tt) (element_target (λ x. x)) (expression_target (λ x. x) (λ x. x) (λ x. x) (λ x. x) (λ x. x) (λ x. x) (λ x. x) (λ x. x) (λ x. x)) (λ x. tt) (λ x. tt) (λ x. tt) link_target (λ x. tt) (λ x. tt) (pattern_target (λ x. x)) (property_target_of (λ x. x) (λ x. x)) (λ x. tt) (λ x. x.span.begin) (λ x. tt) (λ x. tt) (λ x. tt) (λ x. x.span.begin) (λ x. tt) (λ x. tt) (λ x. x.span.begin) (λ x. x.span.begin) (λ x. tt) (λ x. tt) (λ x. x.span.begin) (λ x. tt) (layer.Defined m))
-
-property-missed : (n : ℕ) → Misses n → {f : Flags} {ts us : List Filled} {q : Property} → IsProperty f ts q us → Missed (IsMiss (property_misfit q)) (property_part (reads_part false n) (out-Property q))
-property-missed n ih (g.plain_property k x q dk m d e) = rw (e, property.outs-Plain, property_misfit-Plain) (map-missed (KeyedPart _ k) (part-misses n ih x d) (λ z. z))
-property-missed n ih (g.shorthand_property m q d e) = rw (e, property.outs-Shorthand) not_missed
-property-missed n ih (g.initialized_property m x q d h v e) = rw (e, property.outs-Initialized) not_missed
-property-missed n ih (g.method_property m q d e) = rw (e, property.outs-Defined) (missed (defined-miss m))
-
-properties-missed : (n : ℕ) → Misses n → {f : Flags} {ts us : List Filled} {qs : List Property} → AreProperties f ts qs us → Missed (IsMiss (first_misfit (map property_misfit qs))) (object_parts_of (reads_part false n) qs)
-properties-missed n ih (g.no_property h) = not_missed
-properties-missed n ih (g.last_property q d h) = cons-missed {N = ⊥} (property-missed n ih d) not_missed (λ z. first-miss (property_misfit q) None z) (λ z. absurd z)
-properties-missed n ih (g.next_property q qs d m ds) = cons-missed (property-missed n ih d) (properties-missed n ih ds) (λ z. first-miss (property_misfit q) (first_misfit (map property_misfit qs)) z) (λ z. later-miss (property_misfit q) (first_misfit (map property_misfit qs)) z)
+properties-places : (n : ℕ) → AllPlaced n → (qs : List Property) → Places (first_misfit (map property_misfit qs)) (object_parts_of (reads_part false n) qs)
+properties-places n ih [] = no_misfit refl
+properties-places n ih (q ∷ qs) = rw (property-is q) (cons-places (property-places n ih (out-Property q)) (properties-places n ih qs))
 
 -- ## Targets
 
-miss-by-view : (n : ℕ) → Misses n → {f : Flags} {ts us : List Filled} (x : Expression) → View f ts x us → Missed (IsMiss (misfit x)) (refine false (suc n) x)
-miss-by-view n ih x (a_name m d e) = refine-missed n x (rw (e, expr.outs-Name) tt)
-miss-by-view n ih x (an_array elements m ds e) = rw (misfit, assign-target x _ (layer-of e (expr.outs-ArrayList _ _ _)), e, expr.outs-ArrayList) (map-missed (pattern.ArrayPattern _) (elements-missed n ih ds) (λ z. z))
-miss-by-view n ih x (an_object properties m ds e) = rw (misfit, assign-target x _ (layer-of e (expr.outs-ObjectList _ _)), e, expr.outs-ObjectList) (map-missed (pattern.ObjectPattern _) (properties-missed n ih ds) (λ z. z))
-miss-by-view n ih x (an_access d s a) = refine-missed n x (alone-if-access (out-Expression x) a)
-miss-by-view n ih x (a_group held p d q e) = refine-missed n x (rw (e, expr.outs-Group) tt)
-miss-by-view n ih x (an_assignment operator target value d k v e) = refine-missed n x (rw (e, expr.outs-Assign) tt)
-miss-by-view n ih x (a_sequence first y rest d ds e) = refine-missed n x (rw (e, expr.outs-Sequence) tt)
-miss-by-view n ih x (another a) = refine-missed n x (alone-if-never (out-Expression x) (never-if-another (out-Expression x) a))
+target-places : (n : ℕ) → AllPlaced n → (x : Expression) (l : Open Expression-F) → out-Expression x ≡ l → Places (layer_target l).target_misfit (target_in false n (refine false n) (reads_part false n) x l)
+target-places n ih x (layer.ArrayList span elements comma) o = map-places (pattern.ArrayPattern span) (elements-places n ih comma elements)
+target-places n ih x (layer.ObjectList span properties) o = map-places (pattern.ObjectPattern span) (properties-places n ih properties)
+target-places n ih x l o = subst (λ k. Places (layer_target k).target_misfit (alone false n x)) o (alone-places n x (rw o tt))
 
-misses : (n : ℕ) → Misses n
-misses zero f least ts us x d = unseen
-misses (suc n) f least ts us x d = miss-by-view n (misses n) x (view-of d)
+pub places : (n : ℕ) (x : Expression) → Places (misfit x) (refine false n x)
+places zero x = too_deep
+places (suc n) x = rw (misfit-is x) (target-places n (places n) x (out-Expression x) refl)
 
 -- ## Before an assignment operator
 
@@ -246,12 +246,12 @@ target-assigned : {f : Flags} {ts us : List Filled} {p : Pattern} → IsTarget f
 target-assigned (g.simple_target y p d s e) = g.assigned_target y p d (rw (is_pattern, simple-is-no-literal y s) refl) e
 target-assigned (g.nested_pattern p d) = g.assigned_pattern p d
 
-itself : {f : Flags} {ts us : List Filled} {x : Expression} {r : Refined Pattern} → IsExpression f level_left_hand_side ts x us → IfFits (λ p. IsTarget f false ts p us) r → Missed (IsMiss (misfit x)) r → IfFits (λ p. IsAssigned f assign.Assign ts p us) (else_itself x r)
+itself : {f : Flags} {ts us : List Filled} {x : Expression} {r : Refined Pattern} → IsExpression f level_left_hand_side ts x us → IfFits (λ p. IsTarget f false ts p us) r → Places (misfit x) r → IfFits (λ p. IsAssigned f assign.Assign ts p us) (else_itself x r)
 itself d (fits h) m = fits (target-assigned h)
-itself {x = x} d misfits (missed m) = fits (g.assigned_target x _ d (no-pattern (as_target x).literal (is_none (misfit x)) m) refl)
+itself {x = x} d misfits (first_misfit_at e) = fits (g.assigned_target x _ d (no-pattern (as_target x).literal (is_none (misfit x)) (ap is_none e)) refl)
 itself d too_nested m = too_nested
 
 pub assigned : (n : ℕ) (f : Flags) (operator : AssignOperator) (ts us : List Filled) (x : Expression) → IsExpression f level_left_hand_side ts x us → IfFits (λ p. IsAssigned f operator ts p us) (target_before n operator x)
 unfolding target_before refine_pattern
-assigned n f assign.Assign ts us x d = itself d (targets false n f _ ts us x d) (misses n f _ ts us x d)
+assigned n f assign.Assign ts us x d = itself d (targets false n f _ ts us x d) (places n x)
 assigned n f operator ts us x d = fits (g.updated_target _ x _ refl d refl)

@@ -67,7 +67,7 @@ roll-access l = fold-roll-Link AsElement (Unit {0}) (Unit {0}) AsElement AsTarge
 access-is : (l : Link) → is_access' l ≡ is_access l
 access-is l = ap is_access' (sym (roll-out-Link l)) ∙ roll-access (out-Link l)
 
-accesses-are : (ls : List Link) → map is_access' ls ≡ map is_access ls
+pub accesses-are : (ls : List Link) → map is_access' ls ≡ map is_access ls
 accesses-are [] = refl
 accesses-are (l ∷ ls) = rw (access-is l) (ap (λ bs. is_access l ∷ bs) (accesses-are ls))
 

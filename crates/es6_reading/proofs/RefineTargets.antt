@@ -53,7 +53,7 @@ IsNever (layer.SuperIndex span index) = ⊥
 IsNever (layer.Group span held) = ⊥
 IsNever _ = Unit {0}
 
-pub never-if-another : (l : Open Expression-F) → IsAnother l → IsNever l
+never-if-another : (l : Open Expression-F) → IsAnother l → IsNever l
 never-if-another (layer.Name span name) h = h
 never-if-another (layer.ArrayList span elements comma) h = h
 never-if-another (layer.ObjectList span properties) h = h
@@ -91,12 +91,12 @@ target-alone b n t p x (layer.ArrayList span elements comma) h = absurd h
 target-alone b n t p x (layer.ObjectList span properties) h = absurd h
 target-alone b n t p x l h = refl
 
-pub alone-if-never : (l : Open Expression-F) → IsNever l → IsAlone l
+alone-if-never : (l : Open Expression-F) → IsNever l → IsAlone l
 alone-if-never (layer.ArrayList span elements comma) h = h
 alone-if-never (layer.ObjectList span properties) h = h
 alone-if-never l h = tt
 
-pub alone-if-access : (l : Open Expression-F) → IsAccess l → IsAlone l
+alone-if-access : (l : Open Expression-F) → IsAccess l → IsAlone l
 alone-if-access (layer.ArrayList span elements comma) h = h
 alone-if-access (layer.ObjectList span properties) h = h
 alone-if-access l h = tt
@@ -125,12 +125,12 @@ assigned-binds zero p (g.assigned_target y x d h e) = too_nested
 assigned-binds (suc n) p (g.assigned_target y x d h e) = rw (e, pattern.outs-Target) (weaken-fits (bound-name d) (λ u k. bound-target refl k))
 assigned-binds n p (g.updated_target operator y x h d e) = absurd (cc)
 
-default-fits : (b : Bool) (n : ℕ) {f : Flags} {ts us : List Filled} (p : Pattern) → IsAssigned f assign.Assign ts p us → IfFits (λ r. IsTarget f b ts r us) (target_of_default b n p (out-Pattern p))
-default-fits true n p d = map-fits (λ u. p) (assigned-binds n p d) (λ u h. h)
-default-fits false n p (g.assigned_pattern x (g.array_pattern parts x' m ds e)) = rw (e, pattern.outs-ArrayPattern) (fits (g.nested_pattern _ (g.array_pattern parts _ m ds refl)))
-default-fits false n p (g.assigned_pattern x (g.object_pattern parts x' m ds e)) = rw (e, pattern.outs-ObjectPattern) (fits (g.nested_pattern _ (g.object_pattern parts _ m ds refl)))
-default-fits false n p (g.assigned_target y x d h e) = rw (e, pattern.outs-Target) (alone-fits false n y d)
-default-fits false n p (g.updated_target operator y x h d e) = absurd (cc)
+default-fits : (b : Bool) (n : ℕ) → Targets b n → {f : Flags} {ts us : List Filled} (p : Pattern) → IsAssigned f assign.Assign ts p us → IfFits (λ r. IsTarget f b ts r us) (target_of_default b n (refine b n) p (out-Pattern p))
+default-fits true n ih p d = map-fits (λ u. p) (assigned-binds n p d) (λ u h. h)
+default-fits false n ih p (g.assigned_pattern x (g.array_pattern parts x' m ds e)) = rw (e, pattern.outs-ArrayPattern) (fits (g.nested_pattern _ (g.array_pattern parts _ m ds refl)))
+default-fits false n ih p (g.assigned_pattern x (g.object_pattern parts x' m ds e)) = rw (e, pattern.outs-ObjectPattern) (fits (g.nested_pattern _ (g.object_pattern parts _ m ds refl)))
+default-fits false n ih p (g.assigned_target y x d h e) = rw (e, pattern.outs-Target) (ih _ _ _ _ y d)
+default-fits false n ih p (g.updated_target operator y x h d e) = absurd (cc)
 
 -- ## Parts
 
@@ -143,11 +143,11 @@ pub part-alone : (b : Bool) (n : ℕ) (t : Expression → Refined Pattern) (x : 
 part-alone b n t x (layer.Assign span operator target value) h = absurd h
 part-alone b n t x l h = refl
 
-pub no-default-if-access : (l : Open Expression-F) → IsAccess l → HasNoDefault l
+no-default-if-access : (l : Open Expression-F) → IsAccess l → HasNoDefault l
 no-default-if-access (layer.Assign span operator target value) h = h
 no-default-if-access l h = tt
 
-pub no-default-if-another : (l : Open Expression-F) → IsAnother l → HasNoDefault l
+no-default-if-another : (l : Open Expression-F) → IsAnother l → HasNoDefault l
 no-default-if-another (layer.Assign span operator target value) h = h
 no-default-if-another l h = tt
 
@@ -157,12 +157,12 @@ part-of-target b n x h s d = rw (part-alone b n (refine b n) x (out-Expression x
 part-never : (b : Bool) (n : ℕ) {Q : Part → Type 0} (x : Expression) → HasNoDefault (out-Expression x) → IsNever (out-Expression x) → IfFits Q (reads_part b n x)
 part-never b n x h k = rw (part-alone b n (refine b n) x (out-Expression x) h) (map-fits (made_part (span_of x) None) (never {Q = λ p. ⊥} b n x k) (λ p u. absurd u))
 
-assignment-part : (b : Bool) (n : ℕ) (operator : AssignOperator) (f : Flags) {t : Filled} {ts us vs : List Filled} {target : Pattern} {value : Expression} (x : Expression) → IsAssigned (with_in f) operator ts target (t ∷ us) → t.kind ≡ Read (assign_kind operator) → IsExpression (with_in f) level_assignment us value vs → out-Expression x ≡ layer.Assign (across ts vs) operator target value
+assignment-part : (b : Bool) (n : ℕ) → Targets b n → (operator : AssignOperator) (f : Flags) {t : Filled} {ts us vs : List Filled} {target : Pattern} {value : Expression} (x : Expression) → IsAssigned (with_in f) operator ts target (t ∷ us) → t.kind ≡ Read (assign_kind operator) → IsExpression (with_in f) level_assignment us value vs → out-Expression x ≡ layer.Assign (across ts vs) operator target value
     → IfFits (λ q. IsPart (with_in f) b ts q vs) (part_in b n (refine b n) x (layer.Assign (across ts vs) operator target value))
-assignment-part b n assign.Assign f {target = target} {value = value} x d k v o = map-fits (made_part _ (Some value)) (default-fits b n target d) (λ p h. g.part_with_default p value _ h k v refl)
-assignment-part b n operator f x d k v o = map-fits (made_part (span_of x) None) (never {Q = λ p. ⊥} b n x (rw o tt)) (λ p u. absurd u)
+assignment-part b n ih assign.Assign f {target = target} {value = value} x d k v o = map-fits (made_part _ (Some value)) (default-fits b n ih target d) (λ p h. g.part_with_default p value _ h k v refl)
+assignment-part b n ih operator f x d k v o = map-fits (made_part (span_of x) None) (never {Q = λ p. ⊥} b n x (rw o tt)) (λ p u. absurd u)
 
-pub layer-of : {x y : Expression} {l : Open Expression-F} → x ≡ y → out-Expression y ≡ l → out-Expression x ≡ l
+layer-of : {x y : Expression} {l : Open Expression-F} → x ≡ y → out-Expression y ≡ l → out-Expression x ≡ l
 layer-of e o = ap out-Expression e ∙ o
 
 token-across : (t : Filled) (ts : List Filled) → t.span ≡ across (t ∷ ts) ts
@@ -174,18 +174,18 @@ token-across t ts = ap (λ n. record { begin = t.span.begin; end = end_of 0 (tak
 name-across : {ts us : List Filled} {n : Identifier} → IsName ts n us → n.span ≡ across ts us
 name-across (g.name {t = t} {ts = ts} word w i k) = rw k (token-across t ts)
 
-part-by-view : (b : Bool) (n : ℕ) (f : Flags) {ts us : List Filled} (x : Expression) → View (with_in f) ts x us → IfFits (λ p. IsTarget (with_in f) b ts p us) (refine b n x) → IfFits (λ q. IsPart (with_in f) b ts q us) (reads_part b n x)
-part-by-view b n f x (a_name m d' e) d = part-of-target b n x (rw (e, expr.outs-Name) tt) (rw (e, expr.outs-Name) (name-across d')) d
-part-by-view b n f x (an_array elements m ds e) d = part-of-target b n x (rw (e, expr.outs-ArrayList) tt) (rw (e, expr.outs-ArrayList) refl) d
-part-by-view b n f x (an_object properties m ds e) d = part-of-target b n x (rw (e, expr.outs-ObjectList) tt) (rw (e, expr.outs-ObjectList) refl) d
-part-by-view b n f x (an_access c s a) d = part-of-target b n x (no-default-if-access (out-Expression x) a) s d
-part-by-view b n f x (a_group held p c q e) d = part-of-target b n x (rw (e, expr.outs-Group) tt) (rw (e, expr.outs-Group) refl) d
-part-by-view b n f x (an_assignment operator target value c k v e) d = rw (layer-of e (expr.outs-Assign _ _ _ _)) (assignment-part b n operator f x c k v (layer-of e (expr.outs-Assign _ _ _ _)))
-part-by-view b n f x (a_sequence first y rest c cs e) d = part-never b n x (rw (e, expr.outs-Sequence) tt) (rw (e, expr.outs-Sequence) tt)
-part-by-view b n f x (another a) d = part-never b n x (no-default-if-another (out-Expression x) a) (never-if-another (out-Expression x) a)
+part-by-view : (b : Bool) (n : ℕ) → Targets b n → (f : Flags) {ts us : List Filled} (x : Expression) → View (with_in f) ts x us → IfFits (λ p. IsTarget (with_in f) b ts p us) (refine b n x) → IfFits (λ q. IsPart (with_in f) b ts q us) (reads_part b n x)
+part-by-view b n ih f x (a_name m d' e) d = part-of-target b n x (rw (e, expr.outs-Name) tt) (rw (e, expr.outs-Name) (name-across d')) d
+part-by-view b n ih f x (an_array elements m ds e) d = part-of-target b n x (rw (e, expr.outs-ArrayList) tt) (rw (e, expr.outs-ArrayList) refl) d
+part-by-view b n ih f x (an_object properties m ds e) d = part-of-target b n x (rw (e, expr.outs-ObjectList) tt) (rw (e, expr.outs-ObjectList) refl) d
+part-by-view b n ih f x (an_access c s a) d = part-of-target b n x (no-default-if-access (out-Expression x) a) s d
+part-by-view b n ih f x (a_group held p c q e) d = part-of-target b n x (rw (e, expr.outs-Group) tt) (rw (e, expr.outs-Group) refl) d
+part-by-view b n ih f x (an_assignment operator target value c k v e) d = rw (layer-of e (expr.outs-Assign _ _ _ _)) (assignment-part b n ih operator f x c k v (layer-of e (expr.outs-Assign _ _ _ _)))
+part-by-view b n ih f x (a_sequence first y rest c cs e) d = part-never b n x (rw (e, expr.outs-Sequence) tt) (rw (e, expr.outs-Sequence) tt)
+part-by-view b n ih f x (another a) d = part-never b n x (no-default-if-another (out-Expression x) a) (never-if-another (out-Expression x) a)
 
 pub parts-of : (b : Bool) (n : ℕ) → Targets b n → Parts b n
-parts-of b n ih f least ts us x d = part-by-view b n f x (view-of d) (ih _ least ts us x d)
+parts-of b n ih f least ts us x d = part-by-view b n ih f x (view-of d) (ih _ least ts us x d)
 
 -- ## Elements
 

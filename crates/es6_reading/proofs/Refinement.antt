@@ -4,7 +4,7 @@ use Rattle.es6_reading.specs.Refine.{refine_pattern}
 use Rattle.es6_reading.specs.Refinements.{AreRefined}
 use Rattle.es6_reading.proofs.RefineTargets.{targets}
 use Rattle.es6_reading.proofs.RefineParameters.{one-part, parameters, covered}
-use Rattle.es6_reading.proofs.RefineMisfits.{assigned}
+use Rattle.es6_reading.proofs.RefineMisfits.{places, assigned}
 
 pub refinement : AreRefined
 unfolding refine_pattern
@@ -14,4 +14,5 @@ refinement = record {
   assigned = assigned;
   parameters = parameters;
   covered = covered;
+  places = places;
 }

@@ -190,15 +190,15 @@ binds_names (suc n) p = binds_in (binds_names n) (out-Pattern p)
 abbrev pub made_part : Span → Option Expression → Pattern → Part
 made_part span default_ p = roll-Part (record { span = span; pattern = p; default = default_ })
 
--- what a pattern in an assignment is where it stands before a default
-abbrev pub target_of_default : Bool → ℕ → Pattern → Open Pattern-F → Refined Pattern
-target_of_default true n p q = refined_map (λ u. p) (binds_names n p)
-target_of_default false n p (layer.Target x) = alone false n x
-target_of_default false n p _ = Fits p
+-- what a pattern in an assignment is where it stands before a default, by what reads an expression as a target
+abbrev pub target_of_default : Bool → ℕ → (Expression → Refined Pattern) → Pattern → Open Pattern-F → Refined Pattern
+target_of_default true n target p q = refined_map (λ u. p) (binds_names n p)
+target_of_default false n target p (layer.Target x) = target x
+target_of_default false n target p _ = Fits p
 
 -- a part, with its default or without one, by what reads the target
 abbrev pub part_in : Bool → ℕ → (Expression → Refined Pattern) → Expression → Open Expression-F → Refined Part
-part_in binds n target x (layer.Assign span assign.Assign p value) = refined_map (made_part span (Some value)) (target_of_default binds n p (out-Pattern p))
+part_in binds n target x (layer.Assign span assign.Assign p value) = refined_map (made_part span (Some value)) (target_of_default binds n target p (out-Pattern p))
 part_in binds n target x _ = refined_map (made_part (span_of x) None) (target x)
 
 abbrev pub rest_of : Bool → (Expression → Refined Pattern) → Expression → Refined Pattern

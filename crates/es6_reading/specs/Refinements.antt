@@ -1,5 +1,5 @@
 -- What is proved of refinements, in the grammar's terms.
-use Rattle.std.specs.Prelude.{◌≡◌, ℕ, false, true, List, ◌∷◌, Some, None}
+use Rattle.std.specs.Prelude.{◌≡◌, ℕ, false, true, List, ◌∷◌, Option, Some, None}
 use Rattle.es_text.specs.declared.Span.{Span}
 use Rattle.es6_lexer.specs.declared.token.Punctuator.TheVariants as mark
 use Rattle.es6_ast.specs.declared.operators.AssignOperator.{AssignOperator}
@@ -7,6 +7,7 @@ use Rattle.es6_ast.specs.declared.tree.Identifier.{Identifier}
 use Rattle.es6_ast.specs.declared.tree.Expression.{Expression}
 use Rattle.es6_ast.specs.declared.tree.Expression.TheVariants as expr
 use Rattle.es6_ast.specs.Tokens.{Filled, IsMark, across}
+use Rattle.es6_ast.specs.Targets.{misfit}
 use Rattle.es6_ast.specs.Grammar.{Flags, with_in, level_sequence, level_left_hand_side, IsName, IsExpression, IsAssigned, IsTarget, IsPart, AreArrowParameters}
 use Rattle.es6_reading.specs.Refine.{Refined, Fits, Misfit, TooNested, refine_pattern, refine_part, target_before, refine_parameters}
 
@@ -15,6 +16,12 @@ pub data IfFits {A : Type 0} (Q : A → Type 0) : Refined A → Type 0 where
   fits : {x : A} → Q x → IfFits Q (Fits x)
   misfits : {at : ℕ} → IfFits Q (Misfit at)
   too_nested : IfFits Q TooNested
+
+-- It is refined where there is no misfit, and else stands where the misfit is.
+pub data Places {A : Type 0} (misfit : Option ℕ) : Refined A → Type 0 where
+  no_misfit : {x : A} → misfit ≡ None → Places misfit (Fits x)
+  first_misfit_at : {at : ℕ} → misfit ≡ Some at → Places misfit (Misfit at)
+  too_deep : Places misfit TooNested
 
 -- The parentheses that only an arrow's parameters have (14.2): nothing in them, or a rest, after an expression and a comma or
 -- alone.
@@ -26,10 +33,12 @@ pub data IsCover (f : Flags) : List Filled → Expression → List Filled → Ty
       → IsMark mark.Ellipsis dots → IsName us n (close ∷ vs) → IsMark mark.RightParenthesis close → x ≡ expr.Cover span (Some held) (Some (record { span = across (dots ∷ us) (close ∷ vs); name = n })) → IsCover f (open_ ∷ ts) x vs
 
 -- The tokens that spell an expression spell what it is refined to, too: a target of a pattern, a part that binds, what stands
--- before an assignment operator, and the parameters of an arrow.
+-- before an assignment operator, and the parameters of an arrow. An expression that is no pattern is refined up to the first part
+-- that no pattern spells.
 pub record AreRefined : Type 0 where
   pub targets : (n : ℕ) (f : Flags) (least : ℕ) (ts us : List Filled) (x : Expression) → IsExpression f least ts x us → IfFits (λ p. IsTarget f false ts p us) (refine_pattern n x)
   pub parts : (n : ℕ) (f : Flags) (least : ℕ) (ts us : List Filled) (x : Expression) → IsExpression (with_in f) least ts x us → IfFits (λ q. IsPart (with_in f) true ts q us) (refine_part n x)
   pub assigned : (n : ℕ) (f : Flags) (operator : AssignOperator) (ts us : List Filled) (x : Expression) → IsExpression f level_left_hand_side ts x us → IfFits (λ p. IsAssigned f operator ts p us) (target_before n operator x)
   pub parameters : (n : ℕ) (f : Flags) (least : ℕ) (ts us : List Filled) (x : Expression) → IsExpression f least ts x us → IfFits (λ es. AreArrowParameters f ts es us) (refine_parameters n x)
   pub covered : (n : ℕ) (f : Flags) (ts us : List Filled) (x : Expression) → IsCover f ts x us → IfFits (λ es. AreArrowParameters f ts es us) (refine_parameters n x)
+  pub places : (n : ℕ) (x : Expression) → Places (misfit x) (refine_pattern n x)
