@@ -23,4 +23,6 @@ pub mod SoundDeclarations
 pub mod SoundImports
 pub mod SoundModules
 pub mod Soundness
+pub mod Places
+pub mod PlacesOfModules
 pub mod Examples

@@ -5,13 +5,18 @@
 #![tactic(auto)]
 
 ghost use Rattle.es6_reading.specs.Examples.{AreRead, AreStopped, IsDeepest};
-ghost use Rattle.es6_reading.specs.Laws.{IsSound};
+ghost use Rattle.es6_reading.specs.Laws.{FaultsAreInside, IsSound};
 ghost use Rattle.es6_reading.specs.Program.{IsProgramRead};
 ghost use Rattle.es6_reading.specs.Refinements.{AreRefined};
 
 /// What is read without inserted semicolons is derived from all of the tokens, with exact spans.
 pub fn what_is_read_is_derived()
     ensures { IsSound }
+{}
+
+/// A fault of a module stands at one of its tokens, or at the end.
+pub fn faults_stand_at_tokens()
+    ensures { FaultsAreInside }
 {}
 
 /// Small modules are read to their end.
