@@ -1,0 +1,128 @@
+//! What single tokens are.
+
+ghost use Rattle.std.specs.Prelude.{◌≡◌, IfOk, map};
+ghost use Rattle.es5_ast.specs.Grammar.{is_mark, is_word};
+ghost use Rattle.es5_reading.specs.Expressions.{free_name_in, key_in};
+ghost use Rattle.es5_ast.specs.Lexical.{is_one_of, reserved_words};
+ghost use Rattle.es5_ast.specs.Grammar.{is_identifier};
+ghost use Rattle.es5_tokens.specs.Tokens.{kind5};
+ghost use Rattle.es5_tokens.specs.Punctuators.{spelling};
+
+use es5_ast::Key5;
+use es5_tokens::{Punctuator, TokenKind};
+use shared_text::Name;
+use std::alloc::{AllocError, Global};
+
+pub fn is_mark(kind: &TokenKind, mark: Punctuator) -> bool
+    ensures { result ≡ is_mark (spelling mark) (kind5 kind.now) }
+{
+    match kind {
+        TokenKind::Punctuator(other) => *other == mark,
+        _ => false,
+    }
+}
+
+pub fn is_word(kind: &TokenKind, word: &[u8]) -> bool
+    ensures { result ≡ is_word word.now (kind5 kind.now) }
+{
+    match kind {
+        TokenKind::Word(name) => name.is(word),
+        _ => false,
+    }
+}
+
+/// The name of an identifier, which is no reserved word.
+pub fn free_name(alloc: Global, kind: &TokenKind) -> Result<Option<Name>, AllocError>
+    ensures { IfOk result (λ name. name ≡ free_name_in (kind5 kind.now)) }
+{
+    match kind {
+        TokenKind::Word(name) if is_identifier(name) => Ok(Some(name.copy(alloc)?)),
+        _ => Ok(None),
+    }
+}
+
+/// Whether a name is no reserved word of strict code (7.6.1).
+pub fn is_identifier(name: &Name) -> bool
+    ensures { result ≡ is_identifier name.now }
+{
+    !is_reserved(name.bytes())
+}
+
+fn is_reserved(name: &[u8]) -> bool
+    ensures { result ≡ is_one_of name.now reserved_words }
+{
+    is_one_of(name, &RESERVED_WORDS)
+}
+
+/// Whether a name is one of these.
+pub fn is_one_of(name: &[u8], words: &[&[u8]]) -> bool
+    ensures { result ≡ is_one_of name.now (map (λ w. w.now) words.now) }
+{
+    for word in words {
+        if name == *word {
+            return true;
+        }
+    }
+    false
+}
+
+/// The name of a property that the token is (11.1.5).
+pub fn key(alloc: Global, kind: &TokenKind) -> Result<Option<Key5>, AllocError>
+    ensures { IfOk result (λ key. key ≡ key_in (kind5 kind.now)) }
+{
+    Ok(match kind {
+        TokenKind::Word(name) => Some(Key5::WordKey(name.copy(alloc)?)),
+        TokenKind::Integer(value) => Some(Key5::IntegerKey(*value)),
+        TokenKind::Text(units) => Some(Key5::TextKey(units.copy(alloc)?)),
+        TokenKind::Punctuator(_) => None,
+    })
+}
+
+/// ReservedWord (7.6.1), with the future reserved words of strict code
+const RESERVED_WORDS: [&[u8]; 45] = [
+    b"break",
+    b"case",
+    b"catch",
+    b"class",
+    b"const",
+    b"continue",
+    b"debugger",
+    b"default",
+    b"delete",
+    b"do",
+    b"else",
+    b"enum",
+    b"export",
+    b"extends",
+    b"false",
+    b"finally",
+    b"for",
+    b"function",
+    b"if",
+    b"implements",
+    b"import",
+    b"in",
+    b"instanceof",
+    b"interface",
+    b"let",
+    b"new",
+    b"null",
+    b"package",
+    b"private",
+    b"protected",
+    b"public",
+    b"return",
+    b"static",
+    b"super",
+    b"switch",
+    b"this",
+    b"throw",
+    b"true",
+    b"try",
+    b"typeof",
+    b"var",
+    b"void",
+    b"while",
+    b"with",
+    b"yield",
+];

@@ -1,0 +1,33 @@
+ghost use Rattle.std.specs.Prelude.{◌≡◌};
+
+use std::alloc::AllocError;
+
+/// Why no script goes on with the next token.
+#[derive(Clone, Copy, Debug, PartialEq, Eq)]
+pub enum Stop {
+    /// No script begins with the tokens up to it.
+    Syntax,
+    /// One construct too many opens with it.
+    Depth,
+    /// A rule of table V of the profile, by its number.
+    Outside(u8),
+    /// A list is longer than any of a text of the allowed length.
+    Endless,
+}
+
+/// Why a reader gives no node. The cursor stands at the token.
+#[derive(Clone, Copy, Debug, PartialEq, Eq)]
+pub enum Halt {
+    Stopped(Stop),
+    OutOfMemory,
+}
+
+impl From<AllocError> for Halt {
+    ghost use Rattle.es5_cursor.specs.declared.halt.Halt.TheVariants.{OutOfMemory};
+
+    ghost from_gives = { λ _ e. e ≡ OutOfMemory };
+
+    fn from(_e: AllocError) -> Halt {
+        Halt::OutOfMemory
+    }
+}

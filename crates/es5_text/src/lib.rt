@@ -1,0 +1,5 @@
+//! Reads scripts of ECMAScript 5.1 (ECMA-262, 5.1 edition, 11 to 14), in the profile of `docs/ES5_PROFILE.md`.
+#![tactic(auto)]
+
+mod names;
+mod turns;
