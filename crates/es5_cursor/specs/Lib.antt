@@ -1,2 +1,4 @@
 pub mod Reads
 pub mod Takes
+pub mod Tables
+pub mod Shapes

@@ -2,13 +2,13 @@
 
 ghost use Rattle.std.specs.Prelude.{◌≡◌, IfOk, map};
 ghost use Rattle.es5_ast.specs.Grammar.{is_mark, is_word};
-ghost use Rattle.es5_reading.specs.Expressions.{free_name_in, key_in};
+ghost use Rattle.es5_reading.specs.Expressions.{accessor_in, accessor_word, any_name_in, free_name_in, key_in, literal_in, literal_word};
 ghost use Rattle.es5_ast.specs.Lexical.{is_one_of, reserved_words};
 ghost use Rattle.es5_ast.specs.Grammar.{is_identifier};
 ghost use Rattle.es5_tokens.specs.Tokens.{kind5};
 ghost use Rattle.es5_tokens.specs.Punctuators.{spelling};
 
-use es5_ast::Key5;
+use es5_ast::{Key5, Literal5};
 use es5_tokens::{Punctuator, TokenKind};
 use shared_text::Name;
 use std::alloc::{AllocError, Global};
@@ -64,6 +64,64 @@ pub fn is_one_of(name: &[u8], words: &[&[u8]]) -> bool
         }
     }
     false
+}
+
+/// The name of an identifier or a reserved word.
+pub fn any_name(alloc: Global, kind: &TokenKind) -> Result<Option<Name>, AllocError>
+    ensures { IfOk result (λ name. name ≡ any_name_in (kind5 kind.now)) }
+{
+    match kind {
+        TokenKind::Word(name) => Ok(Some(name.copy(alloc)?)),
+        _ => Ok(None),
+    }
+}
+
+/// The literal that the token is (7.8).
+pub fn literal(alloc: Global, kind: &TokenKind) -> Result<Option<Literal5>, AllocError>
+    ensures { IfOk result (λ literal. literal ≡ literal_in (kind5 kind.now)) }
+{
+    Ok(match kind {
+        TokenKind::Word(name) => literal_word(name),
+        TokenKind::Integer(value) => Some(Literal5::Integer(*value)),
+        TokenKind::Text(units) => Some(Literal5::Text(units.copy(alloc)?)),
+        TokenKind::Punctuator(_) => None,
+    })
+}
+
+fn literal_word(name: &Name) -> Option<Literal5>
+    ensures { result ≡ literal_word name.now }
+{
+    if name.is(b"null") {
+        Some(Literal5::Null)
+    } else if name.is(b"true") {
+        Some(Literal5::Truth(true))
+    } else if name.is(b"false") {
+        Some(Literal5::Truth(false))
+    } else {
+        None
+    }
+}
+
+/// Whether the token is `set`, where it is that or `get`.
+pub fn accessor(kind: &TokenKind) -> Option<bool>
+    ensures { result ≡ accessor_in (kind5 kind.now) }
+{
+    match kind {
+        TokenKind::Word(name) => accessor_word(name),
+        _ => None,
+    }
+}
+
+fn accessor_word(name: &Name) -> Option<bool>
+    ensures { result ≡ accessor_word name.now }
+{
+    if name.is(b"get") {
+        Some(false)
+    } else if name.is(b"set") {
+        Some(true)
+    } else {
+        None
+    }
 }
 
 /// The name of a property that the token is (11.1.5).

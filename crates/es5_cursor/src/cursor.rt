@@ -1,18 +1,19 @@
 //! A cursor over tokens, which contracts see as the tokens that are left and the end of the last one that was taken.
 
-ghost use Rattle.std.specs.Prelude.{◌≡◌, map, true, IfOk};
+ghost use Rattle.std.specs.Prelude.{◌≡◌, map, IfOk};
 ghost use Rattle.es5_ast.specs.Grammar.{begin_of};
 ghost use Rattle.es5_tokens.specs.Tokens.{token5};
 ghost use Rattle.es5_tokens.specs.Punctuators.{spelling};
-ghost use Rattle.es5_reading.specs.Parser.{next_is, next_mark, next_word, mark, take_as};
-ghost use Rattle.es5_reading.specs.Expressions.{free_name, key_at};
+ghost use Rattle.es5_reading.specs.Parser.{next_is, next_mark, next_word, mark, word, take_as};
+ghost use Rattle.es5_reading.specs.Expressions.{accessor_at, after_at, any_name, assign_at, before_at, binary_at, free_name, key_at, literal_at, unary_at};
 ghost use Rattle.es5_cursor.specs.Takes.{Takes, TakesAs, passed};
 ghost use Rattle.es5_cursor.specs.Reads.{Reads, Skips};
 
-use crate::classes::{free_name, is_mark, is_word, key};
+use crate::classes::{is_mark, is_word};
 use crate::halt::{Halt, Stop};
+use crate::{classes, operators};
 use es_text::Span;
-use es5_ast::Key5;
+use es5_ast::{AssignOperator5, BinaryOperator5, Key5, Literal5, UnaryOperator5, UpdateOperator5};
 use es5_tokens::{Punctuator, Token};
 use shared_text::Name;
 use std::alloc::{AllocError, Global};
@@ -96,70 +97,20 @@ impl<'a> Cursor<'a> {
         ensures { Takes (next_mark (spelling punctuator)) self.old result self.new }
     {
         let found = self.next_is_mark(punctuator);
-        if found {
-            self.skip();
-        }
+        self.skip_if(found);
         found
     }
 
-    fn skip(&mut self)
-        ensures { self.new ≡ passed true self.old }
+    /// Takes the next token if it is the word.
+    pub fn take_word(&mut self, name: &[u8]) -> bool
+        ensures { Takes (next_word name.now) self.old result self.new }
     {
-        if let Some((token, rest)) = self.rest.split_first() {
-            self.last = token.end;
-            self.rest = rest;
-        }
-    }
-
-    /// Takes an identifier (7.6).
-    pub fn take_free_name(&mut self) -> Result<Option<Name>, AllocError>
-        ensures { IfOk result (λ answer. TakesAs free_name self.old answer self.new) }
-    {
-        let Some(token) = self.rest.first() else {
-            return Ok(None);
-        };
-        let answer = free_name(self.alloc, &token.kind)?;
-        if answer.is_some() {
-            self.skip();
-        }
-        Ok(answer)
-    }
-
-    /// Takes an identifier (7.6).
-    pub fn expect_free_name(&mut self) -> Result<Name, Halt>
-        ensures { Reads (take_as free_name self.old) result self.new }
-    {
-        match self.take_free_name()? {
-            Some(name) => Ok(name),
-            None => Err(Halt::Stopped(Stop::Syntax)),
-        }
-    }
-
-    /// Takes the name of a property (11.1.5).
-    pub fn expect_key(&mut self) -> Result<Key5, Halt>
-        ensures { Reads (take_as key_at self.old) result self.new }
-    {
-        match self.take_key()? {
-            Some(key) => Ok(key),
-            None => Err(Halt::Stopped(Stop::Syntax)),
-        }
-    }
-
-    fn take_key(&mut self) -> Result<Option<Key5>, AllocError>
-        ensures { IfOk result (λ answer. TakesAs key_at self.old answer self.new) }
-    {
-        let Some(token) = self.rest.first() else {
-            return Ok(None);
-        };
-        let answer = key(self.alloc, &token.kind)?;
-        if answer.is_some() {
-            self.skip();
-        }
-        Ok(answer)
+        let found = self.next_is_word(name);
+        self.skip_if(found);
+        found
     }
 
     /// Takes the mark.
-    #[tactic(auto, using(crate::proofs::Choices::expects_missed))]
     pub fn expect_mark(&mut self, punctuator: Punctuator) -> Result<(), Halt>
         ensures { Skips (take_as (mark (spelling punctuator)) self.old) result self.new }
     {
@@ -168,5 +119,175 @@ impl<'a> Cursor<'a> {
         } else {
             Err(Halt::Stopped(Stop::Syntax))
         }
+    }
+
+    /// Takes the word.
+    pub fn expect_word(&mut self, name: &[u8]) -> Result<(), Halt>
+        ensures { Skips (take_as (word name.now) self.old) result self.new }
+    {
+        if self.take_word(name) {
+            Ok(())
+        } else {
+            Err(Halt::Stopped(Stop::Syntax))
+        }
+    }
+
+    fn skip_if(&mut self, found: bool)
+        ensures { self.new ≡ passed found self.old }
+    {
+        if found && let Some((token, rest)) = self.rest.split_first() {
+            self.last = token.end;
+            self.rest = rest;
+        }
+    }
+
+    /// Takes an identifier, if one is next (7.6).
+    pub fn take_free_name(&mut self) -> Result<Option<Name>, AllocError>
+        ensures { IfOk result (λ answer. TakesAs free_name self.old answer self.new) }
+    {
+        let answer = match self.rest.first() {
+            Some(token) => classes::free_name(self.alloc, &token.kind)?,
+            None => None,
+        };
+        self.skip_if(answer.is_some());
+        Ok(answer)
+    }
+
+    /// Takes an identifier (7.6).
+    pub fn expect_free_name(&mut self) -> Result<Name, Halt>
+        ensures { Reads (take_as free_name self.old) result self.new }
+    {
+        match self.take_free_name()? {
+            Some(found) => Ok(found),
+            None => Err(Halt::Stopped(Stop::Syntax)),
+        }
+    }
+
+    /// Takes an identifier or a reserved word, if one is next (7.6).
+    pub fn take_any_name(&mut self) -> Result<Option<Name>, AllocError>
+        ensures { IfOk result (λ answer. TakesAs any_name self.old answer self.new) }
+    {
+        let answer = match self.rest.first() {
+            Some(token) => classes::any_name(self.alloc, &token.kind)?,
+            None => None,
+        };
+        self.skip_if(answer.is_some());
+        Ok(answer)
+    }
+
+    /// Takes an identifier or a reserved word (7.6).
+    pub fn expect_any_name(&mut self) -> Result<Name, Halt>
+        ensures { Reads (take_as any_name self.old) result self.new }
+    {
+        match self.take_any_name()? {
+            Some(found) => Ok(found),
+            None => Err(Halt::Stopped(Stop::Syntax)),
+        }
+    }
+
+    /// Takes the name of a property, if one is next (11.1.5).
+    pub fn take_key(&mut self) -> Result<Option<Key5>, AllocError>
+        ensures { IfOk result (λ answer. TakesAs key_at self.old answer self.new) }
+    {
+        let answer = match self.rest.first() {
+            Some(token) => classes::key(self.alloc, &token.kind)?,
+            None => None,
+        };
+        self.skip_if(answer.is_some());
+        Ok(answer)
+    }
+
+    /// Takes the name of a property (11.1.5).
+    pub fn expect_key(&mut self) -> Result<Key5, Halt>
+        ensures { Reads (take_as key_at self.old) result self.new }
+    {
+        match self.take_key()? {
+            Some(found) => Ok(found),
+            None => Err(Halt::Stopped(Stop::Syntax)),
+        }
+    }
+
+    /// Takes a literal, if one is next (7.8).
+    pub fn take_literal(&mut self) -> Result<Option<Literal5>, AllocError>
+        ensures { IfOk result (λ answer. TakesAs literal_at self.old answer self.new) }
+    {
+        let answer = match self.rest.first() {
+            Some(token) => classes::literal(self.alloc, &token.kind)?,
+            None => None,
+        };
+        self.skip_if(answer.is_some());
+        Ok(answer)
+    }
+
+    /// Takes `get` or `set`, if one is next (11.1.5). The answer says which: `set` is true.
+    pub fn take_accessor(&mut self) -> Option<bool>
+        ensures { TakesAs accessor_at self.old result self.new }
+    {
+        let answer = match self.rest.first() {
+            Some(token) => classes::accessor(&token.kind),
+            None => None,
+        };
+        self.skip_if(answer.is_some());
+        answer
+    }
+
+    /// Takes an operator that stands before its operand, if one is next, but not `++` or `--` (11.4).
+    pub fn take_unary(&mut self) -> Option<UnaryOperator5>
+        ensures { TakesAs unary_at self.old result self.new }
+    {
+        let answer = match self.rest.first() {
+            Some(token) => operators::unary(&token.kind),
+            None => None,
+        };
+        self.skip_if(answer.is_some());
+        answer
+    }
+
+    /// Takes `++` or `--`, if it is next and stands before its operand (11.4.4, 11.4.5).
+    pub fn take_before(&mut self) -> Option<UpdateOperator5>
+        ensures { TakesAs before_at self.old result self.new }
+    {
+        let answer = match self.rest.first() {
+            Some(token) => operators::before(&token.kind),
+            None => None,
+        };
+        self.skip_if(answer.is_some());
+        answer
+    }
+
+    /// Takes `++` or `--`, if it is next, on the line of its operand before it (11.3).
+    pub fn take_after(&mut self) -> Option<UpdateOperator5>
+        ensures { TakesAs after_at self.old result self.new }
+    {
+        let answer = match self.rest.first() {
+            Some(token) => operators::after(token),
+            None => None,
+        };
+        self.skip_if(answer.is_some());
+        answer
+    }
+
+    /// Takes an assignment operator, if one is next (11.13).
+    pub fn take_assign(&mut self) -> Option<AssignOperator5>
+        ensures { TakesAs assign_at self.old result self.new }
+    {
+        let answer = match self.rest.first() {
+            Some(token) => operators::assign(&token.kind),
+            None => None,
+        };
+        self.skip_if(answer.is_some());
+        answer
+    }
+
+    /// Takes an operator of the level, if one is next (11.5 to 11.11). Where no `in` may stand bare, that is none.
+    pub fn take_binary(&mut self, no_in: bool, level: u8) -> Option<BinaryOperator5>
+        ensures { TakesAs (binary_at no_in level) self.old result self.new }
+    {
+        let answer = match self.rest.first() {
+            Some(token) => operators::binary_of_level(&token.kind, no_in, level),
+            None => None,
+        };
+        self.skip_if(answer.is_some());
+        answer
     }
 }

@@ -1,9 +1,14 @@
-//! The tokens of a script, taken one at a time.
+//! The tokens of a script, taken one at a time (ECMA-262, 5.1 edition, 7), and the expressions that readers make of them.
 #![tactic(auto)]
 
+pub mod build;
 mod classes;
 mod cursor;
 mod halt;
+mod operators;
+mod shape;
 
+pub use classes::is_one_of;
 pub use cursor::Cursor;
 pub use halt::{Halt, Stop};
+pub use shape::{Read, Shape};
