@@ -1,3 +1,4 @@
 pub mod Marks
 pub mod Choices
 pub mod Tables
+pub mod Ends

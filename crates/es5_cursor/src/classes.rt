@@ -1,7 +1,7 @@
 //! What single tokens are.
 
 ghost use Rattle.std.specs.Prelude.{◌≡◌, IfOk, map};
-ghost use Rattle.es5_ast.specs.Grammar.{is_mark, is_word};
+ghost use Rattle.es5_ast.specs.Grammar.{ends, is_mark, is_word};
 ghost use Rattle.es5_reading.specs.Expressions.{accessor_in, accessor_word, any_name_in, free_name_in, key_in, literal_in, literal_word};
 ghost use Rattle.es5_ast.specs.Lexical.{is_one_of, reserved_words};
 ghost use Rattle.es5_ast.specs.Grammar.{is_identifier};
@@ -20,6 +20,14 @@ pub fn is_mark(kind: &TokenKind, mark: Punctuator) -> bool
         TokenKind::Punctuator(other) => *other == mark,
         _ => false,
     }
+}
+
+/// Whether it ends a statement (7.9).
+#[tactic(auto, using(crate::proofs::Ends::ends_mark))]
+pub fn is_end(kind: &TokenKind) -> bool
+    ensures { result ≡ ends (kind5 kind.now) }
+{
+    is_mark(kind, Punctuator::Semicolon)
 }
 
 pub fn is_word(kind: &TokenKind, word: &[u8]) -> bool

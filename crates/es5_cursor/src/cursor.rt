@@ -1,7 +1,7 @@
 //! A cursor over tokens, which contracts see as the tokens that are left and the end of the last one that was taken.
 
 ghost use Rattle.std.specs.Prelude.{◌≡◌, map, IfOk};
-ghost use Rattle.es5_ast.specs.Grammar.{begin_of};
+ghost use Rattle.es5_ast.specs.Grammar.{begin_of, ends};
 ghost use Rattle.es5_tokens.specs.Tokens.{token5};
 ghost use Rattle.es5_tokens.specs.Punctuators.{spelling};
 ghost use Rattle.es5_reading.specs.Parser.{next_is, next_mark, next_word, mark, word, take_as};
@@ -50,6 +50,13 @@ impl<'a> Cursor<'a> {
 
     pub fn alloc(&self) -> Global {
         self.alloc
+    }
+
+    /// The tokens that are left.
+    pub fn rest(&self) -> &'a [Token]
+        ensures { map token5 result.now ≡ self.now.tokens }
+    {
+        self.rest
     }
 
     /// The offset of the next token, or 0 at the end.
@@ -106,6 +113,18 @@ impl<'a> Cursor<'a> {
         ensures { Takes (next_word name.now) self.old result self.new }
     {
         let found = self.next_is_word(name);
+        self.skip_if(found);
+        found
+    }
+
+    /// Takes the semicolon that ends a statement, if it is next (7.9).
+    pub fn take_end(&mut self) -> bool
+        ensures { Takes (λ t. ends t.kind) self.old result self.new }
+    {
+        let found = match self.rest.first() {
+            Some(token) => classes::is_end(&token.kind),
+            None => false,
+        };
         self.skip_if(found);
         found
     }

@@ -8,7 +8,7 @@ mod halt;
 mod operators;
 mod shape;
 
-pub use classes::is_one_of;
+pub use classes::{is_mark, is_one_of, is_word};
 pub use cursor::Cursor;
 pub use halt::{Halt, Stop};
 pub use shape::{Read, Shape};

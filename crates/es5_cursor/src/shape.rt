@@ -1,11 +1,12 @@
 //! What a reader of expressions gives.
 
-ghost use Rattle.std.specs.Prelude.{◌≡◌};
+ghost use Rattle.std.specs.Prelude.{◌≡◌, MatchResult, Some, None};
+ghost use Rattle.es5_reading.specs.Statements.{label_of};
 ghost use Rattle.es5_reading.specs.Parser.{Bare, is_left};
 ghost use Rattle.es5_reading.specs.Expressions.{left, other};
 
 use es_text::Span;
-use es5_ast::Expr5;
+use es5_ast::{Expr5, Identifier5};
 use shared_text::Name;
 use std::marker::Model;
 
@@ -84,5 +85,25 @@ impl Read {
     {
         let Read { value, shape: _ } = self;
         value
+    }
+
+    /// The label that it may be, or else the expression (12.12).
+    pub fn into_label(self) -> Result<Identifier5, Expr5>
+        ensures { MatchResult result (λ x. (self.value ≡ Expr5.Name x.span x.name) × (label_of self.shape self.value ≡ Some x)) (λ value. (self.value ≡ value) × (label_of self.shape self.value ≡ None)) }
+    {
+        let Read { value, shape } = self;
+        match shape {
+            Shape::Bare => label_in(value),
+            Shape::LeftHandSide | Shape::Other => Err(value),
+        }
+    }
+}
+
+fn label_in(value: Expr5) -> Result<Identifier5, Expr5>
+    ensures { MatchResult result (λ x. (value ≡ Expr5.Name x.span x.name) × (label_of Bare value ≡ Some x)) (λ other. (value ≡ other) × (label_of Bare value ≡ None)) }
+{
+    match value {
+        Expr5::Name { span, name } => Ok(Identifier5 { span, name }),
+        other => Err(other),
     }
 }
