@@ -1,6 +1,8 @@
 -- The operators that punctuators and words are.
-use Rattle.std.specs.Prelude.{ℕ, cond, List, Option, Some, None, codes}
+use Rattle.std.specs.Prelude.{ℕ, Bool, true, false, ◌||◌, cond, List, Option, Some, None, codes}
 use Rattle.std.specs.Str.{bytes_eq}
+use Rattle.es5_ast.specs.Grammar.{is_identifier}
+use Rattle.es5_reading.specs.Expressions.{is_some, literal_word}
 use Rattle.es5_tokens.specs.declared.token.Punctuator.{Punctuator}
 use Rattle.es5_tokens.specs.declared.token.Punctuator.TheVariants as marks
 use Rattle.es5_ast.specs.declared.operators.UnaryOperator5.{UnaryOperator5}
@@ -73,3 +75,13 @@ unary_word name = cond (bytes_eq name (codes "delete")) (Some unary.Delete) (con
 
 abbrev pub binary_word : List ℕ → Option BinaryOperator5
 binary_word name = cond (bytes_eq name (codes "instanceof")) (Some binary.InstanceOf) (cond (bytes_eq name (codes "in")) (Some binary.In) None)
+
+-- what begins an expression after `new` (11.2)
+abbrev pub begins_operand_mark : Punctuator → Bool
+begins_operand_mark marks.LeftParenthesis = true
+begins_operand_mark marks.LeftBracket = true
+begins_operand_mark marks.LeftBrace = true
+begins_operand_mark _ = false
+
+abbrev pub begins_operand_word : List ℕ → Bool
+begins_operand_word name = is_identifier name || is_some (literal_word name) || bytes_eq name (codes "this") || bytes_eq name (codes "function") || bytes_eq name (codes "new")

@@ -1,15 +1,17 @@
 //! What single tokens are.
 
-ghost use Rattle.std.specs.Prelude.{◌≡◌, IfOk, map};
+ghost use Rattle.std.specs.Prelude.{◌≡◌, ◌||◌, codes, IfOk, map};
 ghost use Rattle.es5_ast.specs.Grammar.{ends, is_mark, is_word};
-ghost use Rattle.es5_reading.specs.Expressions.{accessor_in, accessor_word, any_name_in, free_name_in, key_in, literal_in, literal_word};
+ghost use Rattle.es5_reading.specs.Expressions.{accessor_in, accessor_word, any_name_in, begins_expression, begins_operand, free_name_in, key_in, literal_in, literal_word};
 ghost use Rattle.es5_ast.specs.Lexical.{is_one_of, reserved_words};
 ghost use Rattle.es5_ast.specs.Grammar.{is_identifier};
-ghost use Rattle.es5_tokens.specs.Tokens.{kind5};
+ghost use Rattle.es5_cursor.specs.Tables.{begins_operand_mark, begins_operand_word};
+ghost use Rattle.es5_tokens.specs.Tokens.{kind5, token5};
 ghost use Rattle.es5_tokens.specs.Punctuators.{spelling};
 
+use crate::operators;
 use es5_ast::{Key5, Literal5};
-use es5_tokens::{Punctuator, TokenKind};
+use es5_tokens::{Punctuator, Token, TokenKind};
 use shared_text::Name;
 use std::alloc::{AllocError, Global};
 
@@ -142,6 +144,54 @@ pub fn key(alloc: Global, kind: &TokenKind) -> Result<Option<Key5>, AllocError>
         TokenKind::Text(units) => Some(Key5::TextKey(units.copy(alloc)?)),
         TokenKind::Punctuator(_) => None,
     })
+}
+
+/// Whether the token is `/` or `/=`.
+pub fn begins_division(kind: &TokenKind) -> bool
+    ensures { result ≡ (is_mark (codes "/") (kind5 kind.now) || is_mark (codes "/=") (kind5 kind.now)) }
+{
+    is_mark(kind, Punctuator::Slash) || is_mark(kind, Punctuator::SlashAssign)
+}
+
+/// Whether the token begins an expression after `new` (11.2).
+#[tactic(auto, unfolding(es5_reading::specs::Expressions::begins_operand), using(crate::proofs::Tables::operand_marks))]
+pub fn begins_operand(token: &Token) -> bool
+    ensures { result ≡ begins_operand (token5 token.now) }
+{
+    match &token.kind {
+        TokenKind::Word(name) => begins_operand_word(name),
+        TokenKind::Integer(_) | TokenKind::Text(_) => true,
+        TokenKind::Punctuator(punctuator) => begins_operand_mark(*punctuator),
+    }
+}
+
+fn begins_operand_word(name: &Name) -> bool
+    ensures { result ≡ begins_operand_word name.now }
+{
+    is_identifier(name)
+        || literal_word(name).is_some()
+        || name.is(b"this")
+        || name.is(b"function")
+        || name.is(b"new")
+}
+
+fn begins_operand_mark(punctuator: Punctuator) -> bool
+    ensures { result ≡ begins_operand_mark punctuator }
+{
+    match punctuator {
+        Punctuator::LeftParenthesis | Punctuator::LeftBracket | Punctuator::LeftBrace => true,
+        _ => false,
+    }
+}
+
+/// Whether the token begins an expression.
+#[tactic(auto, unfolding(es5_reading::specs::Expressions::begins_expression))]
+pub fn begins_expression(token: &Token) -> bool
+    ensures { result ≡ begins_expression (token5 token.now) }
+{
+    begins_operand(token)
+        || operators::unary(&token.kind).is_some()
+        || operators::before(&token.kind).is_some()
 }
 
 /// ReservedWord (7.6.1), with the future reserved words of strict code

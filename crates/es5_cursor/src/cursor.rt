@@ -1,12 +1,12 @@
 //! A cursor over tokens, which contracts see as the tokens that are left and the end of the last one that was taken.
 
-ghost use Rattle.std.specs.Prelude.{◌≡◌, map, IfOk};
+ghost use Rattle.std.specs.Prelude.{◌≡◌, map, true, IfOk};
 ghost use Rattle.es5_ast.specs.Grammar.{begin_of, ends};
 ghost use Rattle.es5_tokens.specs.Tokens.{token5};
 ghost use Rattle.es5_tokens.specs.Punctuators.{spelling};
 ghost use Rattle.es5_reading.specs.Parser.{next_is, next_mark, next_word, mark, word, take_as};
-ghost use Rattle.es5_reading.specs.Expressions.{accessor_at, after_at, any_name, assign_at, before_at, binary_at, free_name, key_at, literal_at, unary_at};
-ghost use Rattle.es5_cursor.specs.Takes.{Takes, TakesAs, passed};
+ghost use Rattle.es5_reading.specs.Expressions.{accessor_at, after_at, any_name, assign_at, before_at, begins_division, begins_expression, begins_operand, free_name, key_at, literal_at, unary_at};
+ghost use Rattle.es5_cursor.specs.Takes.{Takes, TakesAs, known_as, next_binary, passed};
 ghost use Rattle.es5_cursor.specs.Reads.{Reads, Skips};
 
 use crate::classes::{is_mark, is_word};
@@ -99,6 +99,36 @@ impl<'a> Cursor<'a> {
         }
     }
 
+    /// Whether the next token is `/` or `/=`.
+    pub fn next_is_division(&self) -> bool
+        ensures { result ≡ next_is begins_division self.now.tokens }
+    {
+        match self.rest.first() {
+            Some(token) => classes::begins_division(&token.kind),
+            None => false,
+        }
+    }
+
+    /// Whether the next token begins an expression after `new` (11.2).
+    pub fn next_begins_operand(&self) -> bool
+        ensures { result ≡ next_is begins_operand self.now.tokens }
+    {
+        match self.rest.first() {
+            Some(token) => classes::begins_operand(token),
+            None => false,
+        }
+    }
+
+    /// Whether the next token begins an expression.
+    pub fn next_begins_expression(&self) -> bool
+        ensures { result ≡ next_is begins_expression self.now.tokens }
+    {
+        match self.rest.first() {
+            Some(token) => classes::begins_expression(token),
+            None => false,
+        }
+    }
+
     /// Takes the next token if it is the mark.
     pub fn take_mark(&mut self, punctuator: Punctuator) -> bool
         ensures { Takes (next_mark (spelling punctuator)) self.old result self.new }
@@ -149,6 +179,23 @@ impl<'a> Cursor<'a> {
         } else {
             Err(Halt::Stopped(Stop::Syntax))
         }
+    }
+
+    /// The operator between two operands that is next, if one is (11.5 to 11.11). Where no `in` may stand bare, that is none.
+    pub fn next_binary(&self, no_in: bool) -> Option<BinaryOperator5>
+        ensures { result ≡ known_as (next_binary no_in) self.now.tokens }
+    {
+        match self.rest.first() {
+            Some(token) => operators::next_binary(&token.kind, no_in),
+            None => None,
+        }
+    }
+
+    /// Takes the next token, if there is one.
+    pub fn take(&mut self)
+        ensures { self.new ≡ passed true self.old }
+    {
+        self.skip_if(true);
     }
 
     fn skip_if(&mut self, found: bool)
@@ -292,18 +339,6 @@ impl<'a> Cursor<'a> {
     {
         let answer = match self.rest.first() {
             Some(token) => operators::assign(&token.kind),
-            None => None,
-        };
-        self.skip_if(answer.is_some());
-        answer
-    }
-
-    /// Takes an operator of the level, if one is next (11.5 to 11.11). Where no `in` may stand bare, that is none.
-    pub fn take_binary(&mut self, no_in: bool, level: u8) -> Option<BinaryOperator5>
-        ensures { TakesAs (binary_at no_in level) self.old result self.new }
-    {
-        let answer = match self.rest.first() {
-            Some(token) => operators::binary_of_level(&token.kind, no_in, level),
             None => None,
         };
         self.skip_if(answer.is_some());

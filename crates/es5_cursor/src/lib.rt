@@ -11,4 +11,5 @@ mod shape;
 pub use classes::{is_mark, is_one_of, is_word};
 pub use cursor::Cursor;
 pub use halt::{Halt, Stop};
+pub use operators::binary_level;
 pub use shape::{Read, Shape};

@@ -1,10 +1,11 @@
 //! The operators that tokens are (ECMA-262, 5.1 edition, 11).
 
-ghost use Rattle.std.specs.Prelude.{◌≡◌, ◌∷◌, [], ◌==◌, ◌&&◌, ◌||◌, not};
+ghost use Rattle.std.specs.Prelude.{◌≡◌, ◌∷◌, []};
 ghost use Rattle.es5_ast.specs.declared.operators.UpdateOperator5.TheVariants.{IncrementBefore, DecrementBefore, IncrementAfter, DecrementAfter};
 ghost use Rattle.es5_ast.specs.Grammar.{assign_kind, binary_kind, binary_level, is_in, unary_kind, update_kind};
 ghost use Rattle.es5_tokens.specs.Tokens.{kind5, token5};
-ghost use Rattle.es5_reading.specs.Expressions.{after_at, assign_operators, binary_operators, look_up, operator_of_level, unary_operators};
+ghost use Rattle.es5_reading.specs.Expressions.{after_at, assign_operators, binary_operators, look_up, unary_operators};
+ghost use Rattle.es5_cursor.specs.Takes.{unless_in};
 ghost use Rattle.es5_cursor.specs.Tables.{after_mark, assign_mark, before_mark, binary_mark, binary_word, unary_mark, unary_word};
 
 use es5_ast::{AssignOperator5, BinaryOperator5, UnaryOperator5, UpdateOperator5};
@@ -185,20 +186,16 @@ fn binary_mark(punctuator: Punctuator) -> Option<BinaryOperator5>
     }
 }
 
-/// An operator of the level, if the token is one. Where no `in` may stand bare, that is none.
-pub fn binary_of_level(kind: &TokenKind, no_in: bool, level: u8) -> Option<BinaryOperator5>
-    ensures { result ≡ operator_of_level no_in level (look_up binary_kind binary_operators (kind5 kind.now)) }
+/// An operator between two operands. Where no `in` may stand bare, that is none.
+pub fn next_binary(kind: &TokenKind, no_in: bool) -> Option<BinaryOperator5>
+    ensures { result ≡ unless_in no_in (look_up binary_kind binary_operators (kind5 kind.now)) }
 {
-    match binary(kind) {
-        Some(operator) if of_level(operator, no_in, level) => Some(operator),
-        _ => None,
+    let operator = binary(kind)?;
+    if no_in && is_in(operator) {
+        None
+    } else {
+        Some(operator)
     }
-}
-
-fn of_level(operator: BinaryOperator5, no_in: bool, level: u8) -> bool
-    ensures { not result ≡ (not (binary_level operator == level) || (no_in && is_in operator)) }
-{
-    binary_level(operator) == level && !(no_in && is_in(operator))
 }
 
 /// The level of the expressions that have the operator: 3 for `||` to 12 for `*` (11.5 to 11.11).

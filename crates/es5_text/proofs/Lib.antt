@@ -1,2 +1,7 @@
+pub mod Groups
+pub mod Levels
+pub mod Links
+pub mod ListTurns
 pub mod Loops
-pub mod Lists
+pub mod Rooms
+pub mod Rules

@@ -1,5 +1,5 @@
 -- How lists are read, an item a turn.
-use Rattle.std.proofs.Common.{◌≡◌, ℕ, suc, ◌+◌, ◌-◌, ◌<◌, ◌≤◌, List, [], ◌∷◌, ◌++◌, refl, sym, ap, arith, append_assoc}
+use Rattle.std.proofs.Common.{◌≡◌, ℕ, suc, ◌+◌, ◌-◌, ◌<◌, ◌≤◌, List, [], ◌∷◌, ◌++◌, refl, sym, ap, ◌∙◌, arith, append_assoc, append-nil}
 use Rattle.es5_reading.specs.Parser.{Input5, Outcome5, Took, Fault, Parser, after, returns}
 use Rattle.es5_text.specs.Readers.{turns, before}
 
@@ -25,3 +25,6 @@ one_before front x (Fault stop ts) = refl
 
 pub then : {A B : Type 0} {o : Outcome5 A} (q : A → Parser B) {x : A} {d : Input5} → o ≡ Took x d → after o q ≡ q x d
 then q read = ap (λ o. after o q) read
+
+pub ended : {A : Type 0} (front : List A) {o : Outcome5 (List A)} {d : Input5} → o ≡ Took [] d → before front o ≡ Took front d
+ended front {d = d} h = ap (before front) h ∙ ap (λ l. Took l d) (append-nil front)

@@ -58,7 +58,7 @@ pub fn one_parameter(cursor: &mut Cursor) -> Result<Items<Identifier5>, Halt>
 }
 
 /// The parameters after the opening parenthesis, and the closing one (13).
-#[tactic(auto, using(crate::proofs::Loops::turns_is, crate::proofs::Loops::one_before, crate::proofs::Lists::parameters_turn, crate::proofs::Lists::parameters_more, crate::proofs::Loops::no_turn, es5_cursor::proofs::Choices::on_mark, es5_cursor::proofs::Choices::off_mark), unfolding(es5_reading::specs::Expressions::more_parameters))]
+#[tactic(auto, using(crate::proofs::Loops::turns_is, crate::proofs::Loops::one_before, crate::proofs::ListTurns::parameters_turn, crate::proofs::ListTurns::parameters_more, crate::proofs::Loops::no_turn, es5_cursor::proofs::Choices::on_mark, es5_cursor::proofs::Choices::off_mark), unfolding(es5_reading::specs::Expressions::more_parameters))]
 pub fn more_parameters(cursor: &mut Cursor) -> Result<Items<Identifier5>, Halt>
     ensures { Reads (more_parameters turns cursor.old) result cursor.new }
 {
