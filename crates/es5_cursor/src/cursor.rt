@@ -198,6 +198,13 @@ impl<'a> Cursor<'a> {
         self.skip_if(true);
     }
 
+    /// Takes the next token, if there is one.
+    pub fn skip(&mut self)
+        ensures { self.new ≡ passed true self.old }
+    {
+        self.skip_if(true);
+    }
+
     fn skip_if(&mut self, found: bool)
         ensures { self.new ≡ passed found self.old }
     {

@@ -5,10 +5,10 @@ pub mod build;
 mod classes;
 mod cursor;
 mod halt;
-mod operators;
+pub mod operators;
 mod shape;
 
-pub use classes::{is_mark, is_one_of, is_word};
+pub use classes::{begins_expression, is_mark, is_one_of, is_word};
 pub use cursor::Cursor;
 pub use halt::{Halt, Stop};
 pub use operators::binary_level;

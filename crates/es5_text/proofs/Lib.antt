@@ -1,7 +1,14 @@
+pub mod Answered
+pub mod Aside
+pub mod Directive
+pub mod Endings
 pub mod Groups
 pub mod Levels
+pub mod LastToken
 pub mod Links
 pub mod ListTurns
 pub mod Loops
+pub mod Parsed
 pub mod Rooms
 pub mod Rules
+pub mod StatementLists

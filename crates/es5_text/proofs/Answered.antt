@@ -1,0 +1,111 @@
+-- What is answered for the tokens of a text is a fault of it, or its script.
+use Rattle.std.proofs.Common.{◌≡◌, ◌⊎◌, inl, inr, ℕ, Bool, true, false, List, [], ◌∷◌, ◌++◌, map, Option, Some, None, refl, sym, ap, subst, append-nil}
+use Rattle.std.specs.Prelude.{Result, Ok, Err, cond}
+use Rattle.std.specs.Str.{chars, IsUtf8}
+use Rattle.es_text.specs.declared.Span.{Span}
+use Rattle.es_text.specs.declared.units.TextFault.{TextFault}
+use Rattle.es_text.specs.declared.units.TextFault.TheVariants as text_fault
+use Rattle.es_text.specs.Units.{IsTextFault}
+use Rattle.es5_ast.specs.declared.tree.Script.{Script}
+use Rattle.es5_ast.specs.declared.tree.Stat5.{Stat5}
+use Rattle.es5_ast.specs.Lexical.{Token5}
+use Rattle.es5_ast.specs.Grammar.{across}
+use Rattle.es5_ast.specs.Early.{IsFirst, script_pairs}
+use Rattle.es5_early.specs.declared.pair.Pair.{Pair}
+use Rattle.es5_early.specs.declared.pair.Rule.{Rule}
+use Rattle.es5_early.specs.declared.pair.Rule.TheVariants.{Early, Outside}
+use Rattle.es5_early.specs.Pairs.{rule_of, pair_of}
+use Rattle.es5_tokens.specs.declared.token.Token.{Token}
+use Rattle.es5_tokens.specs.declared.token.TokenFault.{TokenFault}
+use Rattle.es5_tokens.specs.declared.token.TokenFault.TheVariants.{Lexical, Number}
+use Rattle.es5_tokens.specs.Tokens.{token5, Reads}
+use Rattle.es5_reading.specs.Parser as p
+use Rattle.es5_reading.specs.Parser.{Input5, Stop5, Outcome5}
+use Rattle.es5_reading.specs.Programs.{script}
+use Rattle.es5_reading.proofs.Places.{places}
+use Rattle.es5_text.specs.declared.fault.Fault5.{Fault5}
+use Rattle.es5_text.specs.declared.fault.Fault5.TheVariants.{Lexical5, Syntax5, Early5, Outside5, Depth5, OutOfMemory}
+use Rattle.es5_text.specs.Parsed.{IsDerived, IsParsed}
+use Rattle.es5_text.specs.Faults.{Answers, IsFault, IsReached, IsFirstPair, Lexed5, answer_of, at_end, by_rule, of_pair, of_stop, of_text, is_missing, place_of, stopped}
+use Rattle.es5_text.proofs.Parsed.{derived_of, parsed_of}
+
+abbrev pub IsAnswer : List ℕ → Result (List Stat5) Fault5 → Type 0
+IsAnswer bytes (Ok xs) = Unit {0}
+IsAnswer bytes (Err fault) = IsFault bytes fault
+
+pub text_refused : (bytes : List ℕ) (fault : TextFault) → IsTextFault bytes fault → IsFault bytes (of_text fault)
+text_refused bytes (text_fault.NotUtf8 at) h = inl h
+text_refused bytes text_fault.OutOfMemory h = tt
+
+stop_is : (bytes : List ℕ) (at : ℕ) (stop : Stop5) → IsReached bytes at → IsFault bytes (of_stop stop at)
+stop_is bytes at p.Syntax h = h
+stop_is bytes at p.Depth h = h
+stop_is bytes at (p.Outside rule) h = inr h
+stop_is bytes at p.Endless h = tt
+
+reached : (bytes : List ℕ) (l : Lexed5 bytes) (front rest : List Token5) → map token5 l.tokens ≡ front ++ rest → IsReached bytes (place_of l.end rest)
+reached bytes l front rest e = record { lexed = l; front = front; rest = rest; parts = e; place = refl }
+
+end_reached : (bytes : List ℕ) (l : Lexed5 bytes) → IsReached bytes l.end
+end_reached bytes l = reached bytes l (map token5 l.tokens) [] (sym (append-nil (map token5 l.tokens)))
+
+by_missing : (bytes : List ℕ) (b : Bool) (x y : Fault5) → IsFault bytes x → IsFault bytes y → IsFault bytes (cond b x y)
+by_missing bytes true x y h k = h
+by_missing bytes false x y h k = k
+
+end_is : (bytes : List ℕ) (l : Lexed5 bytes) (stop : Stop5) (fault : Option TokenFault) → l.fault ≡ fault → IsFault bytes (at_end stop l.end fault)
+end_is bytes l stop None e = stop_is bytes l.end stop (end_reached bytes l)
+end_is bytes l stop (Some Lexical) e = inr (record { lexed = l; ended = e; place = refl })
+end_is bytes l stop (Some Number) e = by_missing bytes (is_missing stop) _ _ (stop_is bytes l.end stop (end_reached bytes l)) (inr (end_reached bytes l))
+
+stopped_is : (bytes : List ℕ) (l : Lexed5 bytes) (stop : Stop5) (front rest : List Token5) → map token5 l.tokens ≡ front ++ rest → IsFault bytes (stopped stop rest l.end l.fault)
+stopped_is bytes l stop front [] e = end_is bytes l stop l.fault refl
+stopped_is bytes l stop front (t ∷ ts) e = stop_is bytes t.begin stop (reached bytes l front (t ∷ ts) e)
+
+took_is : (bytes : List ℕ) (l : Lexed5 bytes) (xs : List Stat5) (c : Input5) (fault : Option TokenFault) → l.fault ≡ fault → IsAnswer bytes (answer_of (p.Took xs c) l.end fault)
+took_is bytes l xs c None e = tt
+took_is bytes l xs c (Some Lexical) e = inr (record { lexed = l; ended = e; place = refl })
+took_is bytes l xs c (Some Number) e = inr (end_reached bytes l)
+
+pub answer_is : (bytes : List ℕ) (l : Lexed5 bytes) (fuel : ℕ) (o : Outcome5 (List Stat5)) → script fuel (map token5 l.tokens) ≡ o → IsAnswer bytes (answer_of o l.end l.fault)
+answer_is bytes l fuel (p.Took xs c) e = took_is bytes l xs c l.fault refl
+answer_is bytes l fuel (p.Fault stop rest) e = let at = places fuel (map token5 l.tokens) stop rest e in stopped_is bytes l stop at.0 rest at.1
+
+-- what is answered in place of it says the same, but that memory may run out
+pub answered : (bytes : List ℕ) (r wanted : Result (List Stat5) Fault5) → IsAnswer bytes wanted → Answers r wanted → IsAnswer bytes r
+answered bytes (Ok xs) wanted h e = tt
+answered bytes (Err (Lexical5 at)) wanted h e = subst (IsAnswer bytes) e h
+answered bytes (Err (Syntax5 at)) wanted h e = subst (IsAnswer bytes) e h
+answered bytes (Err (Early5 rule at)) wanted h e = subst (IsAnswer bytes) e h
+answered bytes (Err (Outside5 rule at)) wanted h e = subst (IsAnswer bytes) e h
+answered bytes (Err (Depth5 at)) wanted h e = subst (IsAnswer bytes) e h
+answered bytes (Err OutOfMemory) wanted h e = tt
+
+record Whole (o : Outcome5 (List Stat5)) (fault : Option TokenFault) (xs : List Stat5) : Type 0 where
+  after : Input5
+  read : o ≡ p.Took xs after
+  ended : fault ≡ None
+
+whole : (o : Outcome5 (List Stat5)) (end : ℕ) (fault : Option TokenFault) (xs : List Stat5) → answer_of o end fault ≡ Ok xs → Whole o fault xs
+whole (p.Took ys c) end None xs e = record { after = c; read = ap (λ r. p.Took (got r) c) e; ended = refl }
+  where
+    got : Result (List Stat5) Fault5 → List Stat5
+    got (Ok zs) = zs
+    got (Err f) = []
+whole (p.Took ys c) end (Some fault) xs e = absurd (cc)
+whole (p.Fault stop rest) end fault xs e = absurd (cc)
+
+-- the script of tokens that are read up to their end
+pub derived_answer : (bytes : List ℕ) (l : Lexed5 bytes) (fuel : ℕ) (xs : List Stat5) (span : Span) → answer_of (script fuel (map token5 l.tokens)) l.end l.fault ≡ Ok xs → span ≡ across (map token5 l.tokens) []
+    → IsDerived bytes (record { span = span; statements = xs })
+derived_answer bytes l fuel xs span e s =
+    let w = whole (script fuel (map token5 l.tokens)) l.end l.fault xs e in
+    derived_of bytes l.tokens l.end fuel xs w.after span l.utf8 (subst (λ f. Reads (chars bytes) l.tokens l.end f) w.ended l.reads) w.read s
+
+-- the pair that comes first of a script that is none of the profile
+pub pair_is : (bytes : List ℕ) (tree : Script) (pair : Pair) → IsDerived bytes tree → IsFirst (pair_of pair) (script_pairs tree.statements) → IsFault bytes (of_pair pair)
+pair_is bytes tree pair d h = at pair.rule refl
+  where
+    at : (rule : Rule) → pair.rule ≡ rule → IsFault bytes (by_rule rule pair.at)
+    at (Early n) e = record { script = tree; derived = d; first = subst (λ r. IsFirst (record { rule = rule_of r; at = pair.at }) (script_pairs tree.statements)) e h }
+    at (Outside n) e = inl (record { script = tree; derived = d; first = subst (λ r. IsFirst (record { rule = rule_of r; at = pair.at }) (script_pairs tree.statements)) e h })
