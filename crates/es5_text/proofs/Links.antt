@@ -1,13 +1,13 @@
 -- Accesses and calls are read one by one.
-use Rattle.std.proofs.Common.{◌≡◌, ℕ, suc, ◌+◌, ◌-◌, ◌<◌, Bool, true, false, List, [], ◌∷◌, ◌++◌, Option, Some, None, refl, ap, ◌∙◌}
+use Rattle.std.proofs.Common.{◌≡◌, ℕ, suc, ◌+◌, ◌-◌, ◌<◌, ◌≤◌, Bool, true, false, List, [], ◌∷◌, ◌++◌, Option, Some, None, refl, ap, ◌∙◌}
 use Rattle.std.specs.Prelude.{codes}
 use Rattle.es5_ast.specs.declared.tree.Link5.{Link5}
 use Rattle.es5_ast.specs.Lexical.{Token5}
 use Rattle.es5_ast.specs.Grammar.{is_mark}
-use Rattle.es5_reading.specs.Parser.{Input5, Inner5, Stop5, Outcome5, Took, Fault, Depth, Parser, after, returns, fails, on, on_taken, mark, next_mark, next_is, choose, on_group}
+use Rattle.es5_reading.specs.Parser.{Input5, Inner5, Stop5, Outcome5, Took, Fault, Endless, Depth, Parser, after, returns, fails, on, on_taken, mark, next_mark, next_is, choose, on_group}
 use Rattle.es5_reading.specs.Expressions.{links, member_link, index_link, call_link}
 use Rattle.es5_text.specs.Readers.{turns, before, one_link}
-use Rattle.es5_text.proofs.Loops.{turn, one_before, ended, then}
+use Rattle.es5_text.proofs.Loops.{turn, no_turn, one_before, ended, then}
 
 -- ## What follows a choice follows each of its ways
 
@@ -33,7 +33,7 @@ module _ {A B : Type 0} (k : A → Parser B) where
       (after_choice i.may_open _ _ _ _ c (after_on (mark m) (λ t. p) q (λ t. p') q' c (λ t d. f d) g) refl) g
 
 -- what follows a link, or the end of the list
-linked : Parser (List Link5) → Option Link5 → Parser (List Link5)
+pub linked : Parser (List Link5) → Option Link5 → Parser (List Link5)
 linked more None = returns []
 linked more (Some l) = λ c. after (more c) (λ ls. returns (l ∷ ls))
 
@@ -63,3 +63,7 @@ links_end i calls n front c d lt read = ended front (links_turn i calls n c lt �
 
 pub links_fault : (i : Inner5) (calls : Bool) (n : ℕ) (front : List Link5) (c : Input5) (stop : Stop5) (ts : List Token5) → n < turns → one_link i calls c ≡ Fault stop ts → before front (links i calls (turns - n) c) ≡ Fault stop ts
 links_fault i calls n front c stop ts lt read = ap (before front) (links_turn i calls n c lt ∙ ap (λ o. after o (linked (links i calls (turns - (n + 1))))) read)
+
+pub links_stop : (i : Inner5) (calls : Bool) (n : ℕ) (front : List Link5) (c : Input5) → turns ≤ n → before front (links i calls (turns - n) c) ≡ Fault Endless c.tokens
+unfolding links
+links_stop i calls n front c h = ap (λ m. before front (links i calls m c)) (no_turn n h)

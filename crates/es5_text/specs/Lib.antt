@@ -2,6 +2,5 @@ pub mod Directive
 pub mod Endings
 pub mod Faults
 pub mod Groups
-pub mod Levels
 pub mod Parsed
 pub mod Readers

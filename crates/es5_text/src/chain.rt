@@ -99,7 +99,7 @@ fn link(cursor: &mut Cursor, room: u16, calls: bool) -> Result<Option<Link5>, Ha
     Ok(None)
 }
 
-#[tactic(auto, using(crate::proofs::Rules::lists, crate::proofs::Links::links_more, crate::proofs::Links::links_end, crate::proofs::Links::links_fault))]
+#[tactic(auto, using(crate::proofs::Rules::lists, crate::proofs::Links::links_more, crate::proofs::Links::links_end, crate::proofs::Links::links_fault, crate::proofs::Links::links_stop))]
 fn links(cursor: &mut Cursor, room: u16, calls: bool) -> Result<Items<Link5>, Halt>
     ensures { Reads (links (inner room) calls (inner room).fuel cursor.old) result cursor.new }
 {
