@@ -34,3 +34,8 @@ inserts (suc n) = refl
 pub parameters_are : (room : ℕ) (c : Input5) → parameters (inner room) c ≡ all_parameters c
 unfolding parameters all_parameters
 parameters_are room c = ap (λ n. on (mark (codes ")")) (λ _. returns []) (more_parameters n) c) (fuel_turns room)
+
+pub fuel_some : (room : ℕ) → (inner room).fuel ≡ suc 67108864
+unfolding readers turns
+fuel_some zero = refl
+fuel_some (suc n) = refl

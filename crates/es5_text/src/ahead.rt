@@ -91,9 +91,7 @@ fn is_use_strict(kind: &TokenKind) -> bool
 }
 
 /// The units of `use strict`.
-const USE_STRICT: [u16; 10] = [
-    0x75, 0x73, 0x65, 0x20, 0x73, 0x74, 0x72, 0x69, 0x63, 0x74,
-];
+const USE_STRICT: [u16; 10] = [0x75, 0x73, 0x65, 0x20, 0x73, 0x74, 0x72, 0x69, 0x63, 0x74];
 
 /// Whether the second token goes on with the expression of the first, which is a literal.
 pub fn goes_on_behind(tokens: &[Token]) -> bool

@@ -9,6 +9,7 @@ ghost use Rattle.es5_text.specs.Readers.{inner};
 use crate::cases::switch_statement;
 use crate::compound::{block_statement, if_statement, under};
 use crate::ending::semicolon;
+use crate::expression::sequence;
 use crate::function::rest_of_function;
 use crate::handlers::try_statement;
 use crate::iteration::{do_statement, for_statement, while_statement};
@@ -16,7 +17,6 @@ use crate::jumps::{
     break_statement, continue_statement, debugger_statement, return_statement, throw_statement,
 };
 use crate::names::identifier;
-use crate::expression::sequence;
 use crate::variables::var_statement;
 use es5_ast::{Expr5, Identifier5, Stat5};
 use es5_cursor::{Cursor, Halt, Stop};
