@@ -1,0 +1,6 @@
+use Rattle.std.proofs.Common.{◌≡◌, ◌++◌, drop, map}
+use Rattle.es6_ast.specs.Early.{block_lexical, statement_found}
+use Rattle.early_names.proofs.declared.add_block_lexical.Given as goal
+
+abbrev pub invariant-loop-statement : goal.invariant-loop-statement
+invariant-loop-statement l = l.names.items ++ block_lexical (map statement_found (drop l.statement-index l.statements)) ≡ l.initial.names.items ++ block_lexical (map statement_found l.statements)
