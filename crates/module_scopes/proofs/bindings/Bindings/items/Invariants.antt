@@ -1,0 +1,7 @@
+use Rattle.std.proofs.Common.{◌≡◌, ◌++◌, map, drop}
+use Rattle.es6_ast.specs.Findings.{joined}
+use Rattle.es6_ast.specs.Outside.{item_found}
+use Rattle.module_scopes.proofs.bindings.Bindings.items.Given as goal
+
+abbrev pub invariant-loop-item : goal.invariant-loop-item
+invariant-loop-item l = l.self ++ joined (λ x. x.known) (map item_found (drop l.item-index l.items)) ≡ l.initial.self ++ joined (λ x. x.known) (map item_found l.items)

@@ -1,0 +1,7 @@
+use Rattle.std.proofs.Common.{◌≡◌, ◌++◌, false, map, drop}
+use Rattle.es6_ast.specs.Outside.{knows, parts_names}
+use Rattle.module_scopes.specs.Parts.{parameter_found}
+use Rattle.module_scopes.proofs.bindings.Bindings.parameters.Given as goal
+
+abbrev pub invariant-loop-parameter : goal.invariant-loop-parameter
+invariant-loop-parameter l = l.self ++ map (knows false) (parts_names (map parameter_found (drop l.parameter-index l.parameters))) ≡ l.initial.self ++ map (knows false) (parts_names (map parameter_found l.parameters))
