@@ -145,11 +145,11 @@ impl Environment {
     fn pop(&mut self)
         ensures { self.new ≡ record self.old { known = drop 1 self.old.known } }
     {
-        let Some(Declared { name, outer, .. }) = self.stack.pop() else {
+        let Some(declared) = self.stack.pop() else {
             return;
         };
         // the name is in the map, so that this takes no memory
-        let _ = set_innermost(&mut self.innermost, name, outer);
+        let _ = set_innermost(&mut self.innermost, declared.name, declared.outer);
     }
 }
 
