@@ -127,6 +127,22 @@ function reprint(texts) {
   }
 }
 
+// What a small engine refuses of strict code though the standard has it.
+const quirks = {
+  mujs: [
+    // `delete` of what is no reference, as of a call or of a comparison, gives true (11.4.1)
+    /invalid l-value in delete expression/,
+    // a `/` after `++` or `--` is read as a regular expression
+    /regular expression not terminated/,
+    // a `break` out of a labelled statement that is no loop (12.8)
+    /break label '.*' not found/,
+  ],
+  duk: [
+    // an `in` in brackets in the header of a for statement (12.6.3)
+    /invalid array literal/,
+  ],
+};
+
 // Small engines compile what is printed.
 function compiled(engine, texts) {
   if (spawnSync('which', [engine]).status !== 0) { console.log('scripts: no ' + engine); return; }
@@ -137,7 +153,8 @@ function compiled(engine, texts) {
     fs.writeFileSync(file, 'var list = [' + texts.slice(at, at + 4000).map(ascii).join(',\n') + '];\nfor (var i = 0; i < list.length; i++) { try { Function(list[i]); } catch (e) { print("REFUSED " + e + ": " + list[i]); } }\nprint("DONE");\n');
     const run = spawnSync(engine, [file], { maxBuffer: 1 << 28 });
     const out = run.stdout.toString();
-    if (!/^DONE$/m.test(out) || /^REFUSED/m.test(out)) { failed++; console.log('scripts: ' + engine + ': ' + (out + run.stderr).slice(0, 600)); }
+    const refused = (out.match(/^REFUSED.*$/gm) || []).filter((line) => !quirks[engine].some((words) => words.test(line)));
+    if (!/^DONE$/m.test(out) || refused.length > 0) { failed++; console.log('scripts: ' + engine + ': ' + (refused.slice(0, 20).join('\n') + run.stderr).slice(0, 2000)); }
   }
   fs.rmSync(folder, { recursive: true });
 }
