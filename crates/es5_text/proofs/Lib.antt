@@ -3,6 +3,7 @@ pub mod Aside
 pub mod Directive
 pub mod Endings
 pub mod Groups
+pub mod Inside
 pub mod LastToken
 pub mod Levels
 pub mod Links

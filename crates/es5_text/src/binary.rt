@@ -38,6 +38,7 @@ struct Begun {
 
 /// An expression of operators between operands.
 #[tactic(auto, using(crate::proofs::Levels::unary_fault))]
+#[cycle(reader)]
 pub fn binary(cursor: &mut Cursor, room: u16, no_in: bool) -> Result<Read, Halt>
     ensures { Reads (binary_from (inner room) no_in 10 3 cursor.old) result cursor.new }
 {

@@ -17,6 +17,7 @@ use sqlite_items::Items;
 
 /// The statements of a clause.
 #[tactic(auto, using(crate::proofs::Rules::lists, crate::proofs::StatementLists::in_case_turn, crate::proofs::StatementLists::in_case_more), unfolding(es5_reading::specs::Statements::in_case))]
+#[cycle(reader)]
 fn in_case(cursor: &mut Cursor, room: u16, inside: bool) -> Result<Items<Stat5>, Halt>
     ensures { Reads (in_case (inner room) inside (inner room).fuel cursor.old) result cursor.new }
 {
@@ -32,6 +33,7 @@ fn in_case(cursor: &mut Cursor, room: u16, inside: bool) -> Result<Items<Stat5>,
 
 /// What follows the word `case`.
 #[tactic(auto, using(crate::proofs::Rules::groups), unfolding(es5_reading::specs::Statements::case_clause))]
+#[cycle(reader)]
 fn case_clause(cursor: &mut Cursor, room: u16, inside: bool, begin: u32) -> Result<Case5, Halt>
     ensures { Reads (case_clause (inner room) inside begin cursor.old) result cursor.new }
 {
@@ -47,6 +49,7 @@ fn case_clause(cursor: &mut Cursor, room: u16, inside: bool, begin: u32) -> Resu
 
 /// What follows the word `default`.
 #[tactic(auto, using(crate::proofs::Rules::groups), unfolding(es5_reading::specs::Statements::default_clause))]
+#[cycle(reader)]
 fn default_clause(cursor: &mut Cursor, room: u16, inside: bool, begin: u32) -> Result<Case5, Halt>
     ensures { Reads (default_clause (inner room) inside begin cursor.old) result cursor.new }
 {
@@ -61,6 +64,7 @@ fn default_clause(cursor: &mut Cursor, room: u16, inside: bool, begin: u32) -> R
 
 /// The clauses after the opening brace, of which one may be the default, and the closing brace.
 #[tactic(auto, using(crate::proofs::Rules::lists, crate::proofs::StatementLists::cases_turn, crate::proofs::StatementLists::case_more, crate::proofs::StatementLists::default_more), unfolding(es5_reading::specs::Statements::cases))]
+#[cycle(reader)]
 fn cases(cursor: &mut Cursor, room: u16, inside: bool) -> Result<Items<Case5>, Halt>
     ensures { Reads (cases (inner room) inside true (inner room).fuel cursor.old) result cursor.new }
 {
@@ -89,6 +93,7 @@ fn cases(cursor: &mut Cursor, room: u16, inside: bool) -> Result<Items<Case5>, H
 
 /// What follows the word `switch`.
 #[tactic(auto, using(crate::proofs::Rules::groups), unfolding(es5_reading::specs::Statements::switch_statement))]
+#[cycle(reader)]
 pub fn switch_statement(
     cursor: &mut Cursor,
     room: u16,

@@ -16,6 +16,7 @@ use sqlite_items::Items;
 
 /// The arguments of `new`, which begins at the offset, if there are any.
 #[tactic(auto, using(crate::proofs::Rules::groups), unfolding(es5_reading::specs::Expressions::after_callee))]
+#[cycle(reader)]
 fn after_callee(cursor: &mut Cursor, room: u16, begin: u32, callee: Expr5) -> Result<Read, Halt>
     ensures { Reads (after_callee (inner room) begin callee cursor.old) result cursor.new }
 {
@@ -30,6 +31,7 @@ fn after_callee(cursor: &mut Cursor, room: u16, begin: u32, callee: Expr5) -> Re
 
 /// What accesses and calls begin with.
 #[tactic(auto, using(crate::proofs::Rules::groups), unfolding(es5_reading::specs::Expressions::head))]
+#[cycle(reader)]
 fn head(cursor: &mut Cursor, room: u16, begin: u32) -> Result<Read, Halt>
     ensures { Reads (head (inner room) begin cursor.old) result cursor.new }
 {
@@ -52,6 +54,7 @@ fn member_link(cursor: &mut Cursor, begin: u32) -> Result<Link5, Halt>
 
 /// What follows a bracket, which begins at the offset.
 #[tactic(auto, using(crate::proofs::Rules::groups), unfolding(es5_reading::specs::Expressions::index_link))]
+#[cycle(reader)]
 fn index_link(cursor: &mut Cursor, room: u16, begin: u32) -> Result<Link5, Halt>
     ensures { Reads (index_link (inner room) begin cursor.old) result cursor.new }
 {
@@ -66,6 +69,7 @@ fn index_link(cursor: &mut Cursor, room: u16, begin: u32) -> Result<Link5, Halt>
 
 /// What follows a parenthesis, which begins at the offset.
 #[tactic(auto, using(crate::proofs::Rules::groups), unfolding(es5_reading::specs::Expressions::call_link))]
+#[cycle(reader)]
 fn call_link(cursor: &mut Cursor, room: u16, begin: u32) -> Result<Link5, Halt>
     ensures { Reads (call_link (inner room) begin cursor.old) result cursor.new }
 {
@@ -80,6 +84,7 @@ fn call_link(cursor: &mut Cursor, room: u16, begin: u32) -> Result<Link5, Halt>
 
 /// An access, or a call where the mark says so, if one is next.
 #[tactic(auto, using(crate::proofs::Rules::groups), unfolding(crate::specs::Readers::one_link))]
+#[cycle(reader)]
 fn link(cursor: &mut Cursor, room: u16, calls: bool) -> Result<Option<Link5>, Halt>
     ensures { Reads (one_link (inner room) calls cursor.old) result cursor.new }
 {
@@ -100,6 +105,7 @@ fn link(cursor: &mut Cursor, room: u16, calls: bool) -> Result<Option<Link5>, Ha
 }
 
 #[tactic(auto, using(crate::proofs::Rules::lists, crate::proofs::Links::links_more, crate::proofs::Links::links_end, crate::proofs::Links::links_fault, crate::proofs::Links::links_stop))]
+#[cycle(reader)]
 fn links(cursor: &mut Cursor, room: u16, calls: bool) -> Result<Items<Link5>, Halt>
     ensures { Reads (links (inner room) calls (inner room).fuel cursor.old) result cursor.new }
 {
@@ -115,6 +121,7 @@ fn links(cursor: &mut Cursor, room: u16, calls: bool) -> Result<Items<Link5>, Ha
 
 /// A primary expression or a `new`, with accesses, and with calls where the mark says so.
 #[tactic(auto, using(crate::proofs::Rules::groups), unfolding(es5_reading::specs::Expressions::chain))]
+#[cycle(reader)]
 pub fn chain(cursor: &mut Cursor, room: u16, calls: bool) -> Result<Read, Halt>
     ensures { Reads (chain (inner room) calls cursor.old) result cursor.new }
 {

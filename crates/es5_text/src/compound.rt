@@ -17,6 +17,7 @@ use sqlite_items::{Boxed, Items};
 
 /// Statements in braces (12.1).
 #[tactic(auto, using(crate::proofs::Rules::groups), unfolding(es5_reading::specs::Statements::block))]
+#[cycle(reader)]
 pub fn block(cursor: &mut Cursor, room: u16, inside: bool) -> Result<Block5, Halt>
     ensures { Reads (block (inner room) inside cursor.old) result cursor.new }
 {
@@ -30,6 +31,7 @@ pub fn block(cursor: &mut Cursor, room: u16, inside: bool) -> Result<Block5, Hal
 }
 
 #[tactic(auto, unfolding(es5_reading::specs::Statements::block_statement))]
+#[cycle(reader)]
 pub fn block_statement(cursor: &mut Cursor, room: u16, inside: bool) -> Result<Stat5, Halt>
     ensures { Reads (block_statement (inner room) inside cursor.old) result cursor.new }
 {
@@ -37,6 +39,7 @@ pub fn block_statement(cursor: &mut Cursor, room: u16, inside: bool) -> Result<S
 }
 
 /// The statement under another.
+#[cycle(reader)]
 pub fn under(cursor: &mut Cursor, room: u16, inside: bool) -> Result<Boxed<Stat5>, Halt>
     ensures { Reads ((inner room).statement inside false cursor.old) result cursor.new }
 {
@@ -46,6 +49,7 @@ pub fn under(cursor: &mut Cursor, room: u16, inside: bool) -> Result<Boxed<Stat5
 
 /// An expression in parentheses.
 #[tactic(auto, using(crate::proofs::Rules::groups), unfolding(es5_reading::specs::Statements::parenthesized))]
+#[cycle(reader)]
 pub fn parenthesized(cursor: &mut Cursor, room: u16) -> Result<Expr5, Halt>
     ensures { Reads (parenthesized (inner room) cursor.old) result cursor.new }
 {
@@ -57,6 +61,7 @@ pub fn parenthesized(cursor: &mut Cursor, room: u16) -> Result<Expr5, Halt>
 
 /// From `if` to the end of the statement under it (12.5).
 #[tactic(auto, using(crate::proofs::Rules::groups), unfolding(es5_reading::specs::Statements::condition))]
+#[cycle(reader)]
 fn condition(cursor: &mut Cursor, room: u16, inside: bool) -> Result<Condition5, Halt>
     ensures { Reads (condition (inner room) inside cursor.old) result cursor.new }
 {
@@ -80,6 +85,7 @@ pub struct Alternatives {
 
 /// Each `else` behind a condition.
 #[tactic(auto, using(crate::proofs::Rules::lists, crate::proofs::StatementLists::otherwise_none, crate::proofs::StatementLists::otherwise_last, crate::proofs::StatementLists::otherwise_last_fault, crate::proofs::StatementLists::otherwise_more, crate::proofs::StatementLists::otherwise_more_fault, crate::proofs::StatementLists::otherwise_endless, crate::proofs::StatementLists::otherwise_begin))]
+#[cycle(reader)]
 fn otherwise(cursor: &mut Cursor, room: u16, inside: bool) -> Result<Alternatives, Halt>
     ensures { ReadsAs otherwise_of (otherwise (inner room) inside (inner room).fuel cursor.old) result cursor.new }
 {
@@ -101,6 +107,7 @@ fn otherwise(cursor: &mut Cursor, room: u16, inside: bool) -> Result<Alternative
 }
 
 #[tactic(auto, unfolding(es5_reading::specs::Statements::if_statement))]
+#[cycle(reader)]
 pub fn if_statement(cursor: &mut Cursor, room: u16, inside: bool, begin: u32) -> Result<Stat5, Halt>
     ensures { Reads (if_statement (inner room) inside begin cursor.old) result cursor.new }
 {

@@ -15,6 +15,7 @@ use sqlite_items::Items;
 
 /// 11.3
 #[tactic(auto, using(crate::proofs::Rules::groups), unfolding(es5_reading::specs::Expressions::postfix))]
+#[cycle(reader)]
 fn postfix(cursor: &mut Cursor, room: u16) -> Result<Read, Halt>
     ensures { Reads (postfix (inner room) cursor.old) result cursor.new }
 {
@@ -28,6 +29,7 @@ fn postfix(cursor: &mut Cursor, room: u16) -> Result<Read, Halt>
 }
 
 #[tactic(auto, using(crate::proofs::Rules::groups), unfolding(es5_reading::specs::Expressions::prefixed))]
+#[cycle(reader)]
 fn prefixed(
     cursor: &mut Cursor,
     room: u16,
@@ -42,6 +44,7 @@ fn prefixed(
 }
 
 #[tactic(auto, using(crate::proofs::Rules::groups), unfolding(es5_reading::specs::Expressions::updated))]
+#[cycle(reader)]
 fn updated(
     cursor: &mut Cursor,
     room: u16,
@@ -57,6 +60,7 @@ fn updated(
 
 /// 11.4
 #[tactic(auto, using(crate::proofs::Rules::groups), unfolding(es5_reading::specs::Expressions::unary))]
+#[cycle(reader)]
 pub fn unary(cursor: &mut Cursor, room: u16) -> Result<Read, Halt>
     ensures { Reads (unary (inner room) cursor.old) result cursor.new }
 {
@@ -72,6 +76,7 @@ pub fn unary(cursor: &mut Cursor, room: u16) -> Result<Read, Halt>
 
 /// What follows the `?` of a conditional expression, which begins at the offset.
 #[tactic(auto, using(crate::proofs::Rules::groups), unfolding(es5_reading::specs::Expressions::branches))]
+#[cycle(reader)]
 fn branches(
     cursor: &mut Cursor,
     room: u16,
@@ -91,6 +96,7 @@ fn branches(
 
 /// 11.12
 #[tactic(auto, using(crate::proofs::Rules::groups), unfolding(es5_reading::specs::Expressions::conditional))]
+#[cycle(reader)]
 fn conditional(cursor: &mut Cursor, room: u16, no_in: bool) -> Result<Read, Halt>
     ensures { Reads (conditional (inner room) no_in cursor.old) result cursor.new }
 {
@@ -104,6 +110,7 @@ fn conditional(cursor: &mut Cursor, room: u16, no_in: bool) -> Result<Read, Halt
 
 /// What follows an assignment operator, whose target begins at the offset.
 #[tactic(auto, using(crate::proofs::Rules::groups), unfolding(es5_reading::specs::Expressions::assigned))]
+#[cycle(reader)]
 fn assigned(
     cursor: &mut Cursor,
     room: u16,
@@ -122,6 +129,7 @@ fn assigned(
 
 /// 11.13
 #[tactic(auto, using(crate::proofs::Rules::groups), unfolding(es5_reading::specs::Expressions::assignment))]
+#[cycle(reader)]
 pub fn assignment(cursor: &mut Cursor, room: u16, no_in: bool) -> Result<Read, Halt>
     ensures { Reads (assignment (inner room) no_in cursor.old) result cursor.new }
 {
@@ -137,6 +145,7 @@ pub fn assignment(cursor: &mut Cursor, room: u16, no_in: bool) -> Result<Read, H
 }
 
 #[tactic(auto, using(crate::proofs::Rules::lists, crate::proofs::ListTurns::parts_turn, crate::proofs::ListTurns::parts_more), unfolding(es5_reading::specs::Expressions::parts))]
+#[cycle(reader)]
 fn parts(cursor: &mut Cursor, room: u16, no_in: bool) -> Result<Items<Expr5>, Halt>
     ensures { Reads (parts (inner room) no_in (inner room).fuel cursor.old) result cursor.new }
 {
@@ -153,6 +162,7 @@ fn parts(cursor: &mut Cursor, room: u16, no_in: bool) -> Result<Items<Expr5>, Ha
 
 /// What follows the first comma of an expression that begins at the offset.
 #[tactic(auto, using(crate::proofs::Rules::groups), unfolding(es5_reading::specs::Expressions::more_parts))]
+#[cycle(reader)]
 fn more_parts(
     cursor: &mut Cursor,
     room: u16,
@@ -169,6 +179,7 @@ fn more_parts(
 
 /// 11.14
 #[tactic(auto, using(crate::proofs::Rules::groups), unfolding(es5_reading::specs::Expressions::sequence))]
+#[cycle(reader)]
 pub fn sequence(cursor: &mut Cursor, room: u16, no_in: bool) -> Result<Read, Halt>
     ensures { Reads (sequence (inner room) no_in cursor.old) result cursor.new }
 {

@@ -15,6 +15,7 @@ use sqlite_items::Items;
 
 /// The statements of a block or a function after the opening brace, and the closing brace.
 #[tactic(auto, using(crate::proofs::Rules::lists, crate::proofs::ListTurns::statements_turn, crate::proofs::ListTurns::statements_more, crate::proofs::ListTurns::statements_end), unfolding(es5_reading::specs::Expressions::statements))]
+#[cycle(reader)]
 pub fn statements(
     cursor: &mut Cursor,
     room: u16,
@@ -34,6 +35,7 @@ pub fn statements(
 }
 
 #[tactic(auto, using(crate::proofs::Rules::groups), unfolding(es5_reading::specs::Expressions::body))]
+#[cycle(reader)]
 fn body(cursor: &mut Cursor, room: u16) -> Result<Items<Stat5>, Halt>
     ensures { Reads (body (inner room) cursor.old) result cursor.new }
 {
@@ -54,6 +56,7 @@ fn parameters(cursor: &mut Cursor) -> Result<Items<Identifier5>, Halt>
 
 /// What follows the name of a function that begins at the offset.
 #[tactic(auto, using(crate::proofs::Rules::groups), unfolding(es5_reading::specs::Expressions::rest_of_function))]
+#[cycle(reader)]
 pub fn rest_of_function(
     cursor: &mut Cursor,
     room: u16,
@@ -70,6 +73,7 @@ pub fn rest_of_function(
 
 /// What follows `function`, which begins at the offset, in an expression.
 #[tactic(auto, using(crate::proofs::Rules::groups), unfolding(es5_reading::specs::Expressions::function_expression))]
+#[cycle(reader)]
 pub fn function_expression(cursor: &mut Cursor, room: u16, begin: u32) -> Result<Function5, Halt>
     ensures { Reads (function_expression (inner room) begin cursor.old) result cursor.new }
 {
@@ -93,6 +97,7 @@ fn accessor_parameters(cursor: &mut Cursor, setter: bool) -> Result<Items<Identi
 
 /// What follows the name of an accessor.
 #[tactic(auto, using(crate::proofs::Rules::groups), unfolding(es5_reading::specs::Expressions::accessor_function))]
+#[cycle(reader)]
 fn accessor_function(cursor: &mut Cursor, room: u16, setter: bool) -> Result<Function5, Halt>
     ensures { Reads (accessor_function (inner room) setter cursor.old) result cursor.new }
 {
@@ -105,6 +110,7 @@ fn accessor_function(cursor: &mut Cursor, room: u16, setter: bool) -> Result<Fun
 
 /// What follows `get` or `set`, which begins at the offset.
 #[tactic(auto, using(crate::proofs::Rules::groups), unfolding(es5_reading::specs::Expressions::accessor))]
+#[cycle(reader)]
 pub fn accessor(cursor: &mut Cursor, room: u16, begin: u32, setter: bool) -> Result<Property5, Halt>
     ensures { Reads (accessor (inner room) begin setter cursor.old) result cursor.new }
 {

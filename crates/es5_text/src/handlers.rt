@@ -23,6 +23,7 @@ fn catch_parameter(cursor: &mut Cursor) -> Result<Identifier5, Halt>
 
 /// A catch.
 #[tactic(auto, using(crate::proofs::Rules::groups), unfolding(es5_reading::specs::Statements::handler))]
+#[cycle(reader)]
 fn handler(cursor: &mut Cursor, room: u16, inside: bool) -> Result<Catch5, Halt>
     ensures { Reads (handler (inner room) inside cursor.old) result cursor.new }
 {
@@ -40,6 +41,7 @@ fn handler(cursor: &mut Cursor, room: u16, inside: bool) -> Result<Catch5, Halt>
 
 /// The finally behind a catch, if there is one.
 #[tactic(auto, using(crate::proofs::Rules::groups), unfolding(es5_reading::specs::Statements::after_handler))]
+#[cycle(reader)]
 fn after_handler(
     cursor: &mut Cursor,
     room: u16,
@@ -69,6 +71,7 @@ fn after_handler(
 
 /// The finally behind a block with no catch.
 #[tactic(auto, unfolding(es5_reading::specs::Statements::only_finally))]
+#[cycle(reader)]
 fn only_finally(
     cursor: &mut Cursor,
     room: u16,
@@ -90,6 +93,7 @@ fn only_finally(
 
 /// What follows the word `try`.
 #[tactic(auto, using(crate::proofs::Rules::groups), unfolding(es5_reading::specs::Statements::try_statement))]
+#[cycle(reader)]
 pub fn try_statement(
     cursor: &mut Cursor,
     room: u16,

@@ -19,6 +19,7 @@ use sqlite_items::Items;
 
 /// What follows the word `do` (12.6.1).
 #[tactic(auto, using(crate::proofs::Rules::groups, crate::proofs::Endings::semicolon_is), unfolding(es5_reading::specs::Statements::do_statement))]
+#[cycle(reader)]
 pub fn do_statement(cursor: &mut Cursor, room: u16, inside: bool, begin: u32) -> Result<Stat5, Halt>
     ensures { Reads (do_statement (inner room) inside begin cursor.old) result cursor.new }
 {
@@ -35,6 +36,7 @@ pub fn do_statement(cursor: &mut Cursor, room: u16, inside: bool, begin: u32) ->
 
 /// What follows the word `while` (12.6.2).
 #[tactic(auto, unfolding(es5_reading::specs::Statements::while_statement))]
+#[cycle(reader)]
 pub fn while_statement(
     cursor: &mut Cursor,
     room: u16,
@@ -54,6 +56,7 @@ pub fn while_statement(
 
 /// The variables of a for header behind the first, and the semicolon (12.6.3).
 #[tactic(auto, using(crate::proofs::Rules::groups), unfolding(es5_reading::specs::Statements::after_first_declared))]
+#[cycle(reader)]
 fn after_first_declared(cursor: &mut Cursor, room: u16, first: Declared5) -> Result<ForFirst5, Halt>
     ensures { Reads (after_first_declared (inner room) first cursor.old) result cursor.new }
 {
@@ -70,6 +73,7 @@ fn after_first_declared(cursor: &mut Cursor, room: u16, first: Declared5) -> Res
 
 /// What follows the word `var` in a for header. An `in` behind the first variable is outside the profile.
 #[tactic(auto, using(crate::proofs::Rules::groups), unfolding(es5_reading::specs::Statements::for_var))]
+#[cycle(reader)]
 fn for_var(cursor: &mut Cursor, room: u16) -> Result<ForFirst5, Halt>
     ensures { Reads (for_var (inner room) cursor.old) result cursor.new }
 {
@@ -82,6 +86,7 @@ fn for_var(cursor: &mut Cursor, room: u16) -> Result<ForFirst5, Halt>
 
 /// The expression that begins a for header. An `in` behind a left-hand-side expression is outside the profile.
 #[tactic(auto, using(crate::proofs::Rules::groups, crate::proofs::Endings::left_in), unfolding(es5_reading::specs::Statements::for_expression))]
+#[cycle(reader)]
 fn for_expression(cursor: &mut Cursor, room: u16) -> Result<ForFirst5, Halt>
     ensures { Reads (for_expression (inner room) cursor.old) result cursor.new }
 {
@@ -96,6 +101,7 @@ fn for_expression(cursor: &mut Cursor, room: u16) -> Result<ForFirst5, Halt>
 
 /// What stands before the first semicolon of a for header, and that semicolon.
 #[tactic(auto, using(crate::proofs::Rules::groups), unfolding(es5_reading::specs::Statements::for_first_part))]
+#[cycle(reader)]
 fn for_first_part(cursor: &mut Cursor, room: u16) -> Result<ForFirst5, Halt>
     ensures { Reads (for_first_part (inner room) cursor.old) result cursor.new }
 {
@@ -110,6 +116,7 @@ fn for_first_part(cursor: &mut Cursor, room: u16) -> Result<ForFirst5, Halt>
 
 /// An expression, if there is one, and the mark behind it.
 #[tactic(auto, using(crate::proofs::Rules::groups), unfolding(es5_reading::specs::Statements::optional))]
+#[cycle(reader)]
 fn optional(cursor: &mut Cursor, room: u16, punctuator: Punctuator) -> Result<Option<Expr5>, Halt>
     ensures { Reads (optional (inner room) (spelling punctuator) cursor.old) result cursor.new }
 {
@@ -130,6 +137,7 @@ pub struct Header {
 }
 
 #[tactic(auto, unfolding(es5_reading::specs::Statements::for_header))]
+#[cycle(reader)]
 fn for_header(cursor: &mut Cursor, room: u16) -> Result<Header, Halt>
     ensures { ReadsAs header_of (for_header (inner room) cursor.old) result cursor.new }
 {
@@ -145,6 +153,7 @@ fn for_header(cursor: &mut Cursor, room: u16) -> Result<Header, Halt>
 
 /// What follows the word `for` (12.6.3).
 #[tactic(auto, using(crate::proofs::Rules::groups), unfolding(es5_reading::specs::Statements::for_statement))]
+#[cycle(reader)]
 pub fn for_statement(
     cursor: &mut Cursor,
     room: u16,

@@ -34,6 +34,7 @@ pub fn break_statement(cursor: &mut Cursor, room: u16, begin: u32) -> Result<Sta
 
 /// The value of a `return`, if it has one.
 #[tactic(auto, using(crate::proofs::Rules::groups), unfolding(es5_reading::specs::Statements::returned))]
+#[cycle(reader)]
 fn returned(cursor: &mut Cursor, room: u16) -> Result<Option<Expr5>, Halt>
     ensures { Reads (returned (inner room) cursor.old) result cursor.new }
 {
@@ -46,6 +47,7 @@ fn returned(cursor: &mut Cursor, room: u16) -> Result<Option<Expr5>, Halt>
 
 /// What follows the word `return` (12.9).
 #[tactic(auto, using(crate::proofs::Endings::semicolon_is), unfolding(es5_reading::specs::Statements::return_statement))]
+#[cycle(reader)]
 pub fn return_statement(cursor: &mut Cursor, room: u16, begin: u32) -> Result<Stat5, Halt>
     ensures { Reads (return_statement (inner room) begin cursor.old) result cursor.new }
 {
@@ -57,6 +59,7 @@ pub fn return_statement(cursor: &mut Cursor, room: u16, begin: u32) -> Result<St
 
 /// What follows the word `throw`, on its line (12.13).
 #[tactic(auto, using(crate::proofs::Rules::groups, crate::proofs::Endings::semicolon_is), unfolding(es5_reading::specs::Statements::throw_statement))]
+#[cycle(reader)]
 pub fn throw_statement(cursor: &mut Cursor, room: u16, begin: u32) -> Result<Stat5, Halt>
     ensures { Reads (throw_statement (inner room) begin cursor.old) result cursor.new }
 {

@@ -13,6 +13,7 @@ use sqlite_items::Items;
 
 /// The properties after the opening brace, and the closing brace.
 #[tactic(auto, using(crate::proofs::Rules::lists, crate::proofs::ListTurns::properties_turn, crate::proofs::ListTurns::properties_more, crate::proofs::ListTurns::properties_end), unfolding(es5_reading::specs::Expressions::properties))]
+#[cycle(reader)]
 pub fn properties(cursor: &mut Cursor, room: u16) -> Result<Items<Property5>, Halt>
     ensures { Reads (properties (inner room) (inner room).fuel cursor.old) result cursor.new }
 {
@@ -32,6 +33,7 @@ pub fn properties(cursor: &mut Cursor, room: u16) -> Result<Items<Property5>, Ha
 
 /// The elements after the opening bracket, and the closing bracket.
 #[tactic(auto, using(crate::proofs::Rules::lists, crate::proofs::ListTurns::elements_turn, crate::proofs::ListTurns::elements_more, crate::proofs::ListTurns::elements_hole, crate::proofs::ListTurns::elements_end), unfolding(es5_reading::specs::Expressions::elements))]
+#[cycle(reader)]
 pub fn elements(cursor: &mut Cursor, room: u16) -> Result<Items<Element5>, Halt>
     ensures { Reads (elements (inner room) (inner room).fuel cursor.old) result cursor.new }
 {
@@ -55,6 +57,7 @@ pub fn elements(cursor: &mut Cursor, room: u16) -> Result<Items<Element5>, Halt>
 }
 
 #[tactic(auto, using(crate::proofs::Rules::lists, crate::proofs::ListTurns::arguments_turn, crate::proofs::ListTurns::arguments_more), unfolding(es5_reading::specs::Expressions::more_arguments))]
+#[cycle(reader)]
 fn more_arguments(cursor: &mut Cursor, room: u16) -> Result<Items<Expr5>, Halt>
     ensures { Reads (more_arguments (inner room) (inner room).fuel cursor.old) result cursor.new }
 {
@@ -72,6 +75,7 @@ fn more_arguments(cursor: &mut Cursor, room: u16) -> Result<Items<Expr5>, Halt>
 
 /// The arguments after the opening parenthesis, and the closing one.
 #[tactic(auto, using(crate::proofs::Rules::groups), unfolding(es5_reading::specs::Expressions::arguments))]
+#[cycle(reader)]
 pub fn arguments(cursor: &mut Cursor, room: u16) -> Result<Items<Expr5>, Halt>
     ensures { Reads (arguments (inner room) cursor.old) result cursor.new }
 {

@@ -13,6 +13,7 @@ use es5_cursor::{Cursor, Halt, Read, Stop, build};
 use es5_tokens::Punctuator;
 
 #[tactic(auto, using(crate::proofs::Rules::groups), unfolding(es5_reading::specs::Expressions::grouped))]
+#[cycle(reader)]
 fn grouped(cursor: &mut Cursor, room: u16) -> Result<Read, Halt>
     ensures { Reads (grouped (inner room) cursor.old) result cursor.new }
 {
@@ -34,6 +35,7 @@ pub fn no_expression(cursor: &Cursor) -> Result<Read, Halt>
 }
 
 #[tactic(auto, using(crate::proofs::Rules::groups), unfolding(es5_reading::specs::Expressions::bracketed))]
+#[cycle(reader)]
 fn bracketed(cursor: &mut Cursor, room: u16, begin: u32) -> Result<Read, Halt>
     ensures { Reads (bracketed (inner room) begin cursor.old) result cursor.new }
 {
@@ -52,6 +54,7 @@ fn bracketed(cursor: &mut Cursor, room: u16, begin: u32) -> Result<Read, Halt>
 
 /// A primary expression, which begins at the offset.
 #[tactic(auto, using(crate::proofs::Rules::groups), unfolding(es5_reading::specs::Expressions::primary))]
+#[cycle(reader)]
 pub fn primary(cursor: &mut Cursor, room: u16, begin: u32) -> Result<Read, Halt>
     ensures { Reads (primary (inner room) begin cursor.old) result cursor.new }
 {

@@ -18,6 +18,7 @@ use std::alloc::{AllocError, Global};
 
 /// The value after the colon of a property that begins at the offset.
 #[tactic(auto, using(crate::proofs::Rules::groups), unfolding(es5_reading::specs::Expressions::value_of_key))]
+#[cycle(reader)]
 fn value_of_key(
     cursor: &mut Cursor,
     room: u16,
@@ -36,6 +37,7 @@ fn value_of_key(
 }
 
 #[tactic(auto, using(crate::proofs::Rules::groups), unfolding(es5_reading::specs::Expressions::plain_property))]
+#[cycle(reader)]
 fn plain_property(cursor: &mut Cursor, room: u16, begin: u32) -> Result<Property5, Halt>
     ensures { Reads (plain_property (inner room) begin cursor.old) result cursor.new }
 {
@@ -46,6 +48,7 @@ fn plain_property(cursor: &mut Cursor, room: u16, begin: u32) -> Result<Property
 
 /// The property that begins with `get` or `set` at the offset: a name of its own before a colon, else an accessor's word.
 #[tactic(auto, using(crate::proofs::Rules::groups), unfolding(es5_reading::specs::Expressions::after_accessor_word))]
+#[cycle(reader)]
 fn after_accessor_word(
     cursor: &mut Cursor,
     room: u16,
@@ -74,6 +77,7 @@ fn accessor_key(alloc: Global, span: Span, setter: bool) -> Result<PlacedKey5, A
 
 /// A property.
 #[tactic(auto, using(crate::proofs::Rules::groups), unfolding(es5_reading::specs::Expressions::one_property))]
+#[cycle(reader)]
 pub fn one_property(cursor: &mut Cursor, room: u16) -> Result<Property5, Halt>
     ensures { Reads (one_property (inner room) cursor.old) result cursor.new }
 {

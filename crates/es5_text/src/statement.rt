@@ -25,6 +25,7 @@ use sqlite_items::Boxed;
 
 /// What follows the word `function` in a declaration (13).
 #[tactic(auto, unfolding(es5_reading::specs::Statements::declaration))]
+#[cycle(reader)]
 fn declaration(cursor: &mut Cursor, room: u16, begin: u32) -> Result<Stat5, Halt>
     ensures { Reads (declaration (inner room) begin cursor.old) result cursor.new }
 {
@@ -50,6 +51,7 @@ fn expression_end(
 
 /// The statement behind a label and its colon (12.12).
 #[tactic(auto, unfolding(es5_reading::specs::Statements::labelled))]
+#[cycle(reader)]
 fn labelled(
     cursor: &mut Cursor,
     room: u16,
@@ -66,6 +68,7 @@ fn labelled(
 
 /// What follows an identifier that is the whole of an expression: it may be a label.
 #[tactic(auto, using(crate::proofs::Rules::groups))]
+#[cycle(reader)]
 fn label_or_end(
     cursor: &mut Cursor,
     room: u16,
@@ -84,6 +87,7 @@ fn label_or_end(
 
 /// An expression as a statement, or a statement with a label.
 #[tactic(auto, unfolding(es5_reading::specs::Statements::expression_statement))]
+#[cycle(reader)]
 fn expression_statement(
     cursor: &mut Cursor,
     room: u16,
@@ -100,6 +104,7 @@ fn expression_statement(
 
 /// A declaration of a function where one may stand, or an expression. A `with` is outside the profile.
 #[tactic(auto, using(crate::proofs::Rules::groups), unfolding(es5_reading::specs::Statements::plain_statement))]
+#[cycle(reader)]
 fn plain_statement(
     cursor: &mut Cursor,
     room: u16,
@@ -123,6 +128,7 @@ fn plain_statement(
 }
 
 #[tactic(auto, using(crate::proofs::Rules::groups), unfolding(es5_reading::specs::Statements::jump_statement))]
+#[cycle(reader)]
 fn jump_statement(
     cursor: &mut Cursor,
     room: u16,
@@ -154,6 +160,7 @@ fn jump_statement(
 }
 
 #[tactic(auto, using(crate::proofs::Rules::groups), unfolding(es5_reading::specs::Statements::compound_statement))]
+#[cycle(reader)]
 fn compound_statement(
     cursor: &mut Cursor,
     room: u16,
@@ -183,6 +190,7 @@ fn compound_statement(
 
 /// A statement, or a declaration of a function where `top` lets one stand.
 #[tactic(auto, using(crate::proofs::Rules::groups), unfolding(es5_reading::specs::Statements::statement))]
+#[cycle(reader)]
 pub fn statement(cursor: &mut Cursor, room: u16, inside: bool, top: bool) -> Result<Stat5, Halt>
     ensures { Reads (statement (inner room) inside top cursor.old) result cursor.new }
 {

@@ -16,6 +16,7 @@ use sqlite_items::Items;
 
 /// What a variable is initialized with, behind its `=`.
 #[tactic(auto, unfolding(es5_reading::specs::Statements::initialized))]
+#[cycle(reader)]
 fn initialized(
     cursor: &mut Cursor,
     room: u16,
@@ -35,6 +36,7 @@ fn initialized(
 
 /// A variable, and what it is initialized with.
 #[tactic(auto, using(crate::proofs::Rules::groups), unfolding(es5_reading::specs::Statements::one_declared))]
+#[cycle(reader)]
 pub fn one_declared(cursor: &mut Cursor, room: u16, no_in: bool) -> Result<Declared5, Halt>
     ensures { Reads (one_declared (inner room) no_in cursor.old) result cursor.new }
 {
@@ -52,6 +54,7 @@ pub fn one_declared(cursor: &mut Cursor, room: u16, no_in: bool) -> Result<Decla
 
 /// The variables of a statement.
 #[tactic(auto, using(crate::proofs::Rules::lists, crate::proofs::StatementLists::declared_turn, crate::proofs::StatementLists::declared_more), unfolding(es5_reading::specs::Statements::declared_list))]
+#[cycle(reader)]
 fn declarations(cursor: &mut Cursor, room: u16) -> Result<Items<Declared5>, Halt>
     ensures { Reads (declared_list (one_declared (inner room) false) (inner room).fuel cursor.old) result cursor.new }
 {
@@ -67,6 +70,7 @@ fn declarations(cursor: &mut Cursor, room: u16) -> Result<Items<Declared5>, Halt
 
 /// The variables of a for header behind a comma (12.6.3).
 #[tactic(auto, using(crate::proofs::Rules::lists, crate::proofs::StatementLists::declared_turn, crate::proofs::StatementLists::declared_more), unfolding(es5_reading::specs::Statements::declared_list))]
+#[cycle(reader)]
 pub fn more_declarations(cursor: &mut Cursor, room: u16) -> Result<Items<Declared5>, Halt>
     ensures { Reads (declared_list ((inner room).declared true) (inner room).fuel cursor.old) result cursor.new }
 {
@@ -82,6 +86,7 @@ pub fn more_declarations(cursor: &mut Cursor, room: u16) -> Result<Items<Declare
 
 /// What follows the word `var`.
 #[tactic(auto, using(crate::proofs::Endings::semicolon_is), unfolding(es5_reading::specs::Statements::var_statement))]
+#[cycle(reader)]
 pub fn var_statement(cursor: &mut Cursor, room: u16, begin: u32) -> Result<Stat5, Halt>
     ensures { Reads (var_statement (inner room) begin cursor.old) result cursor.new }
 {

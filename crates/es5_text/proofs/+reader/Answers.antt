@@ -1,19 +1,24 @@
-use Rattle.std.proofs.Common.{◌≡◌, ◌≤◌, ℕ, ◌∙◌, refl, sym, ap, arith}
 use Rattle.es5_ast.specs.Grammar.{binary_level}
+use Rattle.es5_reading.specs.Parser.{next_is}
+use Rattle.es5_reading.specs.Statements.{ends_case}
+use Rattle.es5_text.proofs.Levels.{begins_with, below_twelve, finishes, known, none_rising, reads_on, silent}
+use Rattle.es5_text.proofs.ListTurns.{elements_end, properties_end, statements_end}
+use Rattle.es5_text.proofs.Loops.{turns_is}
+use Rattle.es5_text.proofs.Rooms.{fuel_some}
+use Rattle.es5_text.proofs.StatementEnds.{cases_end, in_case_end}
 use Rattle.es5_text.specs.Levels.{level_of, resumed, standing, top}
 use Rattle.es5_text.specs.Readers.{inner}
-use Rattle.es5_text.proofs.Levels.{begins_with, none_rising, reads_on, finishes, silent, known, below_twelve}
-use Rattle.es5_text.proofs.Rooms.{fuel_some}
-use Rattle.es5_text.proofs.binary.binary.Goals as goal
+use Rattle.std.proofs.Common.{ap, arith, refl, sym, true, ℕ, ◌∙◌, ◌≡◌, ◌≤◌}
+use Rattle.es5_text.proofs.+reader.Goals as goal
 
-pub loop-turn-init : goal.loop-turn-init
-loop-turn-init c = record {
+pub binary-loop-turn-init : goal.binary-loop-turn-init
+binary-loop-turn-init t c = record {
   same = begins_with (inner c.args.room) c.args.no_in c.new-stack.result c.args.cursor.now c.new-stack.ensures;
   rising = none_rising c.new-stack.result c.new-stack.ensures;
 }
 
-pub returns-in_default : goal.returns-in_default
-returns-in_default c =
+pub binary-returns-in_default : goal.binary-returns-in_default
+binary-returns-in_default t c =
     let i = inner c.args.room in
     let no_in = c.args.no_in in
     let d = c.unary.new.cursor in
@@ -25,8 +30,8 @@ returns-in_default c =
     ∙ c.in_ok-operand.ensures.same c.args.room no_in quiet
     ∙ finishes i no_in c.level.result c.settle.new.stack c.in_ok-operand.operand.begin c.in_ok-operand.operand.value d two c.in_ok-operand.ensures.rising.0 c.in_ok-operand.ensures.rising.1
 
-pub loop-turn-preserved : goal.loop-turn-preserved
-loop-turn-preserved c =
+pub binary-loop-turn-preserved : goal.binary-loop-turn-preserved
+binary-loop-turn-preserved t c =
     let i = inner c.args.room in
     let no_in = c.args.no_in in
     let d = c.unary.new.cursor in
@@ -44,3 +49,18 @@ loop-turn-preserved c =
           ∙ c.in_ok-wait.ensures.same c.args.room no_in (known no_in c.next_binary-next.result op d c.next_binary-next.ensures c.in-Some.is);
       rising = c.in_ok-wait.ensures.rising;
     }
+
+pub cases-returns-then-take_mark : goal.cases-returns-then-take_mark
+cases-returns-then-take_mark t c = c.loop-turn.invariant ∙ cases_end _ _ _ _ _ _ _ (omega (arith, turns_is)) (rw c.if-take_mark.true at c.take_mark.ensures)
+
+pub in_case-returns-then-ends_case : goal.in_case-returns-then-ends_case
+in_case-returns-then-ends_case t c = c.loop-turn.invariant ∙ in_case_end _ _ _ _ _ (omega (arith, turns_is)) (ap (next_is ends_case) (sym c.rest.ensures) ∙ sym c.ends_case.ensures ∙ c.if-ends_case.true)
+
+pub statements-returns-then-take_mark : goal.statements-returns-then-take_mark
+statements-returns-then-take_mark t c = c.loop-turn.invariant ∙ statements_end _ _ _ _ _ _ _ (omega (arith, turns_is)) (rw c.if-take_mark.true at c.take_mark.ensures)
+
+pub elements-returns-then-take_mark : goal.elements-returns-then-take_mark
+elements-returns-then-take_mark t c = c.loop-turn.invariant ∙ elements_end _ _ _ _ _ (omega (arith, turns_is)) (rw c.if-take_mark.true at c.take_mark.ensures)
+
+pub properties-returns-then-take_mark : goal.properties-returns-then-take_mark
+properties-returns-then-take_mark t c = c.loop-turn.invariant ∙ properties_end _ _ _ _ _ (omega (arith, turns_is)) (rw c.if-take_mark.true at c.take_mark.ensures)

@@ -1,7 +1,0 @@
-use Rattle.std.proofs.Common.{true, ◌∙◌, arith}
-use Rattle.es5_text.proofs.ListTurns.{statements_end}
-use Rattle.es5_text.proofs.Loops.{turns_is}
-use Rattle.es5_text.proofs.function.statements.Goals as goal
-
-pub returns-then-take_mark : goal.returns-then-take_mark
-returns-then-take_mark c = c.loop-turn.invariant ∙ statements_end _ _ _ _ _ _ _ (omega (arith, turns_is)) (rw c.if-take_mark.true at c.take_mark.ensures)
