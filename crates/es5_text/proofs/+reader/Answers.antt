@@ -11,14 +11,14 @@ use Rattle.es5_text.specs.Readers.{inner}
 use Rattle.std.proofs.Common.{ap, arith, refl, sym, true, ℕ, ◌∙◌, ◌≡◌, ◌≤◌}
 use Rattle.es5_text.proofs.+reader.Goals as goal
 
-pub binary-loop-turn-init : goal.binary-loop-turn-init
-binary-loop-turn-init t c = record {
+pub binary::binary-loop-turn-init : goal.binary::binary-loop-turn-init
+binary::binary-loop-turn-init t c = record {
   same = begins_with (inner c.args.room) c.args.no_in c.new-stack.result c.args.cursor.now c.new-stack.ensures;
   rising = none_rising c.new-stack.result c.new-stack.ensures;
 }
 
-pub binary-returns-in_default : goal.binary-returns-in_default
-binary-returns-in_default t c =
+pub binary::binary-returns-in_default : goal.binary::binary-returns-in_default
+binary::binary-returns-in_default t c =
     let i = inner c.args.room in
     let no_in = c.args.no_in in
     let d = c.unary.new.cursor in
@@ -30,8 +30,8 @@ binary-returns-in_default t c =
     ∙ c.in_ok-operand.ensures.same c.args.room no_in quiet
     ∙ finishes i no_in c.level.result c.settle.new.stack c.in_ok-operand.operand.begin c.in_ok-operand.operand.value d two c.in_ok-operand.ensures.rising.0 c.in_ok-operand.ensures.rising.1
 
-pub binary-loop-turn-preserved : goal.binary-loop-turn-preserved
-binary-loop-turn-preserved t c =
+pub binary::binary-loop-turn-preserved : goal.binary::binary-loop-turn-preserved
+binary::binary-loop-turn-preserved t c =
     let i = inner c.args.room in
     let no_in = c.args.no_in in
     let d = c.unary.new.cursor in
@@ -50,17 +50,17 @@ binary-loop-turn-preserved t c =
       rising = c.in_ok-wait.ensures.rising;
     }
 
-pub cases-returns-then-take_mark : goal.cases-returns-then-take_mark
-cases-returns-then-take_mark t c = c.loop-turn.invariant ∙ cases_end _ _ _ _ _ _ _ (omega (arith, turns_is)) (rw c.if-take_mark.true at c.take_mark.ensures)
+pub cases::cases-returns-then-take_mark : goal.cases::cases-returns-then-take_mark
+cases::cases-returns-then-take_mark t c = c.loop-turn.invariant ∙ cases_end _ _ _ _ _ _ _ (omega (arith, turns_is)) (rw c.if-take_mark.true at c.take_mark.ensures)
 
-pub in_case-returns-then-ends_case : goal.in_case-returns-then-ends_case
-in_case-returns-then-ends_case t c = c.loop-turn.invariant ∙ in_case_end _ _ _ _ _ (omega (arith, turns_is)) (ap (next_is ends_case) (sym c.rest.ensures) ∙ sym c.ends_case.ensures ∙ c.if-ends_case.true)
+pub cases::in_case-returns-then-ends_case : goal.cases::in_case-returns-then-ends_case
+cases::in_case-returns-then-ends_case t c = c.loop-turn.invariant ∙ in_case_end _ _ _ _ _ (omega (arith, turns_is)) (ap (next_is ends_case) (sym c.rest.ensures) ∙ sym c.ends_case.ensures ∙ c.if-ends_case.true)
 
-pub statements-returns-then-take_mark : goal.statements-returns-then-take_mark
-statements-returns-then-take_mark t c = c.loop-turn.invariant ∙ statements_end _ _ _ _ _ _ _ (omega (arith, turns_is)) (rw c.if-take_mark.true at c.take_mark.ensures)
+pub function::statements-returns-then-take_mark : goal.function::statements-returns-then-take_mark
+function::statements-returns-then-take_mark t c = c.loop-turn.invariant ∙ statements_end _ _ _ _ _ _ _ (omega (arith, turns_is)) (rw c.if-take_mark.true at c.take_mark.ensures)
 
-pub elements-returns-then-take_mark : goal.elements-returns-then-take_mark
-elements-returns-then-take_mark t c = c.loop-turn.invariant ∙ elements_end _ _ _ _ _ (omega (arith, turns_is)) (rw c.if-take_mark.true at c.take_mark.ensures)
+pub lists::elements-returns-then-take_mark : goal.lists::elements-returns-then-take_mark
+lists::elements-returns-then-take_mark t c = c.loop-turn.invariant ∙ elements_end _ _ _ _ _ (omega (arith, turns_is)) (rw c.if-take_mark.true at c.take_mark.ensures)
 
-pub properties-returns-then-take_mark : goal.properties-returns-then-take_mark
-properties-returns-then-take_mark t c = c.loop-turn.invariant ∙ properties_end _ _ _ _ _ (omega (arith, turns_is)) (rw c.if-take_mark.true at c.take_mark.ensures)
+pub lists::properties-returns-then-take_mark : goal.lists::properties-returns-then-take_mark
+lists::properties-returns-then-take_mark t c = c.loop-turn.invariant ∙ properties_end _ _ _ _ _ (omega (arith, turns_is)) (rw c.if-take_mark.true at c.take_mark.ensures)

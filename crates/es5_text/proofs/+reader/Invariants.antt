@@ -6,293 +6,293 @@ use Rattle.es5_text.specs.Readers.{before, inner, turns}
 use Rattle.std.proofs.Common.{false, true, ◌*◌, ◌+◌, ◌-◌, ◌≡◌}
 use Rattle.es5_text.proofs.+reader.Given as goal
 
-abbrev pub invariant-binary-loop-turn : goal.invariant-binary-loop-turn
-invariant-binary-loop-turn l = record {
+abbrev pub invariant-binary::binary-loop-turn : goal.invariant-binary::binary-loop-turn
+invariant-binary::binary-loop-turn l = record {
   same : binary_from (inner l.room) l.no_in 10 3 l.initial.cursor ≡ resumed (inner l.room) l.no_in 2 l.stack (operand_after (inner l.room) l.no_in (top 2 l.stack) l.cursor);
   rising : IsRising 2 l.stack;
 }
 
-abbrev pub invariant-cases-loop-turn : goal.invariant-cases-loop-turn
-invariant-cases-loop-turn l = cases (inner l.room) l.inside true (inner l.room).fuel l.initial.cursor ≡ before l.list (cases (inner l.room) l.inside l.may_default (turns - l.turn) l.cursor)
+abbrev pub invariant-cases::cases-loop-turn : goal.invariant-cases::cases-loop-turn
+invariant-cases::cases-loop-turn l = cases (inner l.room) l.inside true (inner l.room).fuel l.initial.cursor ≡ before l.list (cases (inner l.room) l.inside l.may_default (turns - l.turn) l.cursor)
 
-abbrev pub invariant-in_case-loop-turn : goal.invariant-in_case-loop-turn
-invariant-in_case-loop-turn l = in_case (inner l.room) l.inside (inner l.room).fuel l.initial.cursor ≡ before l.list (in_case (inner l.room) l.inside (turns - l.turn) l.cursor)
+abbrev pub invariant-cases::in_case-loop-turn : goal.invariant-cases::in_case-loop-turn
+invariant-cases::in_case-loop-turn l = in_case (inner l.room) l.inside (inner l.room).fuel l.initial.cursor ≡ before l.list (in_case (inner l.room) l.inside (turns - l.turn) l.cursor)
 
-abbrev pub invariant-links-loop-turn : goal.invariant-links-loop-turn
-invariant-links-loop-turn l = links (inner l.room) l.calls (inner l.room).fuel l.initial.cursor ≡ before l.list (links (inner l.room) l.calls (turns - l.turn) l.cursor)
+abbrev pub invariant-chain::links-loop-turn : goal.invariant-chain::links-loop-turn
+invariant-chain::links-loop-turn l = links (inner l.room) l.calls (inner l.room).fuel l.initial.cursor ≡ before l.list (links (inner l.room) l.calls (turns - l.turn) l.cursor)
 
-abbrev pub invariant-otherwise-loop-turn : goal.invariant-otherwise-loop-turn
-invariant-otherwise-loop-turn l = otherwise (inner l.room) l.inside (inner l.room).fuel l.initial.cursor ≡ before_more l.more (otherwise (inner l.room) l.inside (turns - l.turn) l.cursor)
+abbrev pub invariant-compound::otherwise-loop-turn : goal.invariant-compound::otherwise-loop-turn
+invariant-compound::otherwise-loop-turn l = otherwise (inner l.room) l.inside (inner l.room).fuel l.initial.cursor ≡ before_more l.more (otherwise (inner l.room) l.inside (turns - l.turn) l.cursor)
 
-abbrev pub invariant-parts-loop-turn : goal.invariant-parts-loop-turn
-invariant-parts-loop-turn l = parts (inner l.room) l.no_in (inner l.room).fuel l.initial.cursor ≡ before l.list (parts (inner l.room) l.no_in (turns - l.turn) l.cursor)
+abbrev pub invariant-expression::parts-loop-turn : goal.invariant-expression::parts-loop-turn
+invariant-expression::parts-loop-turn l = parts (inner l.room) l.no_in (inner l.room).fuel l.initial.cursor ≡ before l.list (parts (inner l.room) l.no_in (turns - l.turn) l.cursor)
 
-abbrev pub invariant-statements-loop-turn : goal.invariant-statements-loop-turn
-invariant-statements-loop-turn l = statements (inner l.room) l.inside l.top (inner l.room).fuel l.initial.cursor ≡ before l.list (statements (inner l.room) l.inside l.top (turns - l.turn) l.cursor)
+abbrev pub invariant-function::statements-loop-turn : goal.invariant-function::statements-loop-turn
+invariant-function::statements-loop-turn l = statements (inner l.room) l.inside l.top (inner l.room).fuel l.initial.cursor ≡ before l.list (statements (inner l.room) l.inside l.top (turns - l.turn) l.cursor)
 
-abbrev pub invariant-elements-loop-turn : goal.invariant-elements-loop-turn
-invariant-elements-loop-turn l = elements (inner l.room) (inner l.room).fuel l.initial.cursor ≡ before l.list (elements (inner l.room) (turns - l.turn) l.cursor)
+abbrev pub invariant-lists::elements-loop-turn : goal.invariant-lists::elements-loop-turn
+invariant-lists::elements-loop-turn l = elements (inner l.room) (inner l.room).fuel l.initial.cursor ≡ before l.list (elements (inner l.room) (turns - l.turn) l.cursor)
 
-abbrev pub invariant-more_arguments-loop-turn : goal.invariant-more_arguments-loop-turn
-invariant-more_arguments-loop-turn l = more_arguments (inner l.room) (inner l.room).fuel l.initial.cursor ≡ before l.list (more_arguments (inner l.room) (turns - l.turn) l.cursor)
+abbrev pub invariant-lists::more_arguments-loop-turn : goal.invariant-lists::more_arguments-loop-turn
+invariant-lists::more_arguments-loop-turn l = more_arguments (inner l.room) (inner l.room).fuel l.initial.cursor ≡ before l.list (more_arguments (inner l.room) (turns - l.turn) l.cursor)
 
-abbrev pub invariant-properties-loop-turn : goal.invariant-properties-loop-turn
-invariant-properties-loop-turn l = properties (inner l.room) (inner l.room).fuel l.initial.cursor ≡ before l.list (properties (inner l.room) (turns - l.turn) l.cursor)
+abbrev pub invariant-lists::properties-loop-turn : goal.invariant-lists::properties-loop-turn
+invariant-lists::properties-loop-turn l = properties (inner l.room) (inner l.room).fuel l.initial.cursor ≡ before l.list (properties (inner l.room) (turns - l.turn) l.cursor)
 
-abbrev pub invariant-declarations-loop-turn : goal.invariant-declarations-loop-turn
-invariant-declarations-loop-turn l = declared_list (one_declared (inner l.room) false) (inner l.room).fuel l.initial.cursor ≡ before l.list (declared_list (one_declared (inner l.room) false) (turns - l.turn) l.cursor)
+abbrev pub invariant-variables::declarations-loop-turn : goal.invariant-variables::declarations-loop-turn
+invariant-variables::declarations-loop-turn l = declared_list (one_declared (inner l.room) false) (inner l.room).fuel l.initial.cursor ≡ before l.list (declared_list (one_declared (inner l.room) false) (turns - l.turn) l.cursor)
 
-abbrev pub invariant-more_declarations-loop-turn : goal.invariant-more_declarations-loop-turn
-invariant-more_declarations-loop-turn l = declared_list ((inner l.room).declared true) (inner l.room).fuel l.initial.cursor ≡ before l.list (declared_list ((inner l.room).declared true) (turns - l.turn) l.cursor)
+abbrev pub invariant-variables::more_declarations-loop-turn : goal.invariant-variables::more_declarations-loop-turn
+invariant-variables::more_declarations-loop-turn l = declared_list ((inner l.room).declared true) (inner l.room).fuel l.initial.cursor ≡ before l.list (declared_list ((inner l.room).declared true) (turns - l.turn) l.cursor)
 
-abbrev pub decreases-accessor : goal.decreases-accessor
-decreases-accessor l = l.room * 128 + 4
+abbrev pub decreases-function::accessor : goal.decreases-function::accessor
+decreases-function::accessor l = l.room * 128 + 4
 
-abbrev pub decreases-accessor_function : goal.decreases-accessor_function
-decreases-accessor_function l = l.room * 128 + 3
+abbrev pub decreases-function::accessor_function : goal.decreases-function::accessor_function
+decreases-function::accessor_function l = l.room * 128 + 3
 
-abbrev pub decreases-after_accessor_word : goal.decreases-after_accessor_word
-decreases-after_accessor_word l = l.room * 128 + 14
+abbrev pub decreases-property::after_accessor_word : goal.decreases-property::after_accessor_word
+decreases-property::after_accessor_word l = l.room * 128 + 14
 
-abbrev pub decreases-after_callee : goal.decreases-after_callee
-decreases-after_callee l = l.room * 128 + 3
+abbrev pub decreases-chain::after_callee : goal.decreases-chain::after_callee
+decreases-chain::after_callee l = l.room * 128 + 3
 
-abbrev pub decreases-after_first_declared : goal.decreases-after_first_declared
-decreases-after_first_declared l = l.room * 128 + 2
+abbrev pub decreases-iteration::after_first_declared : goal.decreases-iteration::after_first_declared
+decreases-iteration::after_first_declared l = l.room * 128 + 2
 
-abbrev pub decreases-after_handler : goal.decreases-after_handler
-decreases-after_handler l = l.room * 128 + 3
+abbrev pub decreases-handlers::after_handler : goal.decreases-handlers::after_handler
+decreases-handlers::after_handler l = l.room * 128 + 3
 
-abbrev pub decreases-arguments : goal.decreases-arguments
-decreases-arguments l = l.room * 128 + 2
+abbrev pub decreases-lists::arguments : goal.decreases-lists::arguments
+decreases-lists::arguments l = l.room * 128 + 2
 
-abbrev pub decreases-assigned : goal.decreases-assigned
-decreases-assigned l = l.room * 128 + 1
+abbrev pub decreases-expression::assigned : goal.decreases-expression::assigned
+decreases-expression::assigned l = l.room * 128 + 1
 
-abbrev pub decreases-assignment : goal.decreases-assignment
-decreases-assignment l = l.room * 128 + 12
+abbrev pub decreases-expression::assignment : goal.decreases-expression::assignment
+decreases-expression::assignment l = l.room * 128 + 12
 
-abbrev pub decreases-binary : goal.decreases-binary
-decreases-binary l = l.room * 128 + 10
+abbrev pub decreases-binary::binary : goal.decreases-binary::binary
+decreases-binary::binary l = l.room * 128 + 10
 
-abbrev pub decreases-block : goal.decreases-block
-decreases-block l = l.room * 128 + 2
+abbrev pub decreases-compound::block : goal.decreases-compound::block
+decreases-compound::block l = l.room * 128 + 2
 
-abbrev pub decreases-block_statement : goal.decreases-block_statement
-decreases-block_statement l = l.room * 128 + 3
+abbrev pub decreases-compound::block_statement : goal.decreases-compound::block_statement
+decreases-compound::block_statement l = l.room * 128 + 3
 
-abbrev pub decreases-body : goal.decreases-body
-decreases-body l = l.room * 128 + 2
+abbrev pub decreases-function::body : goal.decreases-function::body
+decreases-function::body l = l.room * 128 + 2
 
-abbrev pub decreases-bracketed : goal.decreases-bracketed
-decreases-bracketed l = l.room * 128 + 2
+abbrev pub decreases-primary::bracketed : goal.decreases-primary::bracketed
+decreases-primary::bracketed l = l.room * 128 + 2
 
-abbrev pub decreases-branches : goal.decreases-branches
-decreases-branches l = l.room * 128 + 1
+abbrev pub decreases-expression::branches : goal.decreases-expression::branches
+decreases-expression::branches l = l.room * 128 + 1
 
-abbrev pub decreases-call_link : goal.decreases-call_link
-decreases-call_link l = l.room * 128 + 3
+abbrev pub decreases-chain::call_link : goal.decreases-chain::call_link
+decreases-chain::call_link l = l.room * 128 + 3
 
-abbrev pub decreases-case_clause : goal.decreases-case_clause
-decreases-case_clause l = l.room * 128 + 2
+abbrev pub decreases-cases::case_clause : goal.decreases-cases::case_clause
+decreases-cases::case_clause l = l.room * 128 + 2
 
-abbrev pub decreases-cases : goal.decreases-cases
-decreases-cases l = l.room * 128 + 3
+abbrev pub decreases-cases::cases : goal.decreases-cases::cases
+decreases-cases::cases l = l.room * 128 + 3
 
-abbrev pub decreases-chain : goal.decreases-chain
-decreases-chain l = l.room * 128 + 7
+abbrev pub decreases-chain::chain : goal.decreases-chain::chain
+decreases-chain::chain l = l.room * 128 + 7
 
-abbrev pub decreases-compound_statement : goal.decreases-compound_statement
-decreases-compound_statement l = l.room * 128 + 19
+abbrev pub decreases-statement::compound_statement : goal.decreases-statement::compound_statement
+decreases-statement::compound_statement l = l.room * 128 + 19
 
-abbrev pub decreases-condition : goal.decreases-condition
-decreases-condition l = l.room * 128 + 2
+abbrev pub decreases-compound::condition : goal.decreases-compound::condition
+decreases-compound::condition l = l.room * 128 + 2
 
-abbrev pub decreases-conditional : goal.decreases-conditional
-decreases-conditional l = l.room * 128 + 11
+abbrev pub decreases-expression::conditional : goal.decreases-expression::conditional
+decreases-expression::conditional l = l.room * 128 + 11
 
-abbrev pub decreases-declaration : goal.decreases-declaration
-decreases-declaration l = l.room * 128 + 4
+abbrev pub decreases-statement::declaration : goal.decreases-statement::declaration
+decreases-statement::declaration l = l.room * 128 + 4
 
-abbrev pub decreases-declarations : goal.decreases-declarations
-decreases-declarations l = l.room * 128 + 3
+abbrev pub decreases-variables::declarations : goal.decreases-variables::declarations
+decreases-variables::declarations l = l.room * 128 + 3
 
-abbrev pub decreases-default_clause : goal.decreases-default_clause
-decreases-default_clause l = l.room * 128 + 2
+abbrev pub decreases-cases::default_clause : goal.decreases-cases::default_clause
+decreases-cases::default_clause l = l.room * 128 + 2
 
-abbrev pub decreases-do_statement : goal.decreases-do_statement
-decreases-do_statement l = l.room * 128 + 2
+abbrev pub decreases-iteration::do_statement : goal.decreases-iteration::do_statement
+decreases-iteration::do_statement l = l.room * 128 + 2
 
-abbrev pub decreases-elements : goal.decreases-elements
-decreases-elements l = l.room * 128 + 1
+abbrev pub decreases-lists::elements : goal.decreases-lists::elements
+decreases-lists::elements l = l.room * 128 + 1
 
-abbrev pub decreases-expression_statement : goal.decreases-expression_statement
-decreases-expression_statement l = l.room * 128 + 16
+abbrev pub decreases-statement::expression_statement : goal.decreases-statement::expression_statement
+decreases-statement::expression_statement l = l.room * 128 + 16
 
-abbrev pub decreases-for_expression : goal.decreases-for_expression
-decreases-for_expression l = l.room * 128 + 1
+abbrev pub decreases-iteration::for_expression : goal.decreases-iteration::for_expression
+decreases-iteration::for_expression l = l.room * 128 + 1
 
-abbrev pub decreases-for_first_part : goal.decreases-for_first_part
-decreases-for_first_part l = l.room * 128 + 4
+abbrev pub decreases-iteration::for_first_part : goal.decreases-iteration::for_first_part
+decreases-iteration::for_first_part l = l.room * 128 + 4
 
-abbrev pub decreases-for_header : goal.decreases-for_header
-decreases-for_header l = l.room * 128 + 5
+abbrev pub decreases-iteration::for_header : goal.decreases-iteration::for_header
+decreases-iteration::for_header l = l.room * 128 + 5
 
-abbrev pub decreases-for_statement : goal.decreases-for_statement
-decreases-for_statement l = l.room * 128 + 6
+abbrev pub decreases-iteration::for_statement : goal.decreases-iteration::for_statement
+decreases-iteration::for_statement l = l.room * 128 + 6
 
-abbrev pub decreases-for_var : goal.decreases-for_var
-decreases-for_var l = l.room * 128 + 3
+abbrev pub decreases-iteration::for_var : goal.decreases-iteration::for_var
+decreases-iteration::for_var l = l.room * 128 + 3
 
-abbrev pub decreases-function_expression : goal.decreases-function_expression
-decreases-function_expression l = l.room * 128 + 4
+abbrev pub decreases-function::function_expression : goal.decreases-function::function_expression
+decreases-function::function_expression l = l.room * 128 + 4
 
-abbrev pub decreases-grouped : goal.decreases-grouped
-decreases-grouped l = l.room * 128 + 1
+abbrev pub decreases-primary::grouped : goal.decreases-primary::grouped
+decreases-primary::grouped l = l.room * 128 + 1
 
-abbrev pub decreases-handler : goal.decreases-handler
-decreases-handler l = l.room * 128 + 3
+abbrev pub decreases-handlers::handler : goal.decreases-handlers::handler
+decreases-handlers::handler l = l.room * 128 + 3
 
-abbrev pub decreases-head : goal.decreases-head
-decreases-head l = l.room * 128 + 6
+abbrev pub decreases-chain::head : goal.decreases-chain::head
+decreases-chain::head l = l.room * 128 + 6
 
-abbrev pub decreases-if_statement : goal.decreases-if_statement
-decreases-if_statement l = l.room * 128 + 4
+abbrev pub decreases-compound::if_statement : goal.decreases-compound::if_statement
+decreases-compound::if_statement l = l.room * 128 + 4
 
-abbrev pub decreases-in_case : goal.decreases-in_case
-decreases-in_case l = l.room * 128 + 1
+abbrev pub decreases-cases::in_case : goal.decreases-cases::in_case
+decreases-cases::in_case l = l.room * 128 + 1
 
-abbrev pub decreases-index_link : goal.decreases-index_link
-decreases-index_link l = l.room * 128 + 1
+abbrev pub decreases-chain::index_link : goal.decreases-chain::index_link
+decreases-chain::index_link l = l.room * 128 + 1
 
-abbrev pub decreases-initialized : goal.decreases-initialized
-decreases-initialized l = l.room * 128 + 1
+abbrev pub decreases-variables::initialized : goal.decreases-variables::initialized
+decreases-variables::initialized l = l.room * 128 + 1
 
-abbrev pub decreases-inner_assignment : goal.decreases-inner_assignment
-decreases-inner_assignment l = l.room * 128 + 0
+abbrev pub decreases-inner::inner_assignment : goal.decreases-inner::inner_assignment
+decreases-inner::inner_assignment l = l.room * 128 + 0
 
-abbrev pub decreases-inner_callee : goal.decreases-inner_callee
-decreases-inner_callee l = l.room * 128 + 0
+abbrev pub decreases-inner::inner_callee : goal.decreases-inner::inner_callee
+decreases-inner::inner_callee l = l.room * 128 + 0
 
-abbrev pub decreases-inner_declared : goal.decreases-inner_declared
-decreases-inner_declared l = l.room * 128 + 0
+abbrev pub decreases-inner::inner_declared : goal.decreases-inner::inner_declared
+decreases-inner::inner_declared l = l.room * 128 + 0
 
-abbrev pub decreases-inner_property : goal.decreases-inner_property
-decreases-inner_property l = l.room * 128 + 0
+abbrev pub decreases-inner::inner_property : goal.decreases-inner::inner_property
+decreases-inner::inner_property l = l.room * 128 + 0
 
-abbrev pub decreases-inner_sequence : goal.decreases-inner_sequence
-decreases-inner_sequence l = l.room * 128 + 0
+abbrev pub decreases-inner::inner_sequence : goal.decreases-inner::inner_sequence
+decreases-inner::inner_sequence l = l.room * 128 + 0
 
-abbrev pub decreases-inner_statement : goal.decreases-inner_statement
-decreases-inner_statement l = l.room * 128 + 0
+abbrev pub decreases-inner::inner_statement : goal.decreases-inner::inner_statement
+decreases-inner::inner_statement l = l.room * 128 + 0
 
-abbrev pub decreases-inner_unary : goal.decreases-inner_unary
-decreases-inner_unary l = l.room * 128 + 0
+abbrev pub decreases-inner::inner_unary : goal.decreases-inner::inner_unary
+decreases-inner::inner_unary l = l.room * 128 + 0
 
-abbrev pub decreases-jump_statement : goal.decreases-jump_statement
-decreases-jump_statement l = l.room * 128 + 18
+abbrev pub decreases-statement::jump_statement : goal.decreases-statement::jump_statement
+decreases-statement::jump_statement l = l.room * 128 + 18
 
-abbrev pub decreases-label_or_end : goal.decreases-label_or_end
-decreases-label_or_end l = l.room * 128 + 3
+abbrev pub decreases-statement::label_or_end : goal.decreases-statement::label_or_end
+decreases-statement::label_or_end l = l.room * 128 + 3
 
-abbrev pub decreases-labelled : goal.decreases-labelled
-decreases-labelled l = l.room * 128 + 2
+abbrev pub decreases-statement::labelled : goal.decreases-statement::labelled
+decreases-statement::labelled l = l.room * 128 + 2
 
-abbrev pub decreases-link : goal.decreases-link
-decreases-link l = l.room * 128 + 4
+abbrev pub decreases-chain::link : goal.decreases-chain::link
+decreases-chain::link l = l.room * 128 + 4
 
-abbrev pub decreases-links : goal.decreases-links
-decreases-links l = l.room * 128 + 5
+abbrev pub decreases-chain::links : goal.decreases-chain::links
+decreases-chain::links l = l.room * 128 + 5
 
-abbrev pub decreases-more_arguments : goal.decreases-more_arguments
-decreases-more_arguments l = l.room * 128 + 1
+abbrev pub decreases-lists::more_arguments : goal.decreases-lists::more_arguments
+decreases-lists::more_arguments l = l.room * 128 + 1
 
-abbrev pub decreases-more_declarations : goal.decreases-more_declarations
-decreases-more_declarations l = l.room * 128 + 1
+abbrev pub decreases-variables::more_declarations : goal.decreases-variables::more_declarations
+decreases-variables::more_declarations l = l.room * 128 + 1
 
-abbrev pub decreases-more_parts : goal.decreases-more_parts
-decreases-more_parts l = l.room * 128 + 14
+abbrev pub decreases-expression::more_parts : goal.decreases-expression::more_parts
+decreases-expression::more_parts l = l.room * 128 + 14
 
-abbrev pub decreases-one_declared : goal.decreases-one_declared
-decreases-one_declared l = l.room * 128 + 2
+abbrev pub decreases-variables::one_declared : goal.decreases-variables::one_declared
+decreases-variables::one_declared l = l.room * 128 + 2
 
-abbrev pub decreases-one_property : goal.decreases-one_property
-decreases-one_property l = l.room * 128 + 15
+abbrev pub decreases-property::one_property : goal.decreases-property::one_property
+decreases-property::one_property l = l.room * 128 + 15
 
-abbrev pub decreases-only_finally : goal.decreases-only_finally
-decreases-only_finally l = l.room * 128 + 3
+abbrev pub decreases-handlers::only_finally : goal.decreases-handlers::only_finally
+decreases-handlers::only_finally l = l.room * 128 + 3
 
-abbrev pub decreases-optional : goal.decreases-optional
-decreases-optional l = l.room * 128 + 1
+abbrev pub decreases-iteration::optional : goal.decreases-iteration::optional
+decreases-iteration::optional l = l.room * 128 + 1
 
-abbrev pub decreases-otherwise : goal.decreases-otherwise
-decreases-otherwise l = l.room * 128 + 3
+abbrev pub decreases-compound::otherwise : goal.decreases-compound::otherwise
+decreases-compound::otherwise l = l.room * 128 + 3
 
-abbrev pub decreases-parenthesized : goal.decreases-parenthesized
-decreases-parenthesized l = l.room * 128 + 1
+abbrev pub decreases-compound::parenthesized : goal.decreases-compound::parenthesized
+decreases-compound::parenthesized l = l.room * 128 + 1
 
-abbrev pub decreases-parts : goal.decreases-parts
-decreases-parts l = l.room * 128 + 13
+abbrev pub decreases-expression::parts : goal.decreases-expression::parts
+decreases-expression::parts l = l.room * 128 + 13
 
-abbrev pub decreases-plain_property : goal.decreases-plain_property
-decreases-plain_property l = l.room * 128 + 14
+abbrev pub decreases-property::plain_property : goal.decreases-property::plain_property
+decreases-property::plain_property l = l.room * 128 + 14
 
-abbrev pub decreases-plain_statement : goal.decreases-plain_statement
-decreases-plain_statement l = l.room * 128 + 17
+abbrev pub decreases-statement::plain_statement : goal.decreases-statement::plain_statement
+decreases-statement::plain_statement l = l.room * 128 + 17
 
-abbrev pub decreases-postfix : goal.decreases-postfix
-decreases-postfix l = l.room * 128 + 8
+abbrev pub decreases-expression::postfix : goal.decreases-expression::postfix
+decreases-expression::postfix l = l.room * 128 + 8
 
-abbrev pub decreases-prefixed : goal.decreases-prefixed
-decreases-prefixed l = l.room * 128 + 1
+abbrev pub decreases-expression::prefixed : goal.decreases-expression::prefixed
+decreases-expression::prefixed l = l.room * 128 + 1
 
-abbrev pub decreases-primary : goal.decreases-primary
-decreases-primary l = l.room * 128 + 5
+abbrev pub decreases-primary::primary : goal.decreases-primary::primary
+decreases-primary::primary l = l.room * 128 + 5
 
-abbrev pub decreases-properties : goal.decreases-properties
-decreases-properties l = l.room * 128 + 1
+abbrev pub decreases-lists::properties : goal.decreases-lists::properties
+decreases-lists::properties l = l.room * 128 + 1
 
-abbrev pub decreases-rest_of_function : goal.decreases-rest_of_function
-decreases-rest_of_function l = l.room * 128 + 3
+abbrev pub decreases-function::rest_of_function : goal.decreases-function::rest_of_function
+decreases-function::rest_of_function l = l.room * 128 + 3
 
-abbrev pub decreases-return_statement : goal.decreases-return_statement
-decreases-return_statement l = l.room * 128 + 17
+abbrev pub decreases-jumps::return_statement : goal.decreases-jumps::return_statement
+decreases-jumps::return_statement l = l.room * 128 + 17
 
-abbrev pub decreases-returned : goal.decreases-returned
-decreases-returned l = l.room * 128 + 16
+abbrev pub decreases-jumps::returned : goal.decreases-jumps::returned
+decreases-jumps::returned l = l.room * 128 + 16
 
-abbrev pub decreases-sequence : goal.decreases-sequence
-decreases-sequence l = l.room * 128 + 15
+abbrev pub decreases-expression::sequence : goal.decreases-expression::sequence
+decreases-expression::sequence l = l.room * 128 + 15
 
-abbrev pub decreases-statement : goal.decreases-statement
-decreases-statement l = l.room * 128 + 20
+abbrev pub decreases-statement::statement : goal.decreases-statement::statement
+decreases-statement::statement l = l.room * 128 + 20
 
-abbrev pub decreases-statements : goal.decreases-statements
-decreases-statements l = l.room * 128 + 1
+abbrev pub decreases-function::statements : goal.decreases-function::statements
+decreases-function::statements l = l.room * 128 + 1
 
-abbrev pub decreases-switch_statement : goal.decreases-switch_statement
-decreases-switch_statement l = l.room * 128 + 4
+abbrev pub decreases-cases::switch_statement : goal.decreases-cases::switch_statement
+decreases-cases::switch_statement l = l.room * 128 + 4
 
-abbrev pub decreases-throw_statement : goal.decreases-throw_statement
-decreases-throw_statement l = l.room * 128 + 16
+abbrev pub decreases-jumps::throw_statement : goal.decreases-jumps::throw_statement
+decreases-jumps::throw_statement l = l.room * 128 + 16
 
-abbrev pub decreases-try_statement : goal.decreases-try_statement
-decreases-try_statement l = l.room * 128 + 4
+abbrev pub decreases-handlers::try_statement : goal.decreases-handlers::try_statement
+decreases-handlers::try_statement l = l.room * 128 + 4
 
-abbrev pub decreases-unary : goal.decreases-unary
-decreases-unary l = l.room * 128 + 9
+abbrev pub decreases-expression::unary : goal.decreases-expression::unary
+decreases-expression::unary l = l.room * 128 + 9
 
-abbrev pub decreases-under : goal.decreases-under
-decreases-under l = l.room * 128 + 1
+abbrev pub decreases-compound::under : goal.decreases-compound::under
+decreases-compound::under l = l.room * 128 + 1
 
-abbrev pub decreases-updated : goal.decreases-updated
-decreases-updated l = l.room * 128 + 1
+abbrev pub decreases-expression::updated : goal.decreases-expression::updated
+decreases-expression::updated l = l.room * 128 + 1
 
-abbrev pub decreases-value_of_key : goal.decreases-value_of_key
-decreases-value_of_key l = l.room * 128 + 13
+abbrev pub decreases-property::value_of_key : goal.decreases-property::value_of_key
+decreases-property::value_of_key l = l.room * 128 + 13
 
-abbrev pub decreases-var_statement : goal.decreases-var_statement
-decreases-var_statement l = l.room * 128 + 4
+abbrev pub decreases-variables::var_statement : goal.decreases-variables::var_statement
+decreases-variables::var_statement l = l.room * 128 + 4
 
-abbrev pub decreases-while_statement : goal.decreases-while_statement
-decreases-while_statement l = l.room * 128 + 2
+abbrev pub decreases-iteration::while_statement : goal.decreases-iteration::while_statement
+decreases-iteration::while_statement l = l.room * 128 + 2
