@@ -25,4 +25,15 @@ pub mod SoundModules
 pub mod Soundness
 pub mod Places
 pub mod PlacesOfModules
+pub mod Follows
+pub mod FollowChoices
+pub mod RefineMore
+pub mod FollowEnds
+pub mod FollowParts
+pub mod FollowPrimary
+pub mod FollowLevels
+pub mod FollowStatements
+pub mod FollowModules
+pub mod Insertion
+pub mod Filled
 pub mod Examples

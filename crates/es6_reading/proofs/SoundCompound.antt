@@ -15,7 +15,7 @@ use Rattle.es6_ast.specs.Grammar as g
 use Rattle.es6_ast.specs.Grammar.{Flags, with_in, level_sequence, level_assignment, ends, NotBrace, NotStar, NotWord, IsEnd, IsName, IsStar, IsExpression, IsTarget, IsFunction, IsStatement, IsDeclaration, IsListed, IsLabel, IsCatch, AreCases, AreInCase}
 use Rattle.es6_reading.specs.Parser.{Input, next_is, Reading, Listed, Under, Inner, ends_block}
 use Rattle.es6_reading.specs.Words.{free_name}
-use Rattle.es6_reading.specs.Statements.{label_if, label_at, optional_label, continue_statement, break_statement, goes_on, returned, return_statement, begins_line, throw_statement, in_case, case_clause, default_clause, cases, switch_statement, catch_parameter, handler, after_handler, only_finally, try_statement, debugger_statement}
+use Rattle.es6_reading.specs.Statements.{label_if, label_at, optional_label, continue_statement, break_statement, is_inserted, goes_on, returned, return_statement, begins_line, throw_statement, in_case, case_clause, default_clause, cases, switch_statement, catch_parameter, handler, after_handler, only_finally, try_statement, debugger_statement}
 use Rattle.es6_reading.proofs.Posts.{Holds, took, fault, bind, weaken, choose-holds, if-holds, refused-holds}
 use Rattle.es6_reading.proofs.Meanings.{or_false, not_true, free-name-means}
 use Rattle.es6_reading.proofs.Spans.{Moves, Goes, stays, goes, goes-on, then-goes, ◌⟫◌, span-across}
@@ -74,7 +74,9 @@ value-on-line f (u ∷ ts) last x c h r = value_in h r.moves r.derived
 
 on-line : (ts : List Filled) → next_is goes_on ts ≡ true → next_is begins_line ts ≡ false
 on-line [] h = refl
-on-line (t ∷ ts) h = (or_false t.newline (ends false t.kind) (or_false (t.newline || ends false t.kind) (ends_block t.kind) (not_true ((t.newline || ends false t.kind) || ends_block t.kind) h)).0).0
+on-line (t ∷ ts) h =
+    let read = or_false ((t.newline || ends false t.kind) || ends_block t.kind) (is_inserted t.kind) (not_true (((t.newline || ends false t.kind) || ends_block t.kind) || is_inserted t.kind) h) in
+    (or_false t.newline (ends false t.kind) (or_false (t.newline || ends false t.kind) (ends_block t.kind) read.0).0).0
 
 data ReturnedIn (f : Flags) : Input → Option Expression → Input → Type 0 where
   returns_nothing : {s : Input} → ReturnedIn f s None s

@@ -1,10 +1,12 @@
 -- What is proved of the model, in the grammar's terms.
-use Rattle.std.specs.Prelude.{◌≡◌, ℕ, false, List, ◌++◌}
+use Rattle.std.specs.Prelude.{◌≡◌, ℕ, ◌+◌, false, List, [], ◌++◌, map}
+use Rattle.es6_lexer.specs.declared.token.Token.{Token}
 use Rattle.es6_ast.specs.declared.module.Module.{Module}
-use Rattle.es6_ast.specs.Tokens.{Filled}
+use Rattle.es6_ast.specs.Tokens.{Filled, read}
 use Rattle.es6_ast.specs.Modules.{IsModule}
+use Rattle.es6_ast.specs.Semicolons.{Fills}
 use Rattle.es6_reading.specs.Parser.{Input, Stop, Took, Fault}
-use Rattle.es6_reading.specs.Modules.{readers, whole_module, read_module}
+use Rattle.es6_reading.specs.Modules.{readers, whole_module, most_open, read_module}
 
 -- Without inserted semicolons: a module that is read is derived from all of the tokens, with its spans.
 abbrev pub IsSound : Type 0
@@ -13,3 +15,17 @@ IsSound = (fuel room : ℕ) (tokens : List Filled) (last : ℕ) (m : Module) (af
 -- A fault stands at one of the tokens, or at the end.
 abbrev pub FaultsAreInside : Type 0
 FaultsAreInside = (fuel : ℕ) (tokens : List Filled) (stop : Stop) (rest : List Filled) → read_module fuel tokens ≡ Fault stop rest → (front : List Filled) × (tokens ≡ front ++ rest)
+
+-- A module is read of the tokens without inserting semicolons, with more turns for each loop and more constructs open.
+abbrev pub IsReadAlone : ℕ → ℕ → List Filled → Type 0
+IsReadAlone fuel room tokens = (more : ℕ) × (m : Module) × (after : Input) × (whole_module (readers false (fuel + more) (room + more)) (record { tokens = tokens; last = 0 }) ≡ Took m after)
+
+-- With inserted semicolons: the module is derived from the tokens with the semicolons put in. One of them stands only before a
+-- token with which no module goes on that is read without inserting any.
+pub record InsertedReading (fuel : ℕ) (tokens : List Token) (m : Module) : Type 0 where
+  pub filled : List Filled
+  pub fills : Fills (IsReadAlone fuel most_open) [] tokens filled []
+  pub derived : IsModule filled m
+
+abbrev pub IsInserted : Type 0
+IsInserted = (fuel : ℕ) (tokens : List Token) (m : Module) (after : Input) → read_module fuel (map read tokens) ≡ Took m after → InsertedReading fuel tokens m

@@ -219,9 +219,13 @@ break_statement i at = do
   _ ← semicolon i
   made at (λ span. stat.Break span label)
 
+abbrev pub is_inserted : Filling → Bool
+is_inserted (Inserted do_while) = true
+is_inserted (Read k) = false
+
 -- what can't begin the value of a `return` before it
 abbrev pub goes_on : Filled → Bool
-goes_on t = not (t.newline || ends false t.kind || ends_block t.kind)
+goes_on t = not (t.newline || ends false t.kind || ends_block t.kind || is_inserted t.kind)
 
 unfoldable pub returned : Inner → Flags → Parser (Option Expression)
 returned i f = if_next goes_on (do
@@ -244,10 +248,6 @@ throw_statement i f at = if_next begins_line refused (do
   made at (λ span. stat.Throw span x.value))
 
 -- ## Switch (13.12)
-
-abbrev pub is_inserted : Filling → Bool
-is_inserted (Inserted do_while) = true
-is_inserted (Read k) = false
 
 -- no statement begins with an inserted semicolon
 abbrev pub ends_case : Filled → Bool

@@ -5,13 +5,19 @@
 #![tactic(auto)]
 
 ghost use Rattle.es6_reading.specs.Examples.{AreRead, AreStopped, IsDeepest};
-ghost use Rattle.es6_reading.specs.Laws.{FaultsAreInside, IsSound};
+ghost use Rattle.es6_reading.specs.Laws.{FaultsAreInside, IsInserted, IsSound};
 ghost use Rattle.es6_reading.specs.Program.{IsProgramRead};
 ghost use Rattle.es6_reading.specs.Refinements.{AreRefined};
 
 /// What is read without inserted semicolons is derived from all of the tokens, with exact spans.
 pub fn what_is_read_is_derived()
     ensures { IsSound }
+{}
+
+/// A semicolon is inserted only before a token with which no module goes on that is read without inserting any, and what is read
+/// so is derived from the tokens with the semicolons put in.
+pub fn semicolons_are_inserted_where_nothing_goes_on()
+    ensures { IsInserted }
 {}
 
 /// A fault of a module stands at one of its tokens, or at the end.
