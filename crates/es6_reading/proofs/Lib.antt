@@ -36,4 +36,5 @@ pub mod FollowStatements
 pub mod FollowModules
 pub mod Insertion
 pub mod Filled
+pub mod Spelled
 pub mod Examples
