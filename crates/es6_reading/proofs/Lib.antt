@@ -10,6 +10,13 @@ pub mod RefineTargetOf
 pub mod RefineTargets
 pub mod RefineParameters
 pub mod RefineMisfits
+pub mod Enough
+pub mod CoverBinds
+pub mod CoverSimple
+pub mod Covers
+pub mod CoverParameters
+pub mod RefineDepth
+pub mod Cover
 pub mod Refinement
 pub mod SoundPatterns
 pub mod SoundFunctions

@@ -49,11 +49,11 @@ more-fit n f (g.one_more_part y rest m d ds) h = cons-fits (lead-fits n f y d) (
 data Listed (f : Flags) : List Filled → List Expression → List Filled → Type 0 where
   listed : {ts us vs : List Filled} {least : ℕ} (x : Expression) (xs : List Expression) → IsExpression f least ts x us → AreMore f us xs vs → Listed f ts (x ∷ xs) vs
 
-abbrev IsNoSequence : Open Expression-F → Type 0
+abbrev pub IsNoSequence : Open Expression-F → Type 0
 IsNoSequence (layer.Sequence span first rest) = ⊥
 IsNoSequence _ = Unit {0}
 
-one-alone : (x : Expression) (l : Open Expression-F) → IsNoSequence l → parts_in x l ≡ x ∷ []
+pub one-alone : (x : Expression) (l : Open Expression-F) → IsNoSequence l → parts_in x l ≡ x ∷ []
 one-alone x (layer.Sequence span first rest) h = absurd h
 one-alone x l h = refl
 

@@ -92,7 +92,7 @@ access-simple : (b : Bool) (x y : AsTarget) → x.simple ≡ true → y.simple �
 access-simple true x y h k = h
 access-simple false x y h k = k
 
-not-by-default : (operator : AssignOperator) (x : AsTarget) (m : Option ℕ) → x.simple ≡ false → (with_default operator x m).simple ≡ false
+pub not-by-default : (operator : AssignOperator) (x : AsTarget) (m : Option ℕ) → x.simple ≡ false → (with_default operator x m).simple ≡ false
 not-by-default assign.Assign x m h = h
 not-by-default operator x m h = h
 

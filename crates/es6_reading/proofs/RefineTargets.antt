@@ -171,7 +171,7 @@ token-across t ts = ap (λ n. record { begin = t.span.begin; end = end_of 0 (tak
     one-more : 1 ≡ length (t ∷ ts) - length ts
     one-more = omega arith
 
-name-across : {ts us : List Filled} {n : Identifier} → IsName ts n us → n.span ≡ across ts us
+pub name-across : {ts us : List Filled} {n : Identifier} → IsName ts n us → n.span ≡ across ts us
 name-across (g.name {t = t} {ts = ts} word w i k) = rw k (token-across t ts)
 
 part-by-view : (b : Bool) (n : ℕ) → Targets b n → (f : Flags) {ts us : List Filled} (x : Expression) → View (with_in f) ts x us → IfFits (λ p. IsTarget (with_in f) b ts p us) (refine b n x) → IfFits (λ q. IsPart (with_in f) b ts q us) (reads_part b n x)

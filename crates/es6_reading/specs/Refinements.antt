@@ -1,14 +1,17 @@
 -- What is proved of refinements, in the grammar's terms.
-use Rattle.std.specs.Prelude.{◌≡◌, ℕ, false, true, List, ◌∷◌, Option, Some, None}
+use Rattle.std.specs.Prelude.{◌≡◌, ◌⊎◌, ℕ, ◌≤◌, false, true, List, ◌∷◌, Option, Some, None}
 use Rattle.es_text.specs.declared.Span.{Span}
 use Rattle.es6_lexer.specs.declared.token.Punctuator.TheVariants as mark
 use Rattle.es6_ast.specs.declared.operators.AssignOperator.{AssignOperator}
 use Rattle.es6_ast.specs.declared.tree.Identifier.{Identifier}
 use Rattle.es6_ast.specs.declared.tree.Expression.{Expression}
 use Rattle.es6_ast.specs.declared.tree.Expression.TheVariants as expr
+use Rattle.es6_ast.specs.declared.tree.Parameter.{Parameter}
+use Rattle.es6_ast.specs.declared.tree.Part.{Part}
+use Rattle.es6_ast.specs.declared.tree.Pattern.{Pattern}
 use Rattle.es6_ast.specs.Tokens.{Filled, IsMark, across}
 use Rattle.es6_ast.specs.Targets.{misfit}
-use Rattle.es6_ast.specs.Grammar.{Flags, with_in, level_sequence, level_left_hand_side, IsName, IsExpression, IsAssigned, IsTarget, IsPart, AreArrowParameters}
+use Rattle.es6_ast.specs.Grammar.{Flags, with_in, level_sequence, level_assignment, level_left_hand_side, level_primary, IsName, IsExpression, IsAssigned, IsTarget, IsPart, AreArrowParameters}
 use Rattle.es6_reading.specs.Refine.{Refined, Fits, Misfit, TooNested, refine_pattern, refine_part, target_before, refine_parameters}
 
 -- this holds of what the expression is spelled as, if it is so spelled
@@ -42,3 +45,18 @@ pub record AreRefined : Type 0 where
   pub parameters : (n : ℕ) (f : Flags) (least : ℕ) (ts us : List Filled) (x : Expression) → IsExpression f least ts x us → IfFits (λ es. AreArrowParameters f ts es us) (refine_parameters n x)
   pub covered : (n : ℕ) (f : Flags) (ts us : List Filled) (x : Expression) → IsCover f ts x us → IfFits (λ es. AreArrowParameters f ts es us) (refine_parameters n x)
   pub places : (n : ℕ) (x : Expression) → Places (misfit x) (refine_pattern n x)
+
+-- An expression that is so spelled, and is refined to this where it is looked into deep enough.
+pub record ComesFrom {A : Type 0} (Spells : Expression → Type 0) (refined : ℕ → Expression → Refined A) (y : A) : Type 0 where
+  pub value : Expression
+  pub spelled : Spells value
+  pub enough : ℕ
+  pub becomes : (n : ℕ) → enough ≤ n → refined n value ≡ Fits y
+
+-- Whatever tokens spell of these, they spell an expression, too, or the parentheses that only an arrow's parameters have, that
+-- is refined to it.
+pub record ComeFromExpressions : Type 0 where
+  pub targets : (f : Flags) (ts us : List Filled) (p : Pattern) → IsTarget f false ts p us → ComesFrom (λ x. IsExpression f level_left_hand_side ts x us) refine_pattern p
+  pub parts : (f : Flags) (ts us : List Filled) (q : Part) → IsPart (with_in f) true ts q us → ComesFrom (λ x. IsExpression (with_in f) level_assignment ts x us) refine_part q
+  pub assigned : (f : Flags) (operator : AssignOperator) (ts us : List Filled) (p : Pattern) → IsAssigned f operator ts p us → ComesFrom (λ x. IsExpression f level_left_hand_side ts x us) (λ n. target_before n operator) p
+  pub parameters : (f : Flags) (ts us : List Filled) (es : List Parameter) → AreArrowParameters f ts es us → ComesFrom (λ x. IsExpression f level_primary ts x us ⊎ IsCover f ts x us) refine_parameters es

@@ -7,7 +7,7 @@
 ghost use Rattle.es6_reading.specs.Examples.{AreRead, AreStopped, IsDeepest};
 ghost use Rattle.es6_reading.specs.Laws.{FaultsAreInside, IsInserted, IsSound};
 ghost use Rattle.es6_reading.specs.Program.{IsProgramRead};
-ghost use Rattle.es6_reading.specs.Refinements.{AreRefined};
+ghost use Rattle.es6_reading.specs.Refinements.{AreRefined, ComeFromExpressions};
 
 /// What is read without inserted semicolons is derived from all of the tokens, with exact spans.
 pub fn what_is_read_is_derived()
@@ -48,4 +48,9 @@ pub fn a_program_is_read()
 /// What an expression is refined to, as a pattern or as parameters, is spelled by the tokens that spell the expression.
 pub fn derived_expressions_are_refined()
     ensures { AreRefined }
+{}
+
+/// What tokens spell as a pattern or as parameters, they spell as an expression that is refined to it.
+pub fn derived_patterns_come_from_expressions()
+    ensures { ComeFromExpressions }
 {}
