@@ -2,6 +2,7 @@ pub mod Posts
 pub mod Meanings
 pub mod Spans
 pub mod Reading
+pub mod CompleteTokens
 pub mod Derived
 pub mod RefineViews
 pub mod Refines
