@@ -2,6 +2,7 @@ pub mod Posts
 pub mod Meanings
 pub mod Spans
 pub mod Reading
+pub mod Exactly
 pub mod CompleteTokens
 pub mod Derived
 pub mod RefineViews
@@ -46,4 +47,6 @@ pub mod FollowModules
 pub mod Insertion
 pub mod Filled
 pub mod Spelled
+pub mod CompleteImports
+pub mod CompleteExports
 pub mod Examples

@@ -30,7 +30,7 @@ bind-reads q (reads_ h) f = f _ _ h
 pub on-hit : {A B : Type 0} {Q : A → Type 0} {us : List Filled} (test : Filled → Option B) (p : B → Parser A) (q : Parser A) (t : Filled) (x : B) (ts : List Filled) (last : ℕ) → test t ≡ Some x → ReadsOf Q us (p x (record { tokens = ts; last = t.span.end })) → ReadsOf Q us (on test p q (record { tokens = t ∷ ts; last = last }))
 on-hit test p q t x ts last e r = reads-as (ap (λ o. on_taken o t ts p q (record { tokens = t ∷ ts; last = last })) e) r
 
-on-miss-is : {A B : Type 0} (test : Filled → Option B) (p : B → Parser A) (q : Parser A) (ts : List Filled) (last : ℕ) → Misses test ts → on test p q (record { tokens = ts; last = last }) ≡ q (record { tokens = ts; last = last })
+pub on-miss-is : {A B : Type 0} (test : Filled → Option B) (p : B → Parser A) (q : Parser A) (ts : List Filled) (last : ℕ) → Misses test ts → on test p q (record { tokens = ts; last = last }) ≡ q (record { tokens = ts; last = last })
 on-miss-is test p q [] last h = refl
 on-miss-is test p q (t ∷ ts) last h = ap (λ o. on_taken o t ts p q (record { tokens = t ∷ ts; last = last })) h
 
@@ -47,7 +47,7 @@ pub choose-either : {A : Type 0} {Q : A → Type 0} {us : List Filled} (b : Bool
 choose-either true p q s x y = x refl
 choose-either false p q s x y = y refl
 
-group-is : {A : Type 0} (i : Inner) (p : Mark) (inside otherwise : Parser A) (t : Filled) (us : List Filled) (last : ℕ) → is_mark p t.kind ≡ true → i.may_open ≡ true
+pub group-is : {A : Type 0} (i : Inner) (p : Mark) (inside otherwise : Parser A) (t : Filled) (us : List Filled) (last : ℕ) → is_mark p t.kind ≡ true → i.may_open ≡ true
     → on_group i p inside otherwise (record { tokens = t ∷ us; last = last }) ≡ inside (record { tokens = us; last = t.span.end })
 group-is i p inside otherwise t us last e m =
     ap (λ v. choose v (choose i.may_open (on (mark p) (λ u. inside) otherwise) (fails Depth)) otherwise (record { tokens = t ∷ us; last = last })) e

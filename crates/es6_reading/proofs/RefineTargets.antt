@@ -165,7 +165,7 @@ assignment-part b n ih operator f x d k v o = map-fits (made_part (span_of x) No
 layer-of : {x y : Expression} {l : Open Expression-F} → x ≡ y → out-Expression y ≡ l → out-Expression x ≡ l
 layer-of e o = ap out-Expression e ∙ o
 
-token-across : (t : Filled) (ts : List Filled) → t.span ≡ across (t ∷ ts) ts
+pub token-across : (t : Filled) (ts : List Filled) → t.span ≡ across (t ∷ ts) ts
 token-across t ts = ap (λ n. record { begin = t.span.begin; end = end_of 0 (take n (t ∷ ts)) }) one-more
   where
     one-more : 1 ≡ length (t ∷ ts) - length ts

@@ -1,12 +1,14 @@
 -- What is proved of the model, in the grammar's terms.
-use Rattle.std.specs.Prelude.{◌≡◌, ℕ, ◌+◌, false, List, [], ◌++◌, map}
+use Rattle.std.specs.Prelude.{◌≡◌, ℕ, ◌+◌, ◌≤◌, false, List, [], ◌++◌, map}
 use Rattle.es6_lexer.specs.declared.token.Token.{Token}
 use Rattle.es6_ast.specs.declared.module.Module.{Module}
+use Rattle.es6_ast.specs.declared.module.Item.{Item}
+use Rattle.es6_ast.specs.declared.module.Item.TheVariants as item
 use Rattle.es6_ast.specs.Tokens.{Filled, read}
-use Rattle.es6_ast.specs.Modules.{IsModule}
+use Rattle.es6_ast.specs.Modules.{IsItem, IsModule}
 use Rattle.es6_ast.specs.Semicolons.{Fills}
 use Rattle.es6_reading.specs.Parser.{Input, Stop, Took, Fault}
-use Rattle.es6_reading.specs.Modules.{readers, whole_module, most_open, read_module}
+use Rattle.es6_reading.specs.Modules.{readers, one_item, whole_module, most_open, read_module}
 
 -- Without inserted semicolons: a module that is read is derived from all of the tokens, with its spans.
 abbrev pub IsSound : Type 0
@@ -29,3 +31,16 @@ pub record InsertedReading (fuel : ℕ) (tokens : List Token) (m : Module) : Typ
 
 abbrev pub IsInserted : Type 0
 IsInserted = (fuel : ℕ) (tokens : List Token) (m : Module) (after : Input) → read_module fuel (map read tokens) ≡ Took m after → InsertedReading fuel tokens m
+
+-- an import, or an export of names (15.2.2, 15.2.3)
+abbrev pub IsLink : Item → Type 0
+IsLink (item.Import span default_ names specifier) = Unit {0}
+IsLink (item.ExportNames span names specifier) = Unit {0}
+IsLink (item.ExportAll span specifier) = Unit {0}
+IsLink x = ⊥
+
+-- Without inserted semicolons: such an item that is derived is read exactly so, whatever follows it, where loops have turns enough
+-- and constructs enough may open.
+abbrev pub LinksAreRead : Type 0
+LinksAreRead = (tokens us : List Filled) (x : Item) → IsItem tokens x us → IsLink x
+    → (bound : ℕ) × ((fuel room last : ℕ) → bound ≤ fuel → bound ≤ room → (end : ℕ) × (one_item (readers false fuel room) (record { tokens = tokens; last = last }) ≡ Took x (record { tokens = us; last = end })))

@@ -5,7 +5,7 @@
 #![tactic(auto)]
 
 ghost use Rattle.es6_reading.specs.Examples.{AreRead, AreStopped, IsDeepest};
-ghost use Rattle.es6_reading.specs.Laws.{FaultsAreInside, IsInserted, IsSound};
+ghost use Rattle.es6_reading.specs.Laws.{FaultsAreInside, IsInserted, IsSound, LinksAreRead};
 ghost use Rattle.es6_reading.specs.Program.{IsProgramRead};
 ghost use Rattle.es6_reading.specs.Refinements.{AreRefined, ComeFromExpressions};
 
@@ -53,4 +53,9 @@ pub fn derived_expressions_are_refined()
 /// What tokens spell as a pattern or as parameters, they spell as an expression that is refined to it.
 pub fn derived_patterns_come_from_expressions()
     ensures { ComeFromExpressions }
+{}
+
+/// Imports and exports of names that are derived are read exactly so.
+pub fn derived_imports_and_exports_of_names_are_read()
+    ensures { LinksAreRead }
 {}
