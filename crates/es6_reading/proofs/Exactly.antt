@@ -1,12 +1,12 @@
 -- When a reader takes tokens up to others, at least one of them, and gives exactly this value.
-use Rattle.std.proofs.Common.{◌≡◌, ℕ, Bool, true, false, List, ◌∷◌, Option, Some, sym, ap, subst}
+use Rattle.std.proofs.Common.{◌≡◌, ℕ, Bool, true, false, List, ◌∷◌, Option, Some, refl, sym, ap, subst, ◌∙◌}
 use Rattle.es6_lexer.specs.declared.token.Punctuator.{Punctuator as Mark}
 use Rattle.es6_ast.specs.Tokens.{Filled, IsWord, IsMark, is_word}
 use Rattle.es6_ast.specs.Grammar.{IsEnd, ends}
-use Rattle.es6_reading.specs.Parser.{Input, Outcome, Took, Parser, after, on, on_taken, choose, next_is, if_next, take_as, refused, kept_if, is_mark, mark, word, ending, Inner, on_group, inserts, semicolon}
+use Rattle.es6_reading.specs.Parser.{Input, Outcome, Took, Parser, after, on, on_taken, choose, next_is, if_next, take_as, refused, kept_if, is_mark, mark, word, next_mark, ending, Inner, on_group, inserts, semicolon}
 use Rattle.es6_reading.proofs.Posts.{Misses}
 use Rattle.es6_reading.proofs.Meanings.{bytes_eq-refl, is-mark-true}
-use Rattle.es6_reading.proofs.Spans.{Moves, ◌⟫◌}
+use Rattle.es6_reading.proofs.Spans.{Goes, Moves, ◌⟫◌, goes, stays, goes-on, then-goes}
 use Rattle.es6_reading.proofs.Reading.{on-miss-is, group-is}
 
 pub data Exactly {A : Type 0} (x : A) (s : Input) (us : List Filled) : Outcome A → Type 0 where
@@ -56,6 +56,44 @@ chosen b p q c e r = equal (ap (λ w. choose w p q c) e) r
 
 pub group-in : {A : Type 0} {x : A} {s : Input} {us : List Filled} (i : Inner) (p : Mark) (inside otherwise : Parser A) (t : Filled) (ts : List Filled) (last : ℕ) → is_mark p t.kind ≡ true → i.may_open ≡ true → Exactly x s us (inside (record { tokens = ts; last = t.span.end })) → Exactly x s us (on_group i p inside otherwise (record { tokens = t ∷ ts; last = last }))
 group-in i p inside otherwise t ts last e m r = equal (group-is i p inside otherwise t ts last e m) r
+
+-- an outcome that is known
+pub known : {A B : Type 0} {y : B} {s c : Input} {us : List Filled} {x : A} {o : Outcome A} (q : A → Parser B) → o ≡ Took x c → Exactly y s us (q x c) → Exactly y s us (after o q)
+known q e r = equal (ap (λ z. after z q) e) r
+
+pub if-is : {A : Type 0} (test : Filled → Bool) (p q : Parser A) (ts : List Filled) (last : ℕ) → next_is test ts ≡ false → if_next test p q (record { tokens = ts; last = last }) ≡ q (record { tokens = ts; last = last })
+if-is test p q ts last e = ap (λ w. choose w p q (record { tokens = ts; last = last })) e
+
+pub group-out : {A : Type 0} {x : A} {s : Input} {us : List Filled} (i : Inner) (p : Mark) (inside otherwise : Parser A) (ts : List Filled) (last : ℕ) → next_is (next_mark p) ts ≡ false → Exactly x s us (otherwise (record { tokens = ts; last = last })) → Exactly x s us (on_group i p inside otherwise (record { tokens = ts; last = last }))
+group-out i p inside otherwise ts last e r = if-no (next_mark p) _ otherwise ts last e r
+
+pub refused-choice : {A : Type 0} {x : A} {s : Input} {us : List Filled} (b : Bool) (p q : Parser A) (c : Input) → b ≡ false → Exactly x s us (q c) → Exactly x s us (choose b p q c)
+refused-choice b p q c e r = equal (ap (λ w. choose w p q c) e) r
+
+pub either-choice : {A : Type 0} {x : A} {s : Input} {us : List Filled} (b : Bool) (p q : Parser A) (c : Input) → (b ≡ true → Exactly x s us (p c)) → (b ≡ false → Exactly x s us (q c)) → Exactly x s us (choose b p q c)
+either-choice true p q c f g = f refl
+either-choice false p q c f g = g refl
+
+-- ## Where no token may be taken
+
+pub data Onward {A : Type 0} (x : A) (s : Input) (us : List Filled) : Outcome A → Type 0 where
+  onward : {end : ℕ} → Goes s (record { tokens = us; last = end }) → Onward x s us (Took x (record { tokens = us; last = end }))
+
+abbrev pub ReadsOnward : {A : Type 0} → Parser A → A → List Filled → List Filled → Type 0
+ReadsOnward p x ts us = (last : ℕ) → Onward x (record { tokens = ts; last = last }) us (p (record { tokens = ts; last = last }))
+
+pub onward-of : {A : Type 0} {x : A} {s : Input} {us : List Filled} {o : Outcome A} → Exactly x s us o → Onward x s us o
+onward-of (exactly m) = onward (goes m)
+
+pub onward-equal : {A : Type 0} {x : A} {s : Input} {us : List Filled} {o o' : Outcome A} → o ≡ o' → Onward x s us o' → Onward x s us o
+onward-equal {x = x} {s = s} {us = us} e h = subst (λ r. Onward x s us r) (sym e) h
+
+pub nothing-taken : {A : Type 0} {x : A} {us : List Filled} {last : ℕ} {o : Outcome A} → o ≡ Took x (record { tokens = us; last = last }) → Onward x (record { tokens = us; last = last }) us o
+nothing-taken {us = us} {last = last} e = onward-equal e (onward (stays (record { tokens = us; last = last })))
+
+-- what was read after other tokens, and what is read after it
+pub and_on : {A B : Type 0} {x : A} {y : B} {s c : Input} {us vs : List Filled} {o : Outcome A} (q : A → Parser B) → Moves s c → Onward x c us o → ((end : ℕ) → Moves s (record { tokens = us; last = end }) → Exactly y s vs (q x (record { tokens = us; last = end }))) → Exactly y s vs (after o q)
+and_on q m (onward g) f = f _ (then-goes m g)
 
 -- ## Tokens
 

@@ -49,4 +49,7 @@ pub mod Filled
 pub mod Spelled
 pub mod CompleteImports
 pub mod CompleteExports
+pub mod CompleteLevels
+pub mod CompleteClaims
+pub mod CompleteLists
 pub mod Examples
