@@ -15,7 +15,7 @@ use Rattle.es6_reading.specs.Expressions.{Role, Leading, Among, Heritage, Callee
 use Rattle.es6_reading.specs.Modules.{readers}
 use Rattle.es6_reading.proofs.Reading.{Eventually, deeper}
 use Rattle.es6_reading.proofs.Exactly.{ReadsExactly}
-use Rattle.es6_reading.proofs.CompleteTokens.{no-mark, mark-miss, operand-begins, expression-begins, Closes, EndsYield}
+use Rattle.es6_reading.proofs.CompleteTokens.{no-mark, mark-miss, operand-begins, expression-begins, Closes, closes-up, EndsYield}
 use Rattle.es6_reading.proofs.CompleteImports.{R}
 use Rattle.es6_reading.proofs.CompleteLevels.{reading, Stops, HeadReads, ChainReads, head-chain, UpdateReads, UnaryReads, PowerReads, chain-update, update-unary, update-power, no-unary, Stand, leads, among, Level, sequence_level, assignment_level, conditional_level, binary_level_, unary_level, LevelReads, level-at-most, from-unary, from-power}
 
@@ -24,6 +24,7 @@ pub record Claim (f : Flags) (level : ℕ) (ts us : List Filled) (x : Expression
   pub begins : next_is (begins_expression f) ts ≡ true
   pub first : 2 ≤ level → next_is begins_unary ts ≡ true
   pub operand : 16 ≤ level → next_is begins_operand ts ≡ true
+  pub no_unary : 15 ≤ level → Misses unary_at ts
   pub left : 16 ≤ level → is_left shape ≡ true
   pub heads : 19 ≤ level → (role : Role) → HeadReads f role (reading x shape) ts us
   -- with calls, and without
@@ -41,6 +42,7 @@ claim-down f a b ts us x h c = record {
   begins = c.begins;
   first = λ l. c.first (le-trans 2 a b l h);
   operand = λ l. c.operand (le-trans 16 a b l h);
+  no_unary = λ l. c.no_unary (le-trans 15 a b l h);
   left = λ l. c.left (le-trans 16 a b l h);
   heads = λ l. c.heads (le-trans 19 a b l h);
   chains = λ l. c.chains (le-trans 16 a b l h);
@@ -67,7 +69,7 @@ stops-if f least us h c = record { dot = c.dot; bracket = c.bracket; template = 
 stops-for : (role : Role) {us : List Filled} → Stops true us → Stops (has_calls role) us
 stops-for role s = record { dot = s.dot; bracket = s.bracket; template = s.template; paren = λ e. s.paren refl }
 
-stand-calls : {role : Role} → Stand role → has_calls role ≡ true
+pub stand-calls : {role : Role} → Stand role → has_calls role ≡ true
 stand-calls leads = refl
 stand-calls among = refl
 
@@ -91,6 +93,7 @@ claim-primary f ts us x shape l o h =
       begins = expression-if-unary f ts (unary-if-operand ts o);
       first = λ m. unary-if-operand ts o;
       operand = λ m. o;
+      no_unary = λ m. no-unary ts o;
       left = λ m. l;
       heads = λ m. h;
       chains = λ m. chains;
@@ -109,6 +112,7 @@ claim-left f level ts us x shape low l o chains members = record {
   begins = expression-if-unary f ts (unary-if-operand ts o);
   first = λ m. unary-if-operand ts o;
   operand = λ m. o;
+  no_unary = λ m. no-unary ts o;
   left = λ m. l;
   heads = λ m. absurd (no-level 19 level (omega (arith, low)) m);
   chains = λ m. chains;
@@ -118,18 +122,19 @@ claim-left f level ts us x shape low l o chains members = record {
 }
 
 -- an update
-pub claim-update : (f : Flags) (ts us : List Filled) (x : Expression) (shape : Shape) → next_is begins_unary ts ≡ true → ((role : Role) → has_calls role ≡ true → UpdateReads f role (reading x shape) ts us) → Misses unary_at ts → Claim f 15 ts us x
+pub claim-update : (f : Flags) (ts us : List Filled) (x : Expression) (shape : Shape) → next_is begins_unary ts ≡ true → (Closes f 14 us → (role : Role) → has_calls role ≡ true → UpdateReads f role (reading x shape) ts us) → Misses unary_at ts → Claim f 15 ts us x
 claim-update f ts us x shape o u m = record {
   shape = shape;
   begins = expression-if-unary f ts o;
   first = λ l. o;
   operand = λ l. absurd (no-level 16 15 (omega arith) l);
+  no_unary = λ l. m;
   left = λ l. absurd (no-level 16 15 (omega arith) l);
   heads = λ l. absurd (no-level 19 15 (omega arith) l);
   chains = λ l. absurd (no-level 16 15 (omega arith) l);
   members = λ l. absurd (no-level 18 15 (omega arith) l);
-  updates = λ l c. u;
-  levels = λ least v l c e. from-unary f (reading x shape) ts us o (update-unary f (reading x shape) ts us (u Among refl) m) (λ s role stand. update-power f role (reading x shape) ts us (u role (stand-calls stand)) m s) least v c;
+  updates = λ l c. u c;
+  levels = λ least v l c e. let w = u (closes-up f least 14 us (level-at-most v) c) in from-unary f (reading x shape) ts us o (update-unary f (reading x shape) ts us (w Among refl) m) (λ s role stand. update-power f role (reading x shape) ts us (w role (stand-calls stand)) m s) least v c;
 }
 
 -- any other expression that is no left-hand side
@@ -139,6 +144,7 @@ claim-other f level ts us x shape low b o h = record {
   begins = b;
   first = o;
   operand = λ m. absurd (no-level 16 level (omega (arith, low)) m);
+  no_unary = λ m. absurd (no-level 15 level (omega (arith, low)) m);
   left = λ m. absurd (no-level 16 level (omega (arith, low)) m);
   heads = λ m. absurd (no-level 19 level (omega (arith, low)) m);
   chains = λ m. absurd (no-level 16 level (omega (arith, low)) m);

@@ -434,6 +434,31 @@ operator-tests binary.Multiply = record { dot = refl; bracket = refl; paren = re
 operator-tests binary.Divide = record { dot = refl; bracket = refl; paren = refl; template = refl; after = refl; raised = refl; question = refl; arrow = refl; assigns = refl; comma = refl; found = refl; high = omega arith }
 operator-tests binary.Remainder = record { dot = refl; bracket = refl; paren = refl; template = refl; after = refl; raised = refl; question = refl; arrow = refl; assigns = refl; comma = refl; found = refl; high = omega arith }
 
+pub level-low : (op : BinaryOperator) → 3 ≤ binary_level op
+level-low binary.Or = omega arith
+level-low binary.And = omega arith
+level-low binary.BitOr = omega arith
+level-low binary.BitXor = omega arith
+level-low binary.BitAnd = omega arith
+level-low binary.Equal = omega arith
+level-low binary.NotEqual = omega arith
+level-low binary.Same = omega arith
+level-low binary.NotSame = omega arith
+level-low binary.Less = omega arith
+level-low binary.Greater = omega arith
+level-low binary.AtMost = omega arith
+level-low binary.AtLeast = omega arith
+level-low binary.InstanceOf = omega arith
+level-low binary.In = omega arith
+level-low binary.ShiftLeft = omega arith
+level-low binary.ShiftRight = omega arith
+level-low binary.ShiftRightUnsigned = omega arith
+level-low binary.Add = omega arith
+level-low binary.Subtract = omega arith
+level-low binary.Multiply = omega arith
+level-low binary.Divide = omega arith
+level-low binary.Remainder = omega arith
+
 pub level-high : (op : BinaryOperator) → binary_level op ≤ 12
 level-high op = (operator-tests op).high
 

@@ -52,4 +52,5 @@ pub mod CompleteExports
 pub mod CompleteLevels
 pub mod CompleteClaims
 pub mod CompleteLists
+pub mod CompleteOperators
 pub mod Examples
