@@ -17,7 +17,7 @@ use Rattle.es6_reading.proofs.Reading.{Eventually, deeper}
 use Rattle.es6_reading.proofs.Exactly.{ReadsExactly}
 use Rattle.es6_reading.proofs.CompleteTokens.{no-mark, mark-miss, operand-begins, expression-begins, Closes, closes-up, EndsYield}
 use Rattle.es6_reading.proofs.CompleteImports.{R}
-use Rattle.es6_reading.proofs.CompleteLevels.{reading, Stops, HeadReads, ChainReads, head-chain, UpdateReads, UnaryReads, PowerReads, chain-update, update-unary, update-power, no-unary, Stand, leads, among, Level, sequence_level, assignment_level, conditional_level, binary_level_, unary_level, LevelReads, level-at-most, from-unary, from-power}
+use Rattle.es6_reading.proofs.CompleteLevels.{reading, Stops, HeadReads, ChainReads, head-chain, UpdateReads, UnaryReads, PowerReads, chain-update, update-unary, update-power, no-unary, Stand, leads, among, Level, sequence_level, assignment_level, binary_level_, unary_level, LevelReads, ConditionalReads, power-conditional, level-at-most, from-unary, from-power}
 
 pub record Claim (f : Flags) (level : ℕ) (ts us : List Filled) (x : Expression) : Type 0 where
   pub shape : Shape
@@ -31,6 +31,8 @@ pub record Claim (f : Flags) (level : ℕ) (ts us : List Filled) (x : Expression
   pub chains : 16 ≤ level → Stops true us → (role : Role) → has_calls role ≡ true → ChainReads f role (reading x shape) ts us
   pub members : 18 ≤ level → Stops false us → ChainReads f Callee (reading x shape) ts us
   pub updates : 15 ≤ level → Closes f 14 us → (role : Role) → has_calls role ≡ true → UpdateReads f role (reading x shape) ts us
+  -- before an assignment operator or an arrow
+  pub conditionals : 16 ≤ level → Closes f 2 us → ConditionalReads f (reading x shape) ts us
   pub levels : (least : ℕ) (v : Level least) → least ≤ level → Closes f least us → EndsYield level us → LevelReads f (reading x shape) ts us v
 
 le-trans : (a b c : ℕ) → a ≤ b → b ≤ c → a ≤ c
@@ -48,7 +50,8 @@ claim-down f a b ts us x h c = record {
   chains = λ l. c.chains (le-trans 16 a b l h);
   members = λ l. c.members (le-trans 18 a b l h);
   updates = λ l. c.updates (le-trans 15 a b l h);
-  levels = λ least v l k e. c.levels least v (le-trans least a b l h) k (λ m. e (le-trans a b 1 h m));
+  conditionals = λ l. c.conditionals (le-trans 16 a b l h);
+  levels = λ least v l k e. c.levels least v (le-trans least a b l h) k (λ m. e (le-trans a b 2 h m));
 }
 
 -- ## First tokens
@@ -84,6 +87,9 @@ left-levels f x ts us o h least v c =
     let u = left-updates f x ts us o h least (level-at-most v) c in
     from-unary f x ts us (unary-if-operand ts o) (update-unary f x ts us (u Among refl) (no-unary ts o)) (λ s role stand. update-power f role x ts us (u role (stand-calls stand)) (no-unary ts o) s) least v c
 
+left-conditional : (f : Flags) (x : Reading) (ts us : List Filled) → next_is begins_operand ts ≡ true → ChainsRead f x ts us → Closes f 2 us → ConditionalReads f x ts us
+left-conditional f x ts us o h c = power-conditional f x ts us (update-power f Leading x ts us (left-updates f x ts us o h 2 (omega arith) c Leading refl) (no-unary ts o) (c.raised (omega arith))) c
+
 -- a primary expression
 pub claim-primary : (f : Flags) (ts us : List Filled) (x : Expression) (shape : Shape) → is_left shape ≡ true → next_is begins_operand ts ≡ true → ((role : Role) → HeadReads f role (reading x shape) ts us) → Claim f 19 ts us x
 claim-primary f ts us x shape l o h =
@@ -99,6 +105,7 @@ claim-primary f ts us x shape l o h =
       chains = λ m. chains;
       members = λ m s. head-chain f Callee (reading x shape) ts us (h Callee) s;
       updates = λ m c. left-updates f (reading x shape) ts us o chains 14 (omega arith) c;
+      conditionals = λ m c. left-conditional f (reading x shape) ts us o chains c;
       levels = λ least v m c e. left-levels f (reading x shape) ts us o chains least v c;
     }
 
@@ -118,6 +125,7 @@ claim-left f level ts us x shape low l o chains members = record {
   chains = λ m. chains;
   members = members;
   updates = λ m c. left-updates f (reading x shape) ts us o chains 14 (omega arith) c;
+  conditionals = λ m c. left-conditional f (reading x shape) ts us o chains c;
   levels = λ least v m c e. left-levels f (reading x shape) ts us o chains least v c;
 }
 
@@ -134,6 +142,7 @@ claim-update f ts us x shape o u m = record {
   chains = λ l. absurd (no-level 16 15 (omega arith) l);
   members = λ l. absurd (no-level 18 15 (omega arith) l);
   updates = λ l c. u c;
+  conditionals = λ l. absurd (no-level 16 15 (omega arith) l);
   levels = λ least v l c e. let w = u (closes-up f least 14 us (level-at-most v) c) in from-unary f (reading x shape) ts us o (update-unary f (reading x shape) ts us (w Among refl) m) (λ s role stand. update-power f role (reading x shape) ts us (w role (stand-calls stand)) m s) least v c;
 }
 
@@ -150,6 +159,7 @@ claim-other f level ts us x shape low b o h = record {
   chains = λ m. absurd (no-level 16 level (omega (arith, low)) m);
   members = λ m. absurd (no-level 18 level (omega (arith, low)) m);
   updates = λ m. absurd (no-level 15 level (omega (arith, low)) m);
+  conditionals = λ m. absurd (no-level 16 level (omega (arith, low)) m);
   levels = h;
 }
 

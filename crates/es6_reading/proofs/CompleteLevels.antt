@@ -157,14 +157,12 @@ pub data Stand : Role → Type 0 where
 pub data Level : ℕ → Type 0 where
   sequence_level : Level 0
   assignment_level : Level 1
-  conditional_level : Level 2
   binary_level_ : (role : Role) → Stand role → (above : ℕ) {level : ℕ} → above + level ≡ 13 → 3 ≤ level → Level level
   unary_level : Level 14
 
 abbrev pub level_reader : Inner → Flags → {least : ℕ} → Level least → Parser Reading
 level_reader i f sequence_level = sequence i f
 level_reader i f assignment_level = assignment i f
-level_reader i f conditional_level = conditional i f
 level_reader i f (binary_level_ role stand above {level = level} e h) = binary_from i f role above level
 level_reader i f unary_level = unary i f
 
@@ -185,7 +183,7 @@ unfolding begins_unary begins_operand reserved_words operand_words unary_operato
 no-yield [] h = tt
 no-yield (t ∷ ts) h = word-miss (codes "yield") t (no-word begins_unary (codes "yield") t h refl)
 
-to-conditional : (f : Flags) (x : Reading) (ts us : List Filled) → BinaryReads f Leading 10 3 x ts us → Closes f 2 us → ConditionalReads f x ts us
+pub to-conditional : (f : Flags) (x : Reading) (ts us : List Filled) → BinaryReads f Leading 10 3 x ts us → Closes f 2 us → ConditionalReads f x ts us
 unfolding conditional
 to-conditional f x ts us h c = then_ h (λ t k r y last. and_then _ (y last) (λ end mv. miss (mark marks.Question) _ _ us end (c.question (omega arith)) (exactly mv)))
 
@@ -232,7 +230,6 @@ thirteen above high e l = omega arith
 pub from-binary : (above high : ℕ) (f : Flags) (x : Reading) (ts us : List Filled) → above + high ≡ 13 → 3 ≤ high → next_is begins_unary ts ≡ true → ((role : Role) → Stand role → BinaryReads f role above high x ts us) → (least : ℕ) (v : Level least) → least ≤ high → Closes f least us → LevelReads f x ts us v
 from-binary above high f x ts us e h o r least sequence_level l c = to-sequence f x ts us (to-assignment f x ts us o (to-conditional f x ts us (to-three above high f x ts us e h (r Leading leads) (up f 0 3 us (omega arith) c)) (up f 0 2 us (omega arith) c)) (up f 0 1 us (omega arith) c)) c
 from-binary above high f x ts us e h o r least assignment_level l c = to-assignment f x ts us o (to-conditional f x ts us (to-three above high f x ts us e h (r Leading leads) (up f 1 3 us (omega arith) c)) (up f 1 2 us (omega arith) c)) c
-from-binary above high f x ts us e h o r least conditional_level l c = to-conditional f x ts us (to-three above high f x ts us e h (r Leading leads) (up f 2 3 us (omega arith) c)) c
 from-binary above high f x ts us e h o r least (binary_level_ role stand above' {level = level} e' h') l c = let d = difference high level l in lift-binaries d.0 above high above' level f role x ts us d.1 e e' (r role stand) c
 from-binary above high f x ts us e h o r least unary_level l c = absurd (thirteen above high e l)
 
@@ -251,21 +248,18 @@ le-two' a h = omega arith
 pub from-conditional : (f : Flags) (x : Reading) (ts us : List Filled) → next_is begins_unary ts ≡ true → ConditionalReads f x ts us → (least : ℕ) (v : Level least) → least ≤ 2 → Closes f least us → LevelReads f x ts us v
 from-conditional f x ts us o r least sequence_level l c = to-sequence f x ts us (to-assignment f x ts us o r (up f 0 1 us (omega arith) c)) c
 from-conditional f x ts us o r least assignment_level l c = to-assignment f x ts us o r c
-from-conditional f x ts us o r least conditional_level l c = r
 from-conditional f x ts us o r least (binary_level_ role stand above {level = level} e h) l c = absurd (too-low level l h)
 from-conditional f x ts us o r least unary_level l c = absurd (no-low 14 2 (omega arith) l)
 
 pub from-assignment : (f : Flags) (x : Reading) (ts us : List Filled) → AssignmentReads f x ts us → (least : ℕ) (v : Level least) → least ≤ 1 → Closes f least us → LevelReads f x ts us v
 from-assignment f x ts us r least sequence_level l c = to-sequence f x ts us r c
 from-assignment f x ts us r least assignment_level l c = r
-from-assignment f x ts us r least conditional_level l c = absurd (no-low 2 1 (omega arith) l)
 from-assignment f x ts us r least (binary_level_ role stand above {level = level} e h) l c = absurd (too-low level (le-two level l) h)
 from-assignment f x ts us r least unary_level l c = absurd (no-low 14 1 (omega arith) l)
 
 pub from-sequence : (f : Flags) (x : Reading) (ts us : List Filled) → SequenceReads f x ts us → (least : ℕ) (v : Level least) → least ≤ 0 → LevelReads f x ts us v
 from-sequence f x ts us r least sequence_level l = r
 from-sequence f x ts us r least assignment_level l = absurd (no-low 1 0 (omega arith) l)
-from-sequence f x ts us r least conditional_level l = absurd (no-low 2 0 (omega arith) l)
 from-sequence f x ts us r least (binary_level_ role stand above {level = level} e h) l = absurd (too-low level (le-two' level l) h)
 from-sequence f x ts us r least unary_level l = absurd (no-low 14 0 (omega arith) l)
 
@@ -276,7 +270,6 @@ from-power f x ts us o h least v l c = from-binary 0 13 f x ts us refl (omega ar
 pub level-at-most : {least : ℕ} (v : Level least) → least ≤ 14
 level-at-most sequence_level = omega arith
 level-at-most assignment_level = omega arith
-level-at-most conditional_level = omega arith
 level-at-most (binary_level_ role stand above {level = level} e h) = sum above level e
   where
     sum : (above level : ℕ) → above + level ≡ 13 → level ≤ 14
@@ -288,8 +281,12 @@ pub from-unary : (f : Flags) (x : Reading) (ts us : List Filled) → next_is beg
 from-unary f x ts us o u h least unary_level c = u
 from-unary f x ts us o u h least sequence_level c = from-power f x ts us o (h (c.raised (omega arith))) 0 sequence_level (omega arith) c
 from-unary f x ts us o u h least assignment_level c = from-power f x ts us o (h (c.raised (omega arith))) 1 assignment_level (omega arith) c
-from-unary f x ts us o u h least conditional_level c = from-power f x ts us o (h (c.raised (omega arith))) 2 conditional_level (omega arith) c
 from-unary f x ts us o u h least (binary_level_ role stand above {level = level} e h') c = from-power f x ts us o (h (c.raised (low above level e))) level (binary_level_ role stand above e h') (low above level e) c
   where
     low : (above level : ℕ) → above + level ≡ 13 → level ≤ 13
     low above level e = omega arith
+
+-- before an assignment operator or an arrow
+pub power-conditional : (f : Flags) (x : Reading) (ts us : List Filled) → PowerReads f Leading x ts us → Closes f 2 us → ConditionalReads f x ts us
+unfolding binary_from
+power-conditional f x ts us h c = to-conditional f x ts us (to-three 0 13 f x ts us refl (omega arith) h (up f 2 3 us (omega arith) c)) c

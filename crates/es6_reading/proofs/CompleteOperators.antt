@@ -12,21 +12,21 @@ use Rattle.es6_ast.specs.Tokens.{Filled, Read, IsMark, IsOnLine, across}
 use Rattle.es6_ast.specs.Grammar.{Flags, with_in, is_in, is_before, unary_kind, update_kind, binary_kind, binary_level}
 use Rattle.es6_reading.specs.Parser.{mark, Other, Reading}
 use Rattle.es6_reading.specs.Words.{unary_at, before_at, after_at, binary_at}
-use Rattle.es6_reading.specs.Expressions.{Role, Among, has_calls, postfix, prefixed, updated, update, unary, raised, power, operands, operated, binary_from, branches, conditional, more_parts, parts, assignment, sequence}
+use Rattle.es6_reading.specs.Expressions.{Role, Leading, Among, has_calls, postfix, prefixed, updated, update, unary, raised, power, operands, operated, binary_from, branches, conditional, more_parts, parts, assignment, sequence}
 use Rattle.es6_reading.proofs.Posts.{Misses}
 use Rattle.es6_reading.proofs.Spans.{◌⟫◌, span-across}
 use Rattle.es6_reading.proofs.Derived.{one}
 use Rattle.es6_reading.proofs.Reading.{Eventually, always, then_, both, pair, turn, begin, on-miss-is}
-use Rattle.es6_reading.proofs.Exactly.{ReadsExactly, ReadsOnward, onward-of, nothing-taken, done, and_then, and_on, later, hit, miss, take, mark-hit}
-use Rattle.es6_reading.proofs.CompleteTokens.{Closes, closes-up, closes-any, closes-update, closes-power, closes-question, closes-colon, closes-operator, EndsYield, ends-yield, colon-ends-yield, unary-begins, before-begins, expression-begins, unary-hit, before-hit, after-hit, binary-hit, level-low, level-high}
+use Rattle.es6_reading.proofs.Exactly.{Exactly, ReadsExactly, ReadsOnward, onward-of, nothing-taken, done, and_then, and_on, later, hit, miss, take, mark-hit}
+use Rattle.es6_reading.proofs.CompleteTokens.{Closes, closes-up, closes-comma, closes-update, closes-power, closes-question, closes-colon, closes-operator, EndsYield, ends-yield, colon-ends-yield, comma-ends-yield, unary-begins, before-begins, expression-begins, unary-hit, before-hit, after-hit, binary-hit, level-low}
 use Rattle.es6_reading.proofs.CompleteImports.{R, at-fuel, readers-fuel}
-use Rattle.es6_reading.proofs.CompleteLevels.{reading, UpdateReads, UnaryReads, PowerReads, BinaryReads, Level, level-at-most, Stand, among, binary_level_, from-unary, from-power, from-binary, from-conditional}
-use Rattle.es6_reading.proofs.CompleteClaims.{Claim, claim-update, claim-other, expression-if-unary, stops-if, stand-calls, open-unary, open-power, open-assignment}
+use Rattle.es6_reading.proofs.CompleteLevels.{reading, Level, sequence_level, assignment_level, binary_level_, unary_level, level-at-most, leads, among, from-unary, from-power, from-binary, from-conditional, from-sequence}
+use Rattle.es6_reading.proofs.CompleteClaims.{Claim, claim-update, claim-other, stops-if, stand-calls, open-unary, open-power, open-assignment}
 
-high-yields : (level : ℕ) (us : List Filled) → 2 ≤ level → EndsYield level us
+high-yields : (level : ℕ) (us : List Filled) → 3 ≤ level → EndsYield level us
 high-yields level us h m = absurd (none level h m)
   where
-    none : (level : ℕ) → 2 ≤ level → level ≤ 1 → ⊥
+    none : (level : ℕ) → 3 ≤ level → level ≤ 2 → ⊥
     none level h m = omega arith
 
 -- ## Unary operators and updates
@@ -79,7 +79,7 @@ pub operand-claim : (f : Flags) (level : ℕ) {t : Filled} {ts us vs : List Fill
 unfolding operands
 operand-claim f level {t = t} {ts = ts} {us = us} {rest = rest} op l n h c e os = record {
   closes = λ k. closes-operator f ts t op level h l;
-  reads = λ above s k. turn (pair (c.levels (level + 1) (binary_level_ Among among above s (three level l)) (omega arith) (os.closes k) (high-yields (level + 1) us (two level l))) (os.reads above s k)) (λ j k' r y last.
+  reads = λ above s k. turn (pair (c.levels (level + 1) (binary_level_ Among among above s (three level l)) (omega arith) (os.closes k) (high-yields (level + 1) us (three level l))) (os.reads above s k)) (λ j k' r y last.
       onward-of (hit (binary_at f level) _ _ t op ts last (binary-hit f level t op h l n) (and_then _ (later one (y.0 t.span.end)) (λ end mv. and_on _ mv (y.1 end) (λ end' mv'. done (ap (λ z. z ∷ rest) (sym e)) mv')))));
 }
   where
@@ -88,9 +88,6 @@ operand-claim f level {t = t} {ts = ts} {us = us} {rest = rest} op l n h c e os 
 
     three : (level : ℕ) → binary_level op ≡ level → 3 ≤ level + 1
     three level l = omega (arith, l, low)
-
-    two : (level : ℕ) → binary_level op ≡ level → 2 ≤ level + 1
-    two level l = omega (arith, l, low)
 
 above-of : (level : ℕ) → level ≤ 12 → (above : ℕ) × (suc above + level ≡ 13)
 above-of level l = at 12 level l
@@ -125,3 +122,72 @@ binary-claim f level {ts = ts} {us = us} {vs = vs} {first = first} {x = x} {o = 
 
     turns : (above k r : ℕ) → ReadsOnward (operands (binary_from (R k r) f Among above (level + 1)) f level k) (o ∷ rest) us vs → ReadsOnward (operands (binary_from (R k r) f Among above (level + 1)) f level (R k r).fuel) (o ∷ rest) us vs
     turns above k r z = subst (λ n. ReadsOnward (operands (binary_from (R k r) f Among above (level + 1)) f level n) (o ∷ rest) us vs) (sym (readers-fuel k r)) z
+
+-- ## Conditional expressions and sequences
+
+no-three : (level : ℕ) → level ≤ 2 → 3 ≤ level → ⊥
+no-three level a b = omega arith
+
+one-at-most : {least : ℕ} (v : Level least) → least ≤ 2 → least ≤ 1
+one-at-most sequence_level l = omega arith
+one-at-most assignment_level l = omega arith
+one-at-most (binary_level_ role stand above {level = level} e h) l = absurd (no-three level l h)
+one-at-most unary_level l = absurd (no-three 14 l (omega arith))
+
+pub conditional-claim : (f : Flags) {question colon : Filled} {ts us vs ws : List Filled} {test yes_ no_ x : Expression} → Claim f 3 ts (question ∷ us) test → IsMark marks.Question question → Claim (with_in f) 1 us (colon ∷ vs) yes_ → IsMark marks.Colon colon → Claim f 1 vs ws no_
+    → x ≡ expr.Conditional (across ts ws) test yes_ no_ → Claim f 2 ts ws x
+unfolding conditional branches
+conditional-claim f {question = q} {colon = c} {ts = ts} {us = us} {vs = vs} {ws = ws} {test = test} {yes_ = yes_} {no_ = no_} {x = x} a h b h' d e = claim-other f 2 ts ws x Other (omega arith) a.begins (λ l. a.first (omega arith)) (λ least v l k y.
+    from-conditional f (reading x Other) ts ws (a.first (omega arith)) (both (a.levels 3 (binary_level_ Leading leads 10 refl (omega arith)) (omega arith) (closes-question f us q h) (high-yields 3 (q ∷ us) (omega arith)))
+    (pair (open-assignment b (closes-up (with_in f) 0 1 (c ∷ vs) (omega arith) (closes-colon (with_in f) vs c h')) (ends-yield 1 c vs (colon-ends-yield c h'))) (open-assignment d (closes-up f least 1 ws (one-at-most v l) k) (λ m. y (omega arith))))
+    (λ n k' r z z' last. and_then _ (z last) (λ end mv. hit (mark marks.Question) _ _ q q us end (mark-hit marks.Question q h) (and_then _ (later (mv ⟫ one) (z'.0 q.span.end)) (λ end' mv'.
+    take (mark marks.Colon) _ c c vs end' (mark-hit marks.Colon c h') (and_then _ (later (mv' ⟫ one) (z'.1 c.span.end)) (λ end'' mv''. done (ap (λ w. reading w Other) (ap (λ s. expr.Conditional s test yes_ no_) (span-across mv'') ∙ sym e)) mv'')))))))
+    least v l k)
+
+-- the parts after the first comma
+pub record MoreClaim (f : Flags) (ts us : List Filled) (xs : List Expression) : Type 0 where
+  pub token : Filled
+  pub after : List Filled
+  pub first : ts ≡ token ∷ after
+  pub comma : IsMark marks.Comma token
+  pub reads : Closes f 0 us → EndsYield 0 us → Eventually (λ t k r. ReadsExactly (parts (R k r) f t) xs after us)
+
+pub more-last : (f : Flags) {c : Filled} {ts us : List Filled} {x : Expression} → IsMark marks.Comma c → Claim f 1 ts us x → MoreClaim f (c ∷ ts) us (x ∷ [])
+unfolding parts
+more-last f {c = c} {ts = ts} {us = us} h x = record {
+  token = c;
+  after = ts;
+  first = refl;
+  comma = h;
+  reads = λ k y. turn (x.levels 1 assignment_level (omega arith) (closes-up f 0 1 us (omega arith) k) (λ m. y (omega arith))) (λ n k' r z last. and_then _ (z last) (λ end mv. miss (mark marks.Comma) _ _ us end (k.comma (omega arith)) (done refl mv)));
+}
+
+pub more-next : (f : Flags) {c : Filled} {ts us vs : List Filled} {x : Expression} {xs : List Expression} → IsMark marks.Comma c → Claim f 1 ts us x → MoreClaim f us vs xs → MoreClaim f (c ∷ ts) vs (x ∷ xs)
+unfolding parts
+more-next f {c = c} {ts = ts} {us = us} {vs = vs} {x = x} {xs = xs} h d m = record {
+  token = c;
+  after = ts;
+  first = refl;
+  comma = h;
+  reads = λ k y. turn (pair (d.levels 1 assignment_level (omega arith) (subst (λ zs. Closes f 1 zs) (sym m.first) (closes-comma f m.after m.token m.comma)) (subst (λ zs. EndsYield 1 zs) (sym m.first) (ends-yield 1 m.token m.after (comma-ends-yield m.token m.comma)))) (m.reads k y)) (λ n k' r z last.
+      and_then _ (subst (λ zs. Exactly (reading x d.shape) (record { tokens = ts; last = last }) zs (assignment (R k' r) f (record { tokens = ts; last = last }))) m.first (z.0 last)) (λ end mv. hit (mark marks.Comma) _ _ m.token m.token m.after end (mark-hit marks.Comma m.token m.comma)
+      (and_then _ (later (mv ⟫ one) (z.1 m.token.span.end)) (λ end' mv'. done refl mv'))));
+}
+
+pub sequence-claim : (f : Flags) {ts us vs : List Filled} {first x : Expression} {rest : List Expression} → Claim f 1 ts us first → MoreClaim f us vs rest → x ≡ expr.Sequence (across ts vs) first rest → Claim f 0 ts vs x
+unfolding sequence more_parts
+sequence-claim f {ts = ts} {us = us} {vs = vs} {first = first} {x = x} {rest = rest} c m e = claim-other f 0 ts vs x Other (omega arith) c.begins (λ l. absurd (no-zero 2 1 (omega arith) l)) (λ least v l k y.
+    from-sequence f (reading x Other) ts vs (both (c.levels 1 assignment_level (omega arith) (subst (λ zs. Closes f 1 zs) (sym m.first) (closes-comma f m.after m.token m.comma)) (subst (λ zs. EndsYield 1 zs) (sym m.first) (ends-yield 1 m.token m.after (comma-ends-yield m.token m.comma))))
+    (begin (m.reads (zero-closes least l k) y) (λ n k' r z. at-fuel (λ j. parts (R k' r) f j) rest m.after vs k' r z))
+    (λ n k' r z z' last. and_then _ (subst (λ zs. Exactly (reading first c.shape) (record { tokens = ts; last = last }) zs (assignment (R k' r) f (record { tokens = ts; last = last }))) m.first (z last)) (λ end mv. hit (mark marks.Comma) _ _ m.token m.token m.after end (mark-hit marks.Comma m.token m.comma)
+    (and_then _ (later (mv ⟫ one) (z' m.token.span.end)) (λ end' mv'. done (ap (λ w. reading w Other) (ap (λ s. expr.Sequence s first rest) (span-across mv') ∙ sym e)) mv')))))
+    least v l)
+  where
+    no-zero : (a b : ℕ) → suc b ≤ a → a ≤ zero → ⊥
+    no-zero a b h l = omega arith
+
+    same : (least : ℕ) → least ≤ 0 → least ≡ 0
+    same least l = omega arith
+
+    zero-closes : (least : ℕ) → least ≤ 0 → Closes f least vs → Closes f 0 vs
+    zero-closes least l k = subst (λ n. Closes f n vs) (same least l) k

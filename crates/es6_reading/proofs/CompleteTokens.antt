@@ -176,9 +176,9 @@ pub record Closes (f : Flags) (least : ℕ) (ts : List Filled) : Type 0 where
   pub assigns : least ≤ 1 → Misses assign_at ts
   pub comma : least ≤ 0 → Misses (mark marks.Comma) ts
 
--- A `yield` without a value ends before these.
+-- A `yield` without a value ends before these, where an expression of the level may end in one.
 abbrev pub EndsYield : ℕ → List Filled → Type 0
-EndsYield level ts = level ≤ 1 → next_is (λ t. not (ends_yield t)) ts ≡ false
+EndsYield level ts = level ≤ 2 → next_is (λ t. not (ends_yield t)) ts ≡ false
 
 le-trans : (a b c : ℕ) → a ≤ b → b ≤ c → a ≤ c
 le-trans a b c h k = omega arith
