@@ -1,6 +1,6 @@
 -- What is claimed of an expression of a level that is derived.
-use Rattle.std.proofs.Common.{◌≡◌, ℕ, suc, ◌≤◌, Bool, true, false, ◌&&◌, ◌||◌, List, [], ◌∷◌, None, refl, sym, ap, ◌∙◌, arith}
-use Rattle.std.proofs.lemmas.Bool.{false≢true, true≢false}
+use Rattle.std.proofs.Common.{◌≡◌, ℕ, suc, ◌≤◌, Bool, true, false, ◌&&◌, ◌||◌, List, [], ◌∷◌, None, refl, ap, ◌∙◌, arith}
+use Rattle.std.proofs.lemmas.Bool.{false≢true}
 use Rattle.es6_ast.specs.declared.tree.Expression.{Expression}
 use Rattle.es6_ast.specs.Tokens.{Filled, Read}
 use Rattle.es6_ast.specs.Grammar.{Flags}
@@ -17,7 +17,7 @@ use Rattle.es6_reading.proofs.Reading.{Eventually, deeper}
 use Rattle.es6_reading.proofs.Exactly.{ReadsExactly}
 use Rattle.es6_reading.proofs.CompleteTokens.{no-mark, mark-miss, operand-begins, expression-begins, Closes, closes-up, EndsYield}
 use Rattle.es6_reading.proofs.CompleteImports.{R}
-use Rattle.es6_reading.proofs.CompleteLevels.{reading, Stops, HeadReads, ChainReads, head-chain, UpdateReads, UnaryReads, PowerReads, chain-update, update-unary, update-power, no-unary, Stand, leads, among, Level, sequence_level, assignment_level, binary_level_, unary_level, LevelReads, ConditionalReads, power-conditional, level-at-most, from-unary, from-power}
+use Rattle.es6_reading.proofs.CompleteLevels.{reading, Stops, HeadReads, ChainReads, head-chain, UpdateReads, chain-update, update-unary, update-power, no-unary, Stand, leads, among, Level, sequence_level, assignment_level, binary_level_, unary_level, LevelReads, ConditionalReads, power-conditional, level-at-most, from-unary}
 
 pub record Claim (f : Flags) (level : ℕ) (ts us : List Filled) (x : Expression) : Type 0 where
   pub shape : Shape

@@ -1,6 +1,5 @@
 -- An expression that is read at its own level is read at each lower one, if the next token goes on with nothing there.
-use Rattle.std.proofs.Common.{◌≡◌, ℕ, zero, suc, ◌+◌, ◌≤◌, Bool, true, false, ◌&&◌, not, List, [], ◌∷◌, Some, None, refl, sym, ap, subst, ◌∙◌, arith}
-use Rattle.std.proofs.lemmas.Bool.{false≢true}
+use Rattle.std.proofs.Common.{◌≡◌, ℕ, zero, suc, ◌+◌, ◌≤◌, Bool, true, false, ◌&&◌, List, [], ◌∷◌, None, refl, sym, ap, subst, ◌∙◌, arith}
 use Rattle.std.specs.Prelude.{codes}
 use Rattle.es6_lexer.specs.declared.token.TokenKind.TheVariants as kinds
 use Rattle.es6_lexer.specs.declared.token.Punctuator.{Punctuator as Mark}
@@ -8,16 +7,15 @@ use Rattle.es6_lexer.specs.declared.token.Punctuator.TheVariants as marks
 use Rattle.es6_ast.specs.declared.tree.Expression.{Expression}
 use Rattle.es6_ast.specs.Tokens.{Filling, Filled, Read, begin_of}
 use Rattle.es6_ast.specs.Grammar.{Flags}
-use Rattle.es6_reading.specs.Parser.{Input, Took, Parser, returns, next_is, mark, word, next_mark, Shape, Other, Reading, is_left, Inner, choose, is_mark}
-use Rattle.es6_reading.specs.Words.{same_truth, stretch_if, stretch_in, stretch_at, is_template_head, is_arrow, unary_at, before_at, after_at, assign_at, binary_at, begins_operand, begins_unary, begins_expression, unary_operators, operand_words}
-use Rattle.es6_reading.specs.Expressions.{Role, Leading, Among, Heritage, Callee, has_calls, head, links, chained, chain, postfix, update, unary, power, raised, operands, operated, binary_from, conditional, without_yield, after_conditional, assignment, sequence}
-use Rattle.es6_reading.specs.Modules.{readers}
+use Rattle.es6_reading.specs.Parser.{Input, Took, Parser, returns, next_is, mark, word, next_mark, Shape, Reading, is_left, Inner, choose}
+use Rattle.es6_reading.specs.Words.{same_truth, stretch_if, stretch_in, stretch_at, is_template_head, is_arrow, unary_at, before_at, after_at, assign_at, binary_at, begins_operand, begins_unary, unary_operators, operand_words}
+use Rattle.es6_reading.specs.Expressions.{Role, Leading, Among, has_calls, head, links, chain, postfix, update, unary, power, raised, operands, binary_from, conditional, without_yield, after_conditional, assignment, sequence}
 use Rattle.es_outside.specs.HostNames.{reserved_words}
 use Rattle.es6_reading.proofs.Posts.{Misses}
-use Rattle.es6_reading.proofs.Reading.{Eventually, always, then_, both, pair, turn, begin, deeper, on-miss-is}
-use Rattle.es6_reading.proofs.Exactly.{Exactly, exactly, ReadsExactly, equal, done, and_then, miss, if-no, if-is, refused-choice, either-choice, known}
-use Rattle.es6_reading.proofs.CompleteTokens.{no-word, word-miss, mark-miss, operand-no-unary, operand-no-before, operand-begins, expression-begins, Closes, closes-up, EndsYield}
-use Rattle.es6_reading.proofs.CompleteImports.{R, readers-fuel, at-fuel}
+use Rattle.es6_reading.proofs.Reading.{Eventually, always, then_, both, turn, begin, on-miss-is}
+use Rattle.es6_reading.proofs.Exactly.{exactly, ReadsExactly, and_then, miss, if-no, if-is, either-choice, known}
+use Rattle.es6_reading.proofs.CompleteTokens.{no-word, word-miss, mark-miss, operand-no-unary, operand-no-before, Closes, closes-up}
+use Rattle.es6_reading.proofs.CompleteImports.{R, readers-fuel}
 
 abbrev pub reading : Expression → Shape → Reading
 reading x shape = record { value = x; shape = shape }

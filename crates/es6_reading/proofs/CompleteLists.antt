@@ -1,5 +1,5 @@
 -- Elements, arguments and templates that are derived are read exactly so, if their parts are.
-use Rattle.std.proofs.Common.{◌≡◌, ℕ, ◌≤◌, Bool, true, false, List, [], ◌∷◌, None, refl, sym, ap, subst, ◌∙◌, arith}
+use Rattle.std.proofs.Common.{◌≡◌, ℕ, Bool, true, false, List, [], ◌∷◌, None, refl, sym, ap, subst, ◌∙◌, arith}
 use Rattle.es6_lexer.specs.declared.token.TokenKind.TheVariants as kinds
 use Rattle.es6_lexer.specs.declared.token.Punctuator.TheVariants as marks
 use Rattle.es6_ast.specs.declared.tree.Expression.{Expression}
@@ -11,18 +11,17 @@ use Rattle.es6_ast.specs.declared.tree.Template.{Template, roll-Template}
 use Rattle.es6_ast.specs.declared.tree.TemplatePart.{TemplatePart, roll-TemplatePart}
 use Rattle.es6_ast.specs.Tokens.{Filled, Read, IsMark, begin_of, across}
 use Rattle.es6_ast.specs.Grammar.{Flags, with_in}
-use Rattle.es6_reading.specs.Parser.{Input, Parser, mark, Reading, Inner}
+use Rattle.es6_reading.specs.Parser.{Input, Parser, mark}
 use Rattle.es6_reading.specs.Words.{stretch_at, stretch_in}
-use Rattle.es6_reading.specs.Parts.{template_part, template_parts, parted_template, on_template}
+use Rattle.es6_reading.specs.Parts.{template_parts, parted_template, on_template}
 use Rattle.es6_reading.specs.Expressions.{argument, Listing, elements, more_arguments, arguments}
 use Rattle.es6_reading.proofs.Posts.{Misses}
 use Rattle.es6_reading.proofs.Spans.{Moves, ◌⟫◌, span-across}
 use Rattle.es6_reading.proofs.Derived.{one}
 use Rattle.es6_reading.proofs.Reading.{Eventually, always, then_, both, pair, turn, begin}
-use Rattle.es6_reading.proofs.Exactly.{Exactly, ReadsExactly, equal, done, and_then, later, hit, miss, take, chosen, mark-hit}
+use Rattle.es6_reading.proofs.Exactly.{Exactly, ReadsExactly, done, and_then, later, hit, miss, take, chosen, mark-hit}
 use Rattle.es6_reading.proofs.CompleteTokens.{Closes, EndsYield, closes-comma, closes-close, closes-square, closes-stretch, closes-up, comma-ends-yield, close-ends-yield, square-ends-yield, stretch-ends-yield, ends-yield}
 use Rattle.es6_reading.proofs.CompleteImports.{R, at-fuel, opened, mark-no-mark}
-use Rattle.es6_reading.proofs.CompleteLevels.{reading}
 use Rattle.es6_reading.proofs.CompleteClaims.{Claim, begins-no-close, begins-no-square, begins-no-comma, begins-no-ellipsis, open-assignment, open-sequence}
 
 -- ## Arguments and elements

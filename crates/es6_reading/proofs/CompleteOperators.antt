@@ -1,6 +1,5 @@
 -- Expressions with operators that are derived are read exactly so, if their operands are.
-use Rattle.std.proofs.Common.{◌≡◌, ℕ, zero, suc, ◌+◌, ◌≤◌, Bool, true, false, ◌||◌, not, List, [], ◌∷◌, Option, Some, None, refl, sym, ap, subst, ◌∙◌, arith}
-use Rattle.es_text.specs.declared.Span.{Span}
+use Rattle.std.proofs.Common.{◌≡◌, ℕ, zero, suc, ◌+◌, ◌≤◌, true, false, ◌||◌, not, List, [], ◌∷◌, refl, sym, ap, subst, ◌∙◌, arith}
 use Rattle.es6_lexer.specs.declared.token.Punctuator.TheVariants as marks
 use Rattle.es6_ast.specs.declared.operators.UnaryOperator.{UnaryOperator}
 use Rattle.es6_ast.specs.declared.operators.UpdateOperator.{UpdateOperator}
@@ -10,9 +9,9 @@ use Rattle.es6_ast.specs.declared.tree.Expression.TheVariants as expr
 use Rattle.es6_ast.specs.declared.tree.Operand.{Operand, roll-Operand}
 use Rattle.es6_ast.specs.Tokens.{Filled, Read, IsMark, IsOnLine, across}
 use Rattle.es6_ast.specs.Grammar.{Flags, with_in, is_in, is_before, unary_kind, update_kind, binary_kind, binary_level}
-use Rattle.es6_reading.specs.Parser.{mark, Other, Reading}
+use Rattle.es6_reading.specs.Parser.{mark, Other}
 use Rattle.es6_reading.specs.Words.{unary_at, before_at, after_at, binary_at}
-use Rattle.es6_reading.specs.Expressions.{Role, Leading, Among, has_calls, postfix, prefixed, updated, update, unary, raised, power, operands, operated, binary_from, branches, conditional, more_parts, parts, assignment, sequence}
+use Rattle.es6_reading.specs.Expressions.{Leading, Among, postfix, prefixed, updated, update, unary, raised, power, operands, binary_from, branches, conditional, more_parts, parts, assignment, sequence}
 use Rattle.es6_reading.proofs.Posts.{Misses}
 use Rattle.es6_reading.proofs.Spans.{◌⟫◌, span-across}
 use Rattle.es6_reading.proofs.Derived.{one}

@@ -1,12 +1,12 @@
 -- When a reader takes tokens up to others, at least one of them, and gives exactly this value.
-use Rattle.std.proofs.Common.{◌≡◌, ℕ, Bool, true, false, List, ◌∷◌, Option, Some, refl, sym, ap, subst, ◌∙◌}
+use Rattle.std.proofs.Common.{◌≡◌, ℕ, Bool, true, false, List, ◌∷◌, Option, Some, refl, sym, ap, subst}
 use Rattle.es6_lexer.specs.declared.token.Punctuator.{Punctuator as Mark}
 use Rattle.es6_ast.specs.Tokens.{Filled, IsWord, IsMark, is_word}
 use Rattle.es6_ast.specs.Grammar.{IsEnd, ends}
 use Rattle.es6_reading.specs.Parser.{Input, Outcome, Took, Parser, after, on, on_taken, choose, next_is, if_next, take_as, refused, kept_if, is_mark, mark, word, next_mark, ending, Inner, on_group, inserts, semicolon}
 use Rattle.es6_reading.proofs.Posts.{Misses}
 use Rattle.es6_reading.proofs.Meanings.{bytes_eq-refl, is-mark-true}
-use Rattle.es6_reading.proofs.Spans.{Goes, Moves, ◌⟫◌, goes, stays, goes-on, then-goes}
+use Rattle.es6_reading.proofs.Spans.{Goes, Moves, ◌⟫◌, goes, stays, then-goes}
 use Rattle.es6_reading.proofs.Reading.{on-miss-is, group-is}
 
 pub data Exactly {A : Type 0} (x : A) (s : Input) (us : List Filled) : Outcome A → Type 0 where

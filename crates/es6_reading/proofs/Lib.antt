@@ -53,4 +53,5 @@ pub mod CompleteLevels
 pub mod CompleteClaims
 pub mod CompleteLists
 pub mod CompleteOperators
+pub mod CompletePrimary
 pub mod Examples
