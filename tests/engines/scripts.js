@@ -66,7 +66,7 @@ const outside = {
   6: (text, at, answer) => rest(text, at).startsWith('this') && (!!answer.tree || isEarly(answer.message)),
   7: (text, at, answer) => rest(text, at).startsWith('eval') && (!!answer.tree || isEarly(answer.message)),
 };
-// Texts that acorn takes and the profile doesn't, by what stands at the fault.
+// Texts that acorn takes and the profile doesn't, or of which it stops later, by what stands at the fault.
 const allowed = [
   // identifiers without escapes
   (text, at) => rest(text, at).startsWith('\\'),
@@ -74,6 +74,9 @@ const allowed = [
   (text, at) => /^function\b/.test(rest(text, at)),
   // a directive that an operator goes on with
   (text, at) => /^\s*("use strict"|'use strict')\s*$/.test(front(text, at).replace(/^\ufeff/, '')),
+  // the parameters of an accessor, which acorn counts only once it has read what follows them
+  (text, at) => /\bset\s+\S+\s*\(\s*$/.test(front(text, at)) && rest(text, at).startsWith(')'),
+  (text, at) => /\bget\s+\S+\s*\(\s*$/.test(front(text, at)) && !rest(text, at).startsWith(')'),
 ];
 
 // `<!--` and `-->` begin no comment in the profile, and one in acorn, which is shown them apart.

@@ -67,6 +67,7 @@ fn level(operator: Option<BinaryOperator5>) -> u8
 }
 
 /// Closes what binds tighter than the level. No operator above the level is next.
+#[inline(never)]
 fn settle(
     cursor: &Cursor,
     stack: &mut Items<Pending>,
@@ -92,6 +93,7 @@ fn settle(
 }
 
 /// What waited, with its last operand.
+#[inline(never)]
 fn close(cursor: &Cursor, waiting: Pending, value: Read) -> Result<Begun, AllocError>
     ensures { IfOk result (λ r. r ≡ record { begin = waiting.begin; value = closed waiting value cursor.now.last }) }
 {
@@ -109,6 +111,7 @@ fn close(cursor: &Cursor, waiting: Pending, value: Read) -> Result<Begun, AllocE
 }
 
 /// Takes the operator, which is next, and lets its left operand wait.
+#[inline(never)]
 fn wait(
     cursor: &mut Cursor,
     stack: &mut Items<Pending>,
@@ -149,6 +152,7 @@ fn first(alloc: Global, operand: Begun, operator: BinaryOperator5, level: u8) ->
 }
 
 /// What waits, with one operand more.
+#[inline(never)]
 fn more(waiting: Pending, value: Read, operator: BinaryOperator5) -> Result<Pending, AllocError>
     ensures same { IfOk result (λ r. r ≡ record waiting { rest = with_operand waiting.rest waiting.operator value; operator = operator; turns = waiting.turns - 1 }) }
     ensures left { IfOk result (λ r. 1 < waiting.turns) }

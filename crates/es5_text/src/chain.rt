@@ -17,6 +17,7 @@ use sqlite_items::Items;
 /// The arguments of `new`, which begins at the offset, if there are any.
 #[tactic(auto, using(crate::proofs::Rules::groups), unfolding(es5_reading::specs::Expressions::after_callee))]
 #[cycle(reader)]
+#[inline(never)]
 fn after_callee(cursor: &mut Cursor, room: u16, begin: u32, callee: Expr5) -> Result<Read, Halt>
     ensures { Reads (after_callee (inner room) begin callee cursor.old) result cursor.new }
 {
@@ -44,6 +45,7 @@ fn head(cursor: &mut Cursor, room: u16, begin: u32) -> Result<Read, Halt>
 
 /// What follows a point, which begins at the offset.
 #[tactic(auto, using(crate::proofs::Rules::groups), unfolding(es5_reading::specs::Expressions::member_link))]
+#[inline(never)]
 fn member_link(cursor: &mut Cursor, begin: u32) -> Result<Link5, Halt>
     ensures { Reads (member_link begin cursor.old) result cursor.new }
 {
@@ -55,6 +57,7 @@ fn member_link(cursor: &mut Cursor, begin: u32) -> Result<Link5, Halt>
 /// What follows a bracket, which begins at the offset.
 #[tactic(auto, using(crate::proofs::Rules::groups), unfolding(es5_reading::specs::Expressions::index_link))]
 #[cycle(reader)]
+#[inline(never)]
 fn index_link(cursor: &mut Cursor, room: u16, begin: u32) -> Result<Link5, Halt>
     ensures { Reads (index_link (inner room) begin cursor.old) result cursor.new }
 {
@@ -70,6 +73,7 @@ fn index_link(cursor: &mut Cursor, room: u16, begin: u32) -> Result<Link5, Halt>
 /// What follows a parenthesis, which begins at the offset.
 #[tactic(auto, using(crate::proofs::Rules::groups), unfolding(es5_reading::specs::Expressions::call_link))]
 #[cycle(reader)]
+#[inline(never)]
 fn call_link(cursor: &mut Cursor, room: u16, begin: u32) -> Result<Link5, Halt>
     ensures { Reads (call_link (inner room) begin cursor.old) result cursor.new }
 {
@@ -106,6 +110,7 @@ fn link(cursor: &mut Cursor, room: u16, calls: bool) -> Result<Option<Link5>, Ha
 
 #[tactic(auto, using(crate::proofs::Rules::lists, crate::proofs::Links::links_more, crate::proofs::Links::links_end, crate::proofs::Links::links_fault, crate::proofs::Links::links_stop))]
 #[cycle(reader)]
+#[inline(never)]
 fn links(cursor: &mut Cursor, room: u16, calls: bool) -> Result<Items<Link5>, Halt>
     ensures { Reads (links (inner room) calls (inner room).fuel cursor.old) result cursor.new }
 {

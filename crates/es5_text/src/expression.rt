@@ -30,6 +30,7 @@ fn postfix(cursor: &mut Cursor, room: u16) -> Result<Read, Halt>
 
 #[tactic(auto, using(crate::proofs::Rules::groups), unfolding(es5_reading::specs::Expressions::prefixed))]
 #[cycle(reader)]
+#[inline(never)]
 fn prefixed(
     cursor: &mut Cursor,
     room: u16,
@@ -45,6 +46,7 @@ fn prefixed(
 
 #[tactic(auto, using(crate::proofs::Rules::groups), unfolding(es5_reading::specs::Expressions::updated))]
 #[cycle(reader)]
+#[inline(never)]
 fn updated(
     cursor: &mut Cursor,
     room: u16,
@@ -77,6 +79,7 @@ pub fn unary(cursor: &mut Cursor, room: u16) -> Result<Read, Halt>
 /// What follows the `?` of a conditional expression, which begins at the offset.
 #[tactic(auto, using(crate::proofs::Rules::groups), unfolding(es5_reading::specs::Expressions::branches))]
 #[cycle(reader)]
+#[inline(never)]
 fn branches(
     cursor: &mut Cursor,
     room: u16,
@@ -111,6 +114,7 @@ fn conditional(cursor: &mut Cursor, room: u16, no_in: bool) -> Result<Read, Halt
 /// What follows an assignment operator, whose target begins at the offset.
 #[tactic(auto, using(crate::proofs::Rules::groups), unfolding(es5_reading::specs::Expressions::assigned))]
 #[cycle(reader)]
+#[inline(never)]
 fn assigned(
     cursor: &mut Cursor,
     room: u16,
@@ -163,6 +167,7 @@ fn parts(cursor: &mut Cursor, room: u16, no_in: bool) -> Result<Items<Expr5>, Ha
 /// What follows the first comma of an expression that begins at the offset.
 #[tactic(auto, using(crate::proofs::Rules::groups), unfolding(es5_reading::specs::Expressions::more_parts))]
 #[cycle(reader)]
+#[inline(never)]
 fn more_parts(
     cursor: &mut Cursor,
     room: u16,

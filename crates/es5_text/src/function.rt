@@ -45,6 +45,7 @@ fn body(cursor: &mut Cursor, room: u16) -> Result<Items<Stat5>, Halt>
 
 /// The parameters after the opening parenthesis, and the closing one.
 #[tactic(auto, using(crate::proofs::Rules::groups), unfolding(crate::specs::Readers::all_parameters))]
+#[inline(never)]
 fn parameters(cursor: &mut Cursor) -> Result<Items<Identifier5>, Halt>
     ensures { Reads (all_parameters cursor.old) result cursor.new }
 {
@@ -74,6 +75,7 @@ pub fn rest_of_function(
 /// What follows `function`, which begins at the offset, in an expression.
 #[tactic(auto, using(crate::proofs::Rules::groups), unfolding(es5_reading::specs::Expressions::function_expression))]
 #[cycle(reader)]
+#[inline(never)]
 pub fn function_expression(cursor: &mut Cursor, room: u16, begin: u32) -> Result<Function5, Halt>
     ensures { Reads (function_expression (inner room) begin cursor.old) result cursor.new }
 {
@@ -111,6 +113,7 @@ fn accessor_function(cursor: &mut Cursor, room: u16, setter: bool) -> Result<Fun
 /// What follows `get` or `set`, which begins at the offset.
 #[tactic(auto, using(crate::proofs::Rules::groups), unfolding(es5_reading::specs::Expressions::accessor))]
 #[cycle(reader)]
+#[inline(never)]
 pub fn accessor(cursor: &mut Cursor, room: u16, begin: u32, setter: bool) -> Result<Property5, Halt>
     ensures { Reads (accessor (inner room) begin setter cursor.old) result cursor.new }
 {

@@ -1,4 +1,5 @@
-//! The readers of what stands one construct deeper.
+//! The readers of what stands one construct deeper. A nested construct takes the stack frames of the readers between it and the
+//! one inside, so rarer readers are kept out of these frames by `inline(never)`.
 
 ghost use Rattle.es5_reading.specs.Expressions.{callee_at_limit, expression_at_limit};
 ghost use Rattle.es5_cursor.specs.Reads.{Reads};

@@ -14,6 +14,7 @@ use sqlite_items::Items;
 /// The properties after the opening brace, and the closing brace.
 #[tactic(auto, using(crate::proofs::Rules::lists, crate::proofs::ListTurns::properties_turn, crate::proofs::ListTurns::properties_more, crate::proofs::ListTurns::properties_end), unfolding(es5_reading::specs::Expressions::properties))]
 #[cycle(reader)]
+#[inline(never)]
 pub fn properties(cursor: &mut Cursor, room: u16) -> Result<Items<Property5>, Halt>
     ensures { Reads (properties (inner room) (inner room).fuel cursor.old) result cursor.new }
 {
@@ -34,6 +35,7 @@ pub fn properties(cursor: &mut Cursor, room: u16) -> Result<Items<Property5>, Ha
 /// The elements after the opening bracket, and the closing bracket.
 #[tactic(auto, using(crate::proofs::Rules::lists, crate::proofs::ListTurns::elements_turn, crate::proofs::ListTurns::elements_more, crate::proofs::ListTurns::elements_hole, crate::proofs::ListTurns::elements_end), unfolding(es5_reading::specs::Expressions::elements))]
 #[cycle(reader)]
+#[inline(never)]
 pub fn elements(cursor: &mut Cursor, room: u16) -> Result<Items<Element5>, Halt>
     ensures { Reads (elements (inner room) (inner room).fuel cursor.old) result cursor.new }
 {

@@ -49,6 +49,7 @@ fn plain_property(cursor: &mut Cursor, room: u16, begin: u32) -> Result<Property
 /// The property that begins with `get` or `set` at the offset: a name of its own before a colon, else an accessor's word.
 #[tactic(auto, using(crate::proofs::Rules::groups), unfolding(es5_reading::specs::Expressions::after_accessor_word))]
 #[cycle(reader)]
+#[inline(never)]
 fn after_accessor_word(
     cursor: &mut Cursor,
     room: u16,

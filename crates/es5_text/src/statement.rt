@@ -26,6 +26,7 @@ use sqlite_items::Boxed;
 /// What follows the word `function` in a declaration (13).
 #[tactic(auto, unfolding(es5_reading::specs::Statements::declaration))]
 #[cycle(reader)]
+#[inline(never)]
 fn declaration(cursor: &mut Cursor, room: u16, begin: u32) -> Result<Stat5, Halt>
     ensures { Reads (declaration (inner room) begin cursor.old) result cursor.new }
 {
@@ -36,6 +37,7 @@ fn declaration(cursor: &mut Cursor, room: u16, begin: u32) -> Result<Stat5, Halt
 
 /// The end of an expression as a statement (12.4).
 #[tactic(auto, using(crate::proofs::Endings::semicolon_is), unfolding(es5_reading::specs::Statements::expression_end))]
+#[inline(never)]
 fn expression_end(
     cursor: &mut Cursor,
     room: u16,
@@ -52,6 +54,7 @@ fn expression_end(
 /// The statement behind a label and its colon (12.12).
 #[tactic(auto, unfolding(es5_reading::specs::Statements::labelled))]
 #[cycle(reader)]
+#[inline(never)]
 fn labelled(
     cursor: &mut Cursor,
     room: u16,
@@ -129,6 +132,7 @@ fn plain_statement(
 
 #[tactic(auto, using(crate::proofs::Rules::groups), unfolding(es5_reading::specs::Statements::jump_statement))]
 #[cycle(reader)]
+#[inline(never)]
 fn jump_statement(
     cursor: &mut Cursor,
     room: u16,
@@ -161,6 +165,7 @@ fn jump_statement(
 
 #[tactic(auto, using(crate::proofs::Rules::groups), unfolding(es5_reading::specs::Statements::compound_statement))]
 #[cycle(reader)]
+#[inline(never)]
 fn compound_statement(
     cursor: &mut Cursor,
     room: u16,
