@@ -94,6 +94,7 @@ fn cases(cursor: &mut Cursor, room: u16, inside: bool) -> Result<Items<Case5>, H
 /// What follows the word `switch`.
 #[tactic(auto, using(crate::proofs::Rules::groups), unfolding(es5_reading::specs::Statements::switch_statement))]
 #[cycle(reader)]
+#[inline(never)]
 pub fn switch_statement(
     cursor: &mut Cursor,
     room: u16,

@@ -32,6 +32,7 @@ pub fn block(cursor: &mut Cursor, room: u16, inside: bool) -> Result<Block5, Hal
 
 #[tactic(auto, unfolding(es5_reading::specs::Statements::block_statement))]
 #[cycle(reader)]
+#[inline(never)]
 pub fn block_statement(cursor: &mut Cursor, room: u16, inside: bool) -> Result<Stat5, Halt>
     ensures { Reads (block_statement (inner room) inside cursor.old) result cursor.new }
 {
@@ -108,6 +109,7 @@ fn otherwise(cursor: &mut Cursor, room: u16, inside: bool) -> Result<Alternative
 
 #[tactic(auto, unfolding(es5_reading::specs::Statements::if_statement))]
 #[cycle(reader)]
+#[inline(never)]
 pub fn if_statement(cursor: &mut Cursor, room: u16, inside: bool, begin: u32) -> Result<Stat5, Halt>
     ensures { Reads (if_statement (inner room) inside begin cursor.old) result cursor.new }
 {

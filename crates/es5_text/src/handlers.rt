@@ -94,6 +94,7 @@ fn only_finally(
 /// What follows the word `try`.
 #[tactic(auto, using(crate::proofs::Rules::groups), unfolding(es5_reading::specs::Statements::try_statement))]
 #[cycle(reader)]
+#[inline(never)]
 pub fn try_statement(
     cursor: &mut Cursor,
     room: u16,

@@ -20,6 +20,7 @@ use sqlite_items::Items;
 /// What follows the word `do` (12.6.1).
 #[tactic(auto, using(crate::proofs::Rules::groups, crate::proofs::Endings::semicolon_is), unfolding(es5_reading::specs::Statements::do_statement))]
 #[cycle(reader)]
+#[inline(never)]
 pub fn do_statement(cursor: &mut Cursor, room: u16, inside: bool, begin: u32) -> Result<Stat5, Halt>
     ensures { Reads (do_statement (inner room) inside begin cursor.old) result cursor.new }
 {
@@ -37,6 +38,7 @@ pub fn do_statement(cursor: &mut Cursor, room: u16, inside: bool, begin: u32) ->
 /// What follows the word `while` (12.6.2).
 #[tactic(auto, unfolding(es5_reading::specs::Statements::while_statement))]
 #[cycle(reader)]
+#[inline(never)]
 pub fn while_statement(
     cursor: &mut Cursor,
     room: u16,
@@ -154,6 +156,7 @@ fn for_header(cursor: &mut Cursor, room: u16) -> Result<Header, Halt>
 /// What follows the word `for` (12.6.3).
 #[tactic(auto, using(crate::proofs::Rules::groups), unfolding(es5_reading::specs::Statements::for_statement))]
 #[cycle(reader)]
+#[inline(never)]
 pub fn for_statement(
     cursor: &mut Cursor,
     room: u16,

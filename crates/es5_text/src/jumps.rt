@@ -12,6 +12,7 @@ use es5_cursor::{Cursor, Halt, Stop};
 
 /// What follows the word `continue` (12.7).
 #[tactic(auto, using(crate::proofs::Endings::semicolon_is), unfolding(es5_reading::specs::Statements::continue_statement))]
+#[inline(never)]
 pub fn continue_statement(cursor: &mut Cursor, room: u16, begin: u32) -> Result<Stat5, Halt>
     ensures { Reads (continue_statement (inner room) begin cursor.old) result cursor.new }
 {
@@ -23,6 +24,7 @@ pub fn continue_statement(cursor: &mut Cursor, room: u16, begin: u32) -> Result<
 
 /// What follows the word `break` (12.8).
 #[tactic(auto, using(crate::proofs::Endings::semicolon_is), unfolding(es5_reading::specs::Statements::break_statement))]
+#[inline(never)]
 pub fn break_statement(cursor: &mut Cursor, room: u16, begin: u32) -> Result<Stat5, Halt>
     ensures { Reads (break_statement (inner room) begin cursor.old) result cursor.new }
 {
@@ -48,6 +50,7 @@ fn returned(cursor: &mut Cursor, room: u16) -> Result<Option<Expr5>, Halt>
 /// What follows the word `return` (12.9).
 #[tactic(auto, using(crate::proofs::Endings::semicolon_is), unfolding(es5_reading::specs::Statements::return_statement))]
 #[cycle(reader)]
+#[inline(never)]
 pub fn return_statement(cursor: &mut Cursor, room: u16, begin: u32) -> Result<Stat5, Halt>
     ensures { Reads (return_statement (inner room) begin cursor.old) result cursor.new }
 {
@@ -60,6 +63,7 @@ pub fn return_statement(cursor: &mut Cursor, room: u16, begin: u32) -> Result<St
 /// What follows the word `throw`, on its line (12.13).
 #[tactic(auto, using(crate::proofs::Rules::groups, crate::proofs::Endings::semicolon_is), unfolding(es5_reading::specs::Statements::throw_statement))]
 #[cycle(reader)]
+#[inline(never)]
 pub fn throw_statement(cursor: &mut Cursor, room: u16, begin: u32) -> Result<Stat5, Halt>
     ensures { Reads (throw_statement (inner room) begin cursor.old) result cursor.new }
 {
@@ -74,6 +78,7 @@ pub fn throw_statement(cursor: &mut Cursor, room: u16, begin: u32) -> Result<Sta
 
 /// What follows the word `debugger` (12.15).
 #[tactic(auto, using(crate::proofs::Endings::semicolon_is), unfolding(es5_reading::specs::Statements::debugger_statement))]
+#[inline(never)]
 pub fn debugger_statement(cursor: &mut Cursor, room: u16, begin: u32) -> Result<Stat5, Halt>
     ensures { Reads (debugger_statement (inner room) begin cursor.old) result cursor.new }
 {

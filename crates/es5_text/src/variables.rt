@@ -87,6 +87,7 @@ pub fn more_declarations(cursor: &mut Cursor, room: u16) -> Result<Items<Declare
 /// What follows the word `var`.
 #[tactic(auto, using(crate::proofs::Endings::semicolon_is), unfolding(es5_reading::specs::Statements::var_statement))]
 #[cycle(reader)]
+#[inline(never)]
 pub fn var_statement(cursor: &mut Cursor, room: u16, begin: u32) -> Result<Stat5, Halt>
     ensures { Reads (var_statement (inner room) begin cursor.old) result cursor.new }
 {
