@@ -54,4 +54,5 @@ pub mod CompleteClaims
 pub mod CompleteLists
 pub mod CompleteOperators
 pub mod CompletePrimary
+pub mod CompleteChains
 pub mod Examples
