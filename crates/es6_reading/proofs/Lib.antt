@@ -55,4 +55,5 @@ pub mod CompleteLists
 pub mod CompleteOperators
 pub mod CompletePrimary
 pub mod CompleteChains
+pub mod CompleteAssignments
 pub mod Examples
