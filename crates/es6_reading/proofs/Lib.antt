@@ -56,4 +56,5 @@ pub mod CompleteOperators
 pub mod CompletePrimary
 pub mod CompleteChains
 pub mod CompleteAssignments
+pub mod CompleteGroups
 pub mod Examples
