@@ -57,4 +57,5 @@ pub mod CompletePrimary
 pub mod CompleteChains
 pub mod CompleteAssignments
 pub mod CompleteGroups
+pub mod CompleteObjects
 pub mod Examples
