@@ -39,7 +39,7 @@ pub data PropertyEnd : List Filled → Type 0 where
   comma_end : {t : Filled} {ts : List Filled} → IsMark marks.Comma t → PropertyEnd (t ∷ ts)
   brace_end : {t : Filled} {ts : List Filled} → IsMark marks.RightBrace t → PropertyEnd (t ∷ ts)
 
-property-ends : (f : Flags) {us : List Filled} → PropertyEnd us → Ends f us
+pub property-ends : (f : Flags) {us : List Filled} → PropertyEnd us → Ends f us
 property-ends f (comma_end {t = t} {ts = ts} h) = ends-comma f ts t h
 property-ends f (brace_end {t = t} {ts = ts} h) = record { closes = closes-up f 0 1 (t ∷ ts) (omega arith) (closes-brace f ts t h); yields = ends-yield 1 t ts (brace-ends-yield t h) }
 
@@ -65,10 +65,10 @@ either-taken {B = B} {x = x} {s = s} {us = us} test p q t ts last f g = by (test
     by (Some b) e = f b e
     by None e = g e
 
-accessor-is : (word : List ℕ) (setter : Bool) (t : Filled) → IsWord word t → accessor_at t ≡ Some setter → word ≡ accessor_name setter
+pub accessor-is : (word : List ℕ) (setter : Bool) (t : Filled) → IsWord word t → accessor_at t ≡ Some setter → word ≡ accessor_name setter
 accessor-is word setter t w e = some_same (sym (ap any_name_in w) ∙ ap any_name_in (accessor-means setter t e))
 
-name-exact : {x : Property} {s : Input} {us : List Filled} (i : Inner) (f : Flags) (t : Filled) (ts : List Filled) (word : List ℕ) (last : ℕ) → IsWord word t → is_identifier word ≡ true → next_is ends_name ts ≡ true
+pub name-exact : {x : Property} {s : Input} {us : List Filled} (i : Inner) (f : Flags) (t : Filled) (ts : List Filled) (word : List ℕ) (last : ℕ) → IsWord word t → is_identifier word ≡ true → next_is ends_name ts ≡ true
     → Exactly x s us (after_name i f t.span.begin (record { span = t.span; name = word }) (record { tokens = ts; last = t.span.end })) → Exactly x s us (one_property i f (record { tokens = t ∷ ts; last = last }))
 unfolding one_property after_accessor_word
 name-exact {x = x} {s = s} {us = us} i f t ts word last w h n y = miss (mark marks.Star) _ _ (t ∷ ts) last (word-no-mark marks.Star word t w) (either-taken accessor_at _ _ t ts last

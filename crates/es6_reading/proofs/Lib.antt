@@ -58,4 +58,5 @@ pub mod CompleteChains
 pub mod CompleteAssignments
 pub mod CompleteGroups
 pub mod CompleteObjects
+pub mod CompleteKeys
 pub mod Examples
