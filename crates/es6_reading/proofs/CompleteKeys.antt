@@ -103,3 +103,42 @@ plain-claim f {c = c} {us = us} {vs = vs} {k = k} {value = value} {q = q} d p v 
   reads = λ h. let x = property-ends (with_in f) h in both (key-then f d (at-kind (λ u. goes_on u ≡ true) c _ p refl) (at-kind (λ u. ends_name u ≡ true) c _ p refl)) (v.levels 1 assignment_level (omega arith) x.closes x.yields) (λ n k' r a z last.
       a q vs last (λ end mv. hit (mark marks.Colon) _ _ c c us end (mark-hit marks.Colon c p) (and_then _ (later (mv ⟫ one) (z c.span.end)) (λ end' mv'. done (ap (λ s. property.Plain s k value) (span-across mv') ∙ sym e) mv'))));
 }
+
+-- ## Methods
+
+-- parameters in parentheses and a body in braces, which are read
+pub record SignatureClaim (generator : Bool) (ts us : List Filled) (parameters : List Parameter) (body : List Statement) : Type 0 where
+  pub open_ : Filled
+  pub tokens : List Filled
+  pub first : ts ≡ open_ ∷ tokens
+  pub parenthesis : IsMark marks.LeftParenthesis open_
+  pub reads : Eventually (λ t k r. ReadsExactly (signature (R k r) generator) (record { parameters = parameters; body = body }) ts us)
+
+-- what follows a method's key
+pub method-tail : (i : Inner) (kind : MethodKind) (generator : Bool) (k : Key) {ts us vs : List Filled} {parameters : List Parameter} {body : List Statement} {m : Method} (last end : ℕ) → Moves (record { tokens = ts; last = last }) (record { tokens = us; last = end })
+    → ReadsExactly (signature i generator) (record { parameters = parameters; body = body }) us vs → m ≡ method_of (across ts vs) kind k (across us vs) parameters body → Exactly m (record { tokens = ts; last = last }) vs (method_after_key i kind generator (begin_of ts) k (record { tokens = us; last = end }))
+unfolding method_after_key
+method-tail i kind generator k {ts = ts} {us = us} {vs = vs} {parameters = parameters} {body = body} last end mv y e = later mv (and_then _ (y end) (λ end' mv'.
+    done (ap (λ s. method_of s kind k (record { begin = begin_of us; end = end' }) parameters body) (span-across (mv ⟫ mv')) ∙ ap (λ s. method_of (across ts vs) kind k s parameters body) (span-across mv') ∙ sym e) mv'))
+
+opens-signature : {generator : Bool} {us vs : List Filled} {parameters : List Parameter} {body : List Statement} → SignatureClaim generator us vs parameters body → (Misses (mark marks.Colon) us) × (next_is goes_on us ≡ true) × (next_is ends_name us ≡ true)
+opens-signature s = (
+  subst (λ z. Misses (mark marks.Colon) z) (sym s.first) (mark-no-mark marks.Colon marks.LeftParenthesis s.open_ s.parenthesis refl),
+  subst (λ z. next_is goes_on z ≡ true) (sym s.first) (at-kind (λ u. goes_on u ≡ true) s.open_ _ s.parenthesis refl),
+  subst (λ z. next_is ends_name z ≡ true) (sym s.first) (at-kind (λ u. ends_name u ≡ true) s.open_ _ s.parenthesis refl),
+)
+
+pub method-claim : (f : Flags) {ts us vs : List Filled} {k : Key} {parameters : List Parameter} {body : List Statement} {m : Method} {q : Property} → KeyClaim f ts k us → SignatureClaim false us vs parameters body → m ≡ method_of (across ts vs) PlainMethod k (across us vs) parameters body → q ≡ property.Defined m → PropertyClaim f ts vs q
+unfolding after_key method_of_key
+method-claim f {us = us} {vs = vs} {k = k} {q = q} d s e e' = record {
+  no_brace = (key-no-mark d).0;
+  reads = λ h. let o = opens-signature s in both (key-then f d o.1 o.2) s.reads (λ n k' r a z last. a q vs last (λ end mv. miss (mark marks.Colon) _ _ us end o.0
+      (and_then _ (method-tail (R k' r) PlainMethod false k last end mv z e) (λ end' mv'. done (sym e') mv'))));
+}
+
+pub generator-claim : (f : Flags) {c : Filled} {ts us vs : List Filled} {k : Key} {parameters : List Parameter} {body : List Statement} {m : Method} {q : Property} → IsMark marks.Star c → KeyClaim f ts k us → SignatureClaim true us vs parameters body → m ≡ method_of (across (c ∷ ts) vs) GeneratorMethod k (across us vs) parameters body → q ≡ property.Defined m → PropertyClaim f (c ∷ ts) vs q
+unfolding one_property generator_method
+generator-claim f {c = c} {ts = ts} {k = k} p d s e e' = record {
+  no_brace = mark-no-mark marks.RightBrace marks.Star c p refl;
+  reads = λ h. both (key-exact d) s.reads (λ n k' r a z last. hit (mark marks.Star) _ _ c c ts last (mark-hit marks.Star c p) (and_then _ (and_then _ (later one (a c.span.end)) (λ end mv. method-tail (R k' r) GeneratorMethod true k last end mv z e)) (λ end' mv'. done (sym e') mv')));
+}
