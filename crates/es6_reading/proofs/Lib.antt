@@ -60,3 +60,10 @@ pub mod CompleteGroups
 pub mod CompleteObjects
 pub mod CompleteKeys
 pub mod Examples
+pub mod CompleteStatements
+pub mod CompleteLoops
+pub mod CompletePlain
+pub mod CompleteDeclarations
+pub mod CompleteSwitches
+pub mod CompleteFor
+pub mod CompleteItems
