@@ -67,3 +67,5 @@ pub mod CompleteDeclarations
 pub mod CompleteSwitches
 pub mod CompleteFor
 pub mod CompleteItems
+pub mod CompleteBindings
+pub mod CompleteParameters
