@@ -37,7 +37,7 @@ no-two : 2 ≤ 1 → ⊥
 no-two l = omega arith
 
 -- what holds for turns enough
-enough-turns : {P : ℕ → Type 0} (enough : ℕ) → ((n : ℕ) → enough ≤ n → P n) → Eventually (λ t k r. P (R k r).fuel)
+pub enough-turns : {P : ℕ → Type 0} (enough : ℕ) → ((n : ℕ) → enough ≤ n → P n) → Eventually (λ t k r. P (R k r).fuel)
 enough-turns enough h = record { bound = enough; reads = λ t k r a b c. h (R k r).fuel (subst (λ n. enough ≤ n) (sym (readers-fuel k r)) b) }
 
 -- ## Assignments

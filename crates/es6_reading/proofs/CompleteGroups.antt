@@ -129,7 +129,7 @@ held-next f {c = c} {us = us} d p rest = record {
 
 -- ## Groups
 
-paren-head : (i : Inner) (f : Flags) (role : Role) (t : Filled) (ts : List Filled) (last : ℕ) → IsMark marks.LeftParenthesis t
+pub paren-head : (i : Inner) (f : Flags) (role : Role) (t : Filled) (ts : List Filled) (last : ℕ) → IsMark marks.LeftParenthesis t
     → head i f role t.span.begin (record { tokens = t ∷ ts; last = last }) ≡ on_group i marks.LeftParenthesis (grouped i f role t.span.begin) (bracketed i f role t.span.begin) (record { tokens = t ∷ ts; last = last })
 unfolding head primary composed
 paren-head i f role t ts last p = at-kind (λ u. head i f role u.span.begin (record { tokens = u ∷ ts; last = last }) ≡ on_group i marks.LeftParenthesis (grouped i f role u.span.begin) (bracketed i f role u.span.begin) (record { tokens = u ∷ ts; last = last })) t _ p refl

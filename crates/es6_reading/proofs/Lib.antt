@@ -69,3 +69,4 @@ pub mod CompleteFor
 pub mod CompleteItems
 pub mod CompleteBindings
 pub mod CompleteParameters
+pub mod CompleteCovers
