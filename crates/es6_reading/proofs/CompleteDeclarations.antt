@@ -43,7 +43,7 @@ is-free : (name : List ℕ) (t : Filled) → IsWord name t → is_identifier nam
 is-free name t w i = at-kind (λ u. free_name u ≡ Some name) t _ w (ap (λ b. name_if b name) i)
 
 -- a name is read as one that nothing stands round
-bare-head : (f : Flags) (role : Role) {ts us : List Filled} {n : Identifier} → IsName ts n us → HeadReads f role (reading (expr.Name n.span n.name) Bare) ts us
+pub bare-head : (f : Flags) (role : Role) {ts us : List Filled} {n : Identifier} → IsName ts n us → HeadReads f role (reading (expr.Name n.span n.name) Bare) ts us
 unfolding head primary reserved_words
 bare-head f role (g.name {t = t} {ts = ts} name w i j) = always (λ n k r last.
     miss (word (codes "new")) _ _ (t ∷ ts) last (other (codes "new") refl) (miss (word (codes "super")) _ _ (t ∷ ts) last (other (codes "super") refl) (miss (word (codes "this")) _ _ (t ∷ ts) last (other (codes "this") refl)
@@ -52,7 +52,7 @@ bare-head f role (g.name {t = t} {ts = ts} name w i j) = always (λ n k r last.
     other : (v : List ℕ) → is_some (free_name (record { kind = Read (kinds.Word v); span = t.span; newline = t.newline })) ≡ false → word v t ≡ None
     other v h = word-miss v t (no-word (λ u. is_some (free_name u)) v t (ap (λ o. is_some o) (is-free name t w i)) h)
 
-name-operand : {ts us : List Filled} {n : Identifier} → IsName ts n us → next_is begins_operand ts ≡ true
+pub name-operand : {ts us : List Filled} {n : Identifier} → IsName ts n us → next_is begins_operand ts ≡ true
 name-operand (g.name {t = t} name w i j) = name-begins name t w i
 
 stops-for : (role : Role) {us : List Filled} → Stops true us → Stops (has_calls role) us

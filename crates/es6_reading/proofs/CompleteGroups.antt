@@ -26,7 +26,7 @@ use Rattle.es6_reading.proofs.Reading.{Eventually, then_, both, pair, turn, begi
 use Rattle.es6_reading.proofs.Exactly.{Exactly, exactly, ReadsExactly, equal, done, and_then, later, hit, miss, take, either-choice, group-in, mark-hit, if-is}
 use Rattle.es6_reading.proofs.CompleteTokens.{at-kind, no-mark, template-begins, function-begins, class-begins, parenthesis-begins, Closes, closes-up, closes-close, closes-comma, EndsYield, ends-yield, close-ends-yield, comma-ends-yield}
 use Rattle.es6_reading.proofs.CompleteImports.{R, readers-fuel, opened, mark-no-mark}
-use Rattle.es6_reading.proofs.CompleteLevels.{reading}
+use Rattle.es6_reading.proofs.CompleteLevels.{HeadReads, reading}
 use Rattle.es6_reading.proofs.CompleteClaims.{Claim, claim-primary, begins-no-close, begins-no-ellipsis, open-assignment}
 use Rattle.es6_reading.proofs.CompleteLists.{TemplateClaim, whole_claim, parted_claim, template-reads}
 use Rattle.es6_reading.proofs.CompleteAssignments.{ParametersClaim}
@@ -142,15 +142,18 @@ inside-reads i f role {o = o} {c = c} {ts = ts} {us = us} {first = first} {more 
     (done (ap (λ z. reading z Grouped) (ap (λ s. expr.Group s (sequenced first more (record { begin = begin_of ts; end = end }))) (span-across ((one {t = o} {ts = ts} {last = last} ⟫ mv) ⟫ one))
     ∙ ap (λ s. expr.Group (across (o ∷ ts) us) (sequenced first more s)) (span-across mv) ∙ ap (λ z. expr.Group (across (o ∷ ts) us) z) (sym h) ∙ sym e)) ((one {t = o} {ts = ts} {last = last} ⟫ mv) ⟫ one)))
 
-pub group-claim : (f : Flags) {o c : Filled} {ts us : List Filled} {first held x : Expression} {more : List Expression} → IsMark marks.LeftParenthesis o → HeldClaim f ts (c ∷ us) first more → IsMark marks.RightParenthesis c → held ≡ sequenced first more (across ts (c ∷ us)) → x ≡ expr.Group (across (o ∷ ts) us) held → Claim f 19 (o ∷ ts) us x
+pub group-heads : (f : Flags) {o c : Filled} {ts us : List Filled} {first held x : Expression} {more : List Expression} → IsMark marks.LeftParenthesis o → HeldClaim f ts (c ∷ us) first more → IsMark marks.RightParenthesis c → held ≡ sequenced first more (across ts (c ∷ us)) → x ≡ expr.Group (across (o ∷ ts) us) held → (role : Role) → HeadReads f role (reading x Grouped) (o ∷ ts) us
 unfolding grouped
-group-claim f {o = o} {c = c} {ts = ts} {us = us} {first = first} {x = x} {more = more} p d q h e = claim-primary f (o ∷ ts) us x Grouped refl (parenthesis-begins o p) (λ role. both opened (begin (d.reads role) (λ n k r y. at-turns role k r y)) (λ n k r m y last.
+group-heads f {o = o} {c = c} {ts = ts} {us = us} {first = first} {x = x} {more = more} p d q h e role = both opened (begin (d.reads role) (λ n k r y. at-turns k r y)) (λ n k r m y last.
     equal (paren-head (R k r) f role o ts last p) (group-in (R k r) marks.LeftParenthesis _ _ o ts last (is-mark-true marks.LeftParenthesis o p) m (either-choice (is_leading role) _ _ _
     (λ l. miss (mark marks.RightParenthesis) _ _ ts o.span.end (begins-no-close (with_in f) ts d.begins) (miss (mark marks.Ellipsis) _ _ ts o.span.end (begins-no-ellipsis (with_in f) ts d.begins) (inside-reads (R k r) f role last y q h e)))
-    (λ l. inside-reads (R k r) f role last y q h e)))))
+    (λ l. inside-reads (R k r) f role last y q h e))))
   where
-    at-turns : (role : Role) (k r : ℕ) → HeldReads f role ts first more (c ∷ us) k k r → (last : ℕ) → HeldOf first more (record { tokens = ts; last = last }) (c ∷ us) (held_parts (R k r) f role (R k r).fuel (record { tokens = ts; last = last }))
-    at-turns role k r y = subst (λ n. (last : ℕ) → HeldOf first more (record { tokens = ts; last = last }) (c ∷ us) (held_parts (R k r) f role n (record { tokens = ts; last = last }))) (sym (readers-fuel k r)) y
+    at-turns : (k r : ℕ) → HeldReads f role ts first more (c ∷ us) k k r → (last : ℕ) → HeldOf first more (record { tokens = ts; last = last }) (c ∷ us) (held_parts (R k r) f role (R k r).fuel (record { tokens = ts; last = last }))
+    at-turns k r y = subst (λ n. (last : ℕ) → HeldOf first more (record { tokens = ts; last = last }) (c ∷ us) (held_parts (R k r) f role n (record { tokens = ts; last = last }))) (sym (readers-fuel k r)) y
+
+pub group-claim : (f : Flags) {o c : Filled} {ts us : List Filled} {first held x : Expression} {more : List Expression} → IsMark marks.LeftParenthesis o → HeldClaim f ts (c ∷ us) first more → IsMark marks.RightParenthesis c → held ≡ sequenced first more (across ts (c ∷ us)) → x ≡ expr.Group (across (o ∷ ts) us) held → Claim f 19 (o ∷ ts) us x
+group-claim f {o = o} {ts = ts} {us = us} {x = x} p d q h e = claim-primary f (o ∷ ts) us x Grouped refl (parenthesis-begins o p) (group-heads f p d q h e)
 
 -- ## What stands before an arrow
 

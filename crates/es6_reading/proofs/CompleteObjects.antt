@@ -99,7 +99,7 @@ initialized-claim f {m = m} {us = us} {vs = vs} {value = value} (g.name {t = t} 
 
 -- ## Object literals
 
-abbrev PropertiesRead : Flags → List Filled → List Property → List Filled → Type 0
+abbrev pub PropertiesRead : Flags → List Filled → List Property → List Filled → Type 0
 PropertiesRead f ts qs us = Eventually (λ t k r. ReadsExactly (properties (R k r) f t) qs ts us)
 
 open-property : {f : Flags} {ts us : List Filled} {q : Property} → PropertyClaim f ts us q → PropertyEnd us → Eventually (λ t k r. ReadsExactly ((R k r).property f) q ts us)

@@ -49,7 +49,7 @@ itself y false e h n s =
     settled-as : {r q : Refined Pattern} → r ≡ q → Settled r → Settled q
     settled-as e s = rw (sym e) s
 
-itself-sure : {f : Flags} {ts us : List Filled} {y : Expression} → IsExpression f level_left_hand_side ts y us → is_pattern y ≡ false → Sure (λ n. else_itself y (refine false n y)) (pattern.Target y)
+pub itself-sure : {f : Flags} {ts us : List Filled} {y : Expression} → IsExpression f level_left_hand_side ts y us → is_pattern y ≡ false → Sure (λ n. else_itself y (refine false n y)) (pattern.Target y)
 itself-sure {y = y} d h = let s = target-settles d in record { enough = suc s.enough; refined = at s }
   where
     none : (k : ℕ) → suc k ≤ zero → ⊥
@@ -62,7 +62,7 @@ itself-sure {y = y} d h = let s = target-settles d in record { enough = suc s.en
     at s zero l = absurd (none s.enough l)
     at s (suc n) l = itself y (as_target y).literal refl h n (s.settled (suc n) (less s.enough n l))
 
-updated : (operator : AssignOperator) (n : ℕ) (y : Expression) → is_plain operator ≡ false → target_before n operator y ≡ Fits (pattern.Target y)
+pub updated : (operator : AssignOperator) (n : ℕ) (y : Expression) → is_plain operator ≡ false → target_before n operator y ≡ Fits (pattern.Target y)
 unfolding target_before
 updated assign.Assign n y h = absurd (true≢false h)
 updated operator n y h = refl

@@ -81,7 +81,7 @@ record PropertyFrom (b : Bool) (f : Flags) (ts us : List Filled) (e : ObjectPart
 
 -- ## Targets by themselves
 
-name-is-bound : (n : Identifier) → bound (expr.Name n.span n.name) ≡ Fits tt
+pub name-is-bound : (n : Identifier) → bound (expr.Name n.span n.name) ≡ Fits tt
 name-is-bound n = rw (bound, is_name, expr.outs-Name) refl
 
 name-from : {f : Flags} {ts us : List Filled} {n : Identifier} {p : Pattern} → IsName ts n us → p ≡ pattern.Target (expr.Name n.span n.name) → TargetFrom true f ts us p
@@ -94,7 +94,7 @@ name-from {n = n} d e = record {
   sure = sure-next (λ m. rw (e, expr.outs-Name) (map-refined (λ u. pattern.Target (expr.Name n.span n.name)) (name-is-bound n) refl));
 }
 
-simple-refined : {f : Flags} {ts us : List Filled} {p : Pattern} {y : Expression} → IsExpression f level_left_hand_side ts y us → is_simple y ≡ true → p ≡ pattern.Target y → Sure (λ n. refine false n y) p
+pub simple-refined : {f : Flags} {ts us : List Filled} {p : Pattern} {y : Expression} → IsExpression f level_left_hand_side ts y us → is_simple y ≡ true → p ≡ pattern.Target y → Sure (λ n. refine false n y) p
 simple-refined {y = y} d s e = sure-within (simple-sure d s) (λ n k. target-alone false n _ _ y (out-Expression y) (simple-is-alone y s) ∙ map-refined (λ u. pattern.Target y) k e)
 
 simple-from : {f : Flags} {ts us : List Filled} {p : Pattern} {y : Expression} → IsExpression f level_left_hand_side ts y us → is_simple y ≡ true → p ≡ pattern.Target y → TargetFrom false f ts us p
@@ -129,7 +129,7 @@ object-from {t = t} {ts = ts} {us = us} h xs e = record {
 
 -- ## Parts
 
-no-pattern : (y : Expression) → is_simple y ≡ true → is_pattern y ≡ false
+pub no-pattern : (y : Expression) → is_simple y ≡ true → is_pattern y ≡ false
 no-pattern y s = ap (λ l. l && is_none (misfit y)) (simple-is-no-literal y s)
 
 pub assigned-target : {f : Flags} {ts us : List Filled} {p : Pattern} → IsTarget f false ts p us → IsAssigned f assign.Assign ts p us
@@ -141,7 +141,7 @@ free true d = free-target d
 free false d = d
 
 -- before a default the target stays what it is
-default-sure : (b : Bool) {f : Flags} {ts us : List Filled} {p : Pattern} → IsTarget f b ts p us → Sure (λ n. target_of_default b n (refine b n) p (out-Pattern p)) p
+pub default-sure : (b : Bool) {f : Flags} {ts us : List Filled} {p : Pattern} → IsTarget f b ts p us → Sure (λ n. target_of_default b n (refine b n) p (out-Pattern p)) p
 default-sure true {p = p} d = sure-then (names-bound d) (λ n k. map-refined (λ u. p) k refl)
 default-sure false (g.simple_target y x d s e) = sure-then (simple-refined d s e) (λ n k. rw (e, pattern.outs-Target) (k ∙ ap Fits e))
 default-sure false (g.nested_pattern x (g.array_pattern parts x' h d e)) = sure-now (λ n. rw (e, pattern.outs-ArrayPattern) refl)

@@ -69,4 +69,5 @@ pub mod CompleteFor
 pub mod CompleteItems
 pub mod CompleteBindings
 pub mod CompleteParameters
+pub mod CompletePatterns
 pub mod CompleteCovers
