@@ -70,4 +70,5 @@ pub mod CompleteItems
 pub mod CompleteBindings
 pub mod CompleteParameters
 pub mod CompletePatterns
+pub mod CompleteArrows
 pub mod CompleteCovers
