@@ -72,3 +72,5 @@ pub mod CompleteParameters
 pub mod CompletePatterns
 pub mod CompleteArrows
 pub mod CompleteCovers
+pub mod CompleteParts
+pub mod CompleteFunctions
