@@ -1,6 +1,6 @@
 -- What is derived as parameters before an arrow is read as a name, a group or parentheses that are refined to them, if its parts
 -- are read as they are derived.
-use Rattle.std.proofs.Common.{◌≡◌, ℕ, ◌≤◌, true, false, List, [], ◌∷◌, ◌++◌, Some, None, refl, sym, ap, ◌∙◌, arith}
+use Rattle.std.proofs.Common.{◌≡◌, ℕ, ◌≤◌, true, List, [], ◌∷◌, ◌++◌, Some, None, refl, sym, ap, ◌∙◌, arith}
 use Rattle.es_text.specs.declared.Span.{Span}
 use Rattle.es6_lexer.specs.declared.token.Punctuator.TheVariants as marks
 use Rattle.es6_ast.specs.declared.tree.Identifier.{Identifier}
@@ -10,8 +10,7 @@ use Rattle.es6_ast.specs.declared.tree.Parameter.{Parameter}
 use Rattle.es6_ast.specs.declared.tree.Parameter.TheVariants.{SingleParameter, RestParameter}
 use Rattle.es6_ast.specs.declared.tree.Part.{Part}
 use Rattle.es6_ast.specs.Tokens.{Filled, IsMark, IsOnLine, across}
-use Rattle.es6_ast.specs.Grammar as g
-use Rattle.es6_ast.specs.Grammar.{Flags, with_in, name_target, name_alone, IsName}
+use Rattle.es6_ast.specs.Grammar.{Flags, name_target, name_alone, IsName}
 use Rattle.es6_reading.specs.Parser.{next_is, Shape, Bare, Grouped}
 use Rattle.es6_reading.specs.Words.{begins_operand}
 use Rattle.es6_reading.specs.Refine.{Fits, refined_map, refine_part, parameters_of, parts_of, refine_parameters}

@@ -1,9 +1,7 @@
 -- Groups, templates, functions and classes that are derived are read exactly so, if their parts are.
-use Rattle.std.proofs.Common.{◌≡◌, ℕ, ◌≤◌, Bool, true, false, ◌&&◌, ◌||◌, List, [], ◌∷◌, Option, Some, None, refl, sym, ap, subst, ◌∙◌, arith}
-use Rattle.std.proofs.lemmas.Bool.{false≢true}
+use Rattle.std.proofs.Common.{◌≡◌, ℕ, ◌≤◌, Bool, true, false, ◌&&◌, List, [], ◌∷◌, Option, Some, refl, sym, ap, subst, ◌∙◌, arith}
 use Rattle.std.specs.Prelude.{codes}
 use Rattle.es_outside.specs.HostNames.{reserved_words}
-use Rattle.es6_lexer.specs.declared.token.TokenKind.TheVariants as kinds
 use Rattle.es6_lexer.specs.declared.token.Punctuator.TheVariants as marks
 use Rattle.es6_ast.specs.declared.tree.Class.{Class}
 use Rattle.es6_ast.specs.declared.tree.Expression.{Expression}
@@ -11,20 +9,19 @@ use Rattle.es6_ast.specs.declared.tree.Expression.TheVariants as expr
 use Rattle.es6_ast.specs.declared.tree.Function.{Function}
 use Rattle.es6_ast.specs.declared.tree.Parameter.{Parameter}
 use Rattle.es6_ast.specs.declared.tree.Template.{Template}
-use Rattle.es6_ast.specs.Tokens.{Filled, Read, IsWord, IsMark, begin_of, across}
+use Rattle.es6_ast.specs.Tokens.{Filled, IsWord, IsMark, begin_of, across}
 use Rattle.es6_ast.specs.Grammar.{Flags, with_in}
-use Rattle.es6_reading.specs.Parser.{Input, Outcome, Took, Parser, after, returns, on, on_taken, next_is, mark, word, next_mark, Inner, Grouped, LeftHandSide, on_group}
+use Rattle.es6_reading.specs.Parser.{Input, Outcome, Took, Parser, after, returns, on, on_taken, next_is, mark, next_mark, Inner, Grouped, LeftHandSide, on_group}
 use Rattle.es6_reading.specs.Words.{begins_operand, begins_unary, begins_expression, unary_operators, operand_words}
 use Rattle.es6_reading.specs.Parts.{function_after_word, class_after_word, on_template}
 use Rattle.es6_reading.specs.Refine.{Fits}
 use Rattle.es6_reading.specs.Expressions.{Role, is_leading, Held, held_parts, sequenced, closed_group, held_group, grouped, bracketed, composed, primary, head, left, parameters_before}
-use Rattle.es6_reading.proofs.Posts.{Misses}
 use Rattle.es6_reading.proofs.Meanings.{is-mark-true}
 use Rattle.es6_reading.proofs.Spans.{Moves, ◌⟫◌, span-across}
 use Rattle.es6_reading.proofs.Derived.{one}
 use Rattle.es6_reading.proofs.Reading.{Eventually, then_, both, pair, turn, begin, on-miss-is}
-use Rattle.es6_reading.proofs.Exactly.{Exactly, exactly, ReadsExactly, equal, done, and_then, later, hit, miss, take, either-choice, group-in, mark-hit, if-is}
-use Rattle.es6_reading.proofs.CompleteTokens.{at-kind, no-mark, template-begins, function-begins, class-begins, parenthesis-begins, Closes, closes-up, closes-close, closes-comma, EndsYield, ends-yield, close-ends-yield, comma-ends-yield}
+use Rattle.es6_reading.proofs.Exactly.{Exactly, exactly, equal, done, and_then, miss, take, either-choice, group-in, mark-hit, if-is}
+use Rattle.es6_reading.proofs.CompleteTokens.{at-kind, no-mark, template-begins, function-begins, class-begins, parenthesis-begins, closes-up, closes-close, closes-comma, ends-yield, close-ends-yield, comma-ends-yield}
 use Rattle.es6_reading.proofs.CompleteImports.{R, readers-fuel, opened, mark-no-mark}
 use Rattle.es6_reading.proofs.CompleteLevels.{HeadReads, reading}
 use Rattle.es6_reading.proofs.CompleteClaims.{Claim, claim-primary, begins-no-close, begins-no-ellipsis, open-assignment}

@@ -1,5 +1,5 @@
--- The properties of object patterns, and parameters, that are derived are read exactly so, if their parts are.
-use Rattle.std.proofs.Common.{◌≡◌, ℕ, Bool, true, false, ◌||◌, List, [], ◌∷◌, Some, None, refl, sym, ap, subst, ◌∙◌, arith}
+-- The properties of object patterns that are derived are read exactly so, if their parts are.
+use Rattle.std.proofs.Common.{◌≡◌, ℕ, Bool, true, false, List, [], ◌∷◌, Some, None, refl, sym, ap, subst, ◌∙◌}
 use Rattle.es6_lexer.specs.declared.token.Punctuator.TheVariants as marks
 use Rattle.es6_ast.specs.declared.tree.Identifier.{Identifier}
 use Rattle.es6_ast.specs.declared.tree.Expression.{Expression}
@@ -7,8 +7,6 @@ use Rattle.es6_ast.specs.declared.tree.Pattern.{Pattern}
 use Rattle.es6_ast.specs.declared.tree.Pattern.TheVariants as pattern
 use Rattle.es6_ast.specs.declared.tree.ObjectPart.{ObjectPart}
 use Rattle.es6_ast.specs.declared.tree.ObjectPart.TheVariants.{NamedPart, KeyedPart}
-use Rattle.es6_ast.specs.declared.tree.Parameter.{Parameter}
-use Rattle.es6_ast.specs.declared.tree.Parameter.TheVariants.{SingleParameter, RestParameter}
 use Rattle.es6_ast.specs.declared.tree.Part.{Part, roll-Part}
 use Rattle.es6_ast.specs.declared.tree.Key.{Key}
 use Rattle.es6_ast.specs.declared.tree.Key.TheVariants.{WordKey}
@@ -17,22 +15,21 @@ use Rattle.es6_ast.specs.Grammar as g
 use Rattle.es6_ast.specs.Grammar.{Flags, with_in, name_target, name_alone, IsName}
 use Rattle.es6_reading.specs.Parser.{mark, next_mark, Inner}
 use Rattle.es6_reading.specs.Words.{name_if, free_name}
-use Rattle.es6_reading.specs.Parts.{object_parts, binding_pattern, binding, one_part, keyed_part, named_part, one_object_part, rest_parameter, more_parameters, parameters}
+use Rattle.es6_reading.specs.Parts.{object_parts, binding_pattern, binding, one_part, keyed_part, named_part, one_object_part}
 use Rattle.es6_reading.specs.Modules.{readers}
 use Rattle.es6_reading.proofs.Posts.{Misses}
 use Rattle.es6_reading.proofs.Meanings.{is-mark-true}
 use Rattle.es6_reading.proofs.Spans.{Moves, ◌⟫◌, span-across}
 use Rattle.es6_reading.proofs.Derived.{one}
-use Rattle.es6_reading.proofs.RefineTargets.{name-across}
 use Rattle.es6_reading.proofs.Reading.{Eventually, always, then_, both, pair, deeper, turn, begin}
 use Rattle.es6_reading.proofs.Exactly.{Exactly, ReadsExactly, done, and_then, later, hit, miss, take, group-in, group-out, mark-hit}
 use Rattle.es6_reading.proofs.CompleteTokens.{at-kind, brace-begins}
-use Rattle.es6_reading.proofs.CompleteImports.{R, at-fuel, opened, mark-no-mark, word-no-mark, identifier-exact}
-use Rattle.es6_reading.proofs.CompleteClaims.{Claim, unary-if-operand, expression-if-unary, begins-no-close}
-use Rattle.es6_reading.proofs.CompleteLists.{ends-comma, ends-close}
+use Rattle.es6_reading.proofs.CompleteImports.{R, at-fuel, opened, mark-no-mark, word-no-mark}
+use Rattle.es6_reading.proofs.CompleteClaims.{Claim}
 use Rattle.es6_reading.proofs.CompleteObjects.{PropertyEnd, comma_end, brace_end, property-ends}
 use Rattle.es6_reading.proofs.CompleteKeys.{KeyClaim, word_claim, text_claim, integer_claim, computed_claim, key-no-mark, key-exact}
-use Rattle.es6_reading.proofs.CompleteBindings.{Like, TargetClaim, operand-first, PartClaim, open-like, open-part}
+use Rattle.es6_reading.proofs.CompleteFunctions.{ParameterClaim}
+use Rattle.es6_reading.proofs.CompleteBindings.{Like, TargetClaim, PartClaim, open-like, open-part}
 
 -- ## Keyed parts
 
@@ -146,42 +143,6 @@ object-target f {t = t} {ts = ts} {us = us} {es = es} p d e = record {
 
 -- ## Parameters (14.1)
 
--- after the opening parenthesis or a comma
-pub record MoreParameters (f : Flags) (ts : List Filled) (es : List Parameter) (us : List Filled) : Type 0 where
-  pub no_close : Misses (mark marks.RightParenthesis) ts
-  pub reads : Eventually (λ t k r. ReadsExactly (more_parameters (R k r) f t) es ts us)
-
-pub more-rest : (f : Flags) {t c : Filled} {ts us : List Filled} {n : Identifier} {e : Parameter} → IsMark marks.Ellipsis t → IsName ts n (c ∷ us) → IsMark marks.RightParenthesis c → e ≡ RestParameter (across (t ∷ ts) (c ∷ us)) (name_target n) → MoreParameters f (t ∷ ts) (e ∷ []) us
-unfolding more_parameters rest_parameter
-more-rest f {t = t} {c = c} {ts = ts} {us = us} {n = n} p d q e = record {
-  no_close = mark-no-mark marks.RightParenthesis marks.Ellipsis t p refl;
-  reads = turn (always {P = λ t k r. Unit {0}} (λ t k r. tt)) (λ i k r _ last. hit (mark marks.Ellipsis) _ _ t t ts last (mark-hit marks.Ellipsis t p) (and_then _ (and_then _ (later one (identifier-exact d t.span.end)) (λ end mv.
-      take (mark marks.RightParenthesis) _ c c us end (mark-hit marks.RightParenthesis c q) (done (ap (λ s. RestParameter s (name_target n)) (span-across mv) ∙ sym e) (mv ⟫ one)))) (λ end mv. done refl mv)));
-}
-
-pub more-last : (f : Flags) {c : Filled} {ts us : List Filled} {q : Part} {e : Parameter} → PartClaim f ts (c ∷ us) q → IsMark marks.RightParenthesis c → e ≡ SingleParameter q → MoreParameters f ts (e ∷ []) us
-unfolding more_parameters
-more-last f {c = c} {ts = ts} {us = us} d p e = record {
-  no_close = begins-no-close f ts (expression-if-unary f ts (unary-if-operand ts d.begins));
-  reads = turn (open-part d (ends-close (with_in f) us c p) f refl) (λ t k r y last. miss (mark marks.Ellipsis) _ _ ts last (operand-first f ts d.begins).2 (and_then _ (y last) (λ end mv.
-      miss (mark marks.Comma) _ _ (c ∷ us) end (mark-no-mark marks.Comma marks.RightParenthesis c p refl) (take (mark marks.RightParenthesis) _ c c us end (mark-hit marks.RightParenthesis c p) (done (ap (λ z. z ∷ []) (sym e)) (mv ⟫ one))))));
-}
-
-pub more-next : (f : Flags) {c : Filled} {ts us vs : List Filled} {q : Part} {e : Parameter} {es : List Parameter} → PartClaim f ts (c ∷ us) q → IsMark marks.Comma c → e ≡ SingleParameter q → MoreParameters f us es vs → MoreParameters f ts (e ∷ es) vs
-unfolding more_parameters
-more-next f {c = c} {ts = ts} {us = us} {es = es} d p e rest = record {
-  no_close = begins-no-close f ts (expression-if-unary f ts (unary-if-operand ts d.begins));
-  reads = turn (pair (open-part d (ends-comma (with_in f) us c p) f refl) rest.reads) (λ t k r y last. miss (mark marks.Ellipsis) _ _ ts last (operand-first f ts d.begins).2 (and_then _ (y.0 last) (λ end mv.
-      hit (mark marks.Comma) _ _ c c us end (mark-hit marks.Comma c p) (and_then _ (later (mv ⟫ one) (y.1 c.span.end)) (λ end' mv'. done (ap (λ z. z ∷ es) (sym e)) mv')))));
-}
-
-abbrev pub ParametersRead : Flags → List Filled → List Parameter → List Filled → Type 0
-ParametersRead f ts es us = Eventually (λ t k r. ReadsExactly (parameters (R k r) f) es ts us)
-
-pub parameters-none : (f : Flags) {c : Filled} {us : List Filled} → IsMark marks.RightParenthesis c → ParametersRead f (c ∷ us) [] us
-unfolding parameters
-parameters-none f {c = c} {us = us} p = always (λ t k r last. hit (mark marks.RightParenthesis) _ _ c c us last (mark-hit marks.RightParenthesis c p) (done refl one))
-
-pub parameters-some : (f : Flags) {ts us : List Filled} {es : List Parameter} → MoreParameters f ts es us → ParametersRead f ts es us
-unfolding parameters
-parameters-some f {ts = ts} {us = us} {es = es} d = begin d.reads (λ t k r y last. miss (mark marks.RightParenthesis) _ _ ts last d.no_close (at-fuel (λ n. more_parameters (R k r) f n) es ts us k r y last))
+-- a part that is a parameter of a function
+pub parameter-claim : (f : Flags) {ts us : List Filled} {q : Part} → PartClaim (with_in f) ts us q → ParameterClaim (with_in f) ts us q
+parameter-claim f c = record { begins = c.begins; reads = λ e. open-part c e (with_in f) refl }

@@ -1,6 +1,6 @@
 -- What is derived as a pattern, or as parameters, is read as an expression that is refined to it, if its parts are read as they
 -- are derived.
-use Rattle.std.proofs.Common.{◌≡◌, ℕ, ◌≤◌, Bool, true, false, List, [], ◌∷◌, ◌++◌, Some, None, refl, sym, ap, ◌∙◌, arith}
+use Rattle.std.proofs.Common.{◌≡◌, ℕ, ◌≤◌, Bool, true, false, List, [], ◌∷◌, Some, None, refl, sym, ap, ◌∙◌, arith}
 use Rattle.std.proofs.lemmas.Bool.{false≢true}
 use Rattle.es6_lexer.specs.declared.token.Punctuator.TheVariants as marks
 use Rattle.es6_ast.specs.declared.operators.AssignOperator.TheVariants as assign
@@ -24,7 +24,7 @@ use Rattle.es6_ast.specs.Tokens.{Filled, IsMark, across}
 use Rattle.es6_ast.specs.Targets.{is_simple}
 use Rattle.es6_ast.specs.Grammar.{Flags, with_in, level_left_hand_side, name_target, name_alone, IsName, IsExpression, IsTarget}
 use Rattle.es6_reading.specs.Parser.{mark}
-use Rattle.es6_reading.specs.Refine.{Refined, Fits, span_of, made_part, rest_of, else_itself, array_parts_of, property_part, object_parts_of, refine, refine_pattern, target_before}
+use Rattle.es6_reading.specs.Refine.{Fits, span_of, made_part, rest_of, else_itself, array_parts_of, property_part, object_parts_of, refine, refine_pattern, target_before}
 use Rattle.es6_reading.proofs.Posts.{Misses}
 use Rattle.es6_reading.proofs.RefineTargets.{HasNoDefault, reads_part, part-alone, name-across}
 use Rattle.es6_reading.proofs.RefineParameters.{IsNoSequence}
