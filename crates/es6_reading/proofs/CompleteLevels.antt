@@ -83,7 +83,7 @@ pub no-unary : (ts : List Filled) → next_is begins_operand ts ≡ true → Mis
 no-unary [] h = tt
 no-unary (t ∷ ts) h = operand-no-unary t h
 
-no-before : (ts : List Filled) → next_is begins_operand ts ≡ true → Misses before_at ts
+pub no-before : (ts : List Filled) → next_is begins_operand ts ≡ true → Misses before_at ts
 no-before [] h = tt
 no-before (t ∷ ts) h = operand-no-before t h
 

@@ -140,7 +140,7 @@ end-or-label : {x : Statement} {s : Input} {vs : List Filled} (i : Inner) (f : F
 end-or-label i f at (Some label) y e us last h r = miss (mark marks.Colon) _ _ (e ∷ us) last (mark-miss marks.Colon e (end-false (is_mark marks.Colon) e.kind h refl (λ b. refl))) r
 end-or-label i f at None y e us last h r = r
 
-left-brace : (ts : List Filled) → NotBrace ts → next_is (next_mark marks.LeftBrace) ts ≡ false
+pub left-brace : (ts : List Filled) → NotBrace ts → next_is (next_mark marks.LeftBrace) ts ≡ false
 left-brace [] h = refl
 left-brace (t ∷ ts) h = at t.kind h
   where

@@ -74,3 +74,4 @@ pub mod CompleteArrows
 pub mod CompleteCovers
 pub mod CompleteParts
 pub mod CompleteFunctions
+pub mod CompleteForms
