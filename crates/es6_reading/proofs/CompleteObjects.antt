@@ -57,7 +57,7 @@ end-no-assign (brace_end {t = t} {ts = ts} h) = mark-no-mark marks.Assign marks.
 
 -- ## Properties that begin with a name
 
-either-taken : {A B : Type 0} {x : A} {s : Input} {us : List Filled} (test : Filled → Option B) (p : B → Parser A) (q : Parser A) (t : Filled) (ts : List Filled) (last : ℕ) → ((b : B) → test t ≡ Some b → Exactly x s us (p b (record { tokens = ts; last = t.span.end })))
+pub either-taken : {A B : Type 0} {x : A} {s : Input} {us : List Filled} (test : Filled → Option B) (p : B → Parser A) (q : Parser A) (t : Filled) (ts : List Filled) (last : ℕ) → ((b : B) → test t ≡ Some b → Exactly x s us (p b (record { tokens = ts; last = t.span.end })))
     → (test t ≡ None → Exactly x s us (q (record { tokens = t ∷ ts; last = last }))) → Exactly x s us (on test p q (record { tokens = t ∷ ts; last = last }))
 either-taken {B = B} {x = x} {s = s} {us = us} test p q t ts last f g = by (test t) refl
   where

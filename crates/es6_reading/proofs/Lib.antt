@@ -75,3 +75,5 @@ pub mod CompleteCovers
 pub mod CompleteParts
 pub mod CompleteFunctions
 pub mod CompleteForms
+pub mod CompleteMethods
+pub mod CompleteClasses
