@@ -77,3 +77,4 @@ pub mod CompleteFunctions
 pub mod CompleteForms
 pub mod CompleteMethods
 pub mod CompleteClasses
+pub mod CompleteDeclared
