@@ -2,17 +2,16 @@
 use Rattle.std.proofs.Common.{◌≡◌, ℕ, Bool, true, false, ◌||◌, List, [], ◌∷◌, Option, Some, None, refl, sym, ap, subst, ◌∙◌, arith}
 use Rattle.std.specs.Prelude.{codes, is_some}
 use Rattle.es_outside.specs.HostNames.{reserved_words}
-use Rattle.es6_lexer.specs.declared.token.TokenKind.TheVariants as kinds
 use Rattle.es6_lexer.specs.declared.token.Punctuator.TheVariants as marks
 use Rattle.es6_ast.specs.declared.tree.Class.{Class, roll-Class}
 use Rattle.es6_ast.specs.declared.tree.ClassMember.{ClassMember, roll-ClassMember}
 use Rattle.es6_ast.specs.declared.tree.Expression.{Expression}
 use Rattle.es6_ast.specs.declared.tree.Identifier.{Identifier}
 use Rattle.es6_ast.specs.declared.tree.Method.{Method}
-use Rattle.es6_ast.specs.Tokens.{Filled, Read, IsWord, IsMark, begin_of, across, is_word, is_identifier}
+use Rattle.es6_ast.specs.Tokens.{Filled, IsWord, IsMark, across, is_identifier}
 use Rattle.es6_ast.specs.Grammar as g
 use Rattle.es6_ast.specs.Grammar.{Flags, IsName}
-use Rattle.es6_reading.specs.Parser.{Input, next_is, mark, word, next_mark, Inner}
+use Rattle.es6_reading.specs.Parser.{next_is, mark, word, next_mark}
 use Rattle.es6_reading.specs.Words.{name_if, free_name}
 use Rattle.es6_reading.specs.Parts.{one_member, members, heritage, rest_of_class, named_class, begins_class_tail, class_after_word}
 use Rattle.es6_reading.specs.Expressions.{Heritage}
@@ -23,7 +22,7 @@ use Rattle.es6_reading.proofs.Spans.{Moves, ◌⟫◌, span-across}
 use Rattle.es6_reading.proofs.Derived.{one}
 use Rattle.es6_reading.proofs.Reading.{Eventually, always, then_, both, pair, deeper, turn, begin, on-miss-is}
 use Rattle.es6_reading.proofs.Exactly.{Exactly, ReadsExactly, done, and_then, later, hit, miss, if-yes, if-no, either-choice, group-in, known, mark-hit, word-hit}
-use Rattle.es6_reading.proofs.CompleteTokens.{at-kind, no-word, mark-miss, closes-body}
+use Rattle.es6_reading.proofs.CompleteTokens.{at-kind, no-word, closes-body}
 use Rattle.es6_reading.proofs.CompleteImports.{R, at-fuel, opened, mark-no-mark, mark-no-word, word-no-mark, identifier-exact}
 use Rattle.es6_reading.proofs.CompleteClaims.{Claim, stops-if, open-heritage}
 use Rattle.es6_reading.proofs.CompleteDeclarations.{ClassRead}

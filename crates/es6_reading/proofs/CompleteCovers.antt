@@ -1,29 +1,26 @@
 -- The parentheses that only an arrow's parameters have, and that are derived, are read exactly so, if their parts are.
-use Rattle.std.proofs.Common.{◌≡◌, ℕ, ◌≤◌, Bool, true, false, ◌&&◌, List, [], ◌∷◌, ◌++◌, Option, Some, None, refl, sym, ap, subst, ◌∙◌, arith}
-use Rattle.es6_lexer.specs.declared.token.TokenKind.TheVariants as kinds
+use Rattle.std.proofs.Common.{◌≡◌, ℕ, ◌≤◌, true, false, ◌&&◌, List, [], ◌∷◌, ◌++◌, Option, Some, None, refl, sym, ap, subst, ◌∙◌, arith}
 use Rattle.es6_lexer.specs.declared.token.Punctuator.{Punctuator as Mark}
 use Rattle.es6_lexer.specs.declared.token.Punctuator.TheVariants as marks
 use Rattle.es_text.specs.declared.Span.{Span}
-use Rattle.es6_ast.specs.declared.tree.Expression.{Expression, out-Expression}
+use Rattle.es6_ast.specs.declared.tree.Expression.{Expression}
 use Rattle.es6_ast.specs.declared.tree.Expression.TheVariants as expr
 use Rattle.es6_ast.specs.declared.tree.Identifier.{Identifier}
 use Rattle.es6_ast.specs.declared.tree.Parameter.{Parameter}
 use Rattle.es6_ast.specs.declared.tree.Rest.{Rest}
-use Rattle.es6_ast.specs.Tokens.{Filled, Read, IsMark, IsOnLine, begin_of, across}
-use Rattle.es6_ast.specs.Grammar as g
-use Rattle.es6_ast.specs.Grammar.{Flags, with_in, IsName, IsNode}
-use Rattle.es6_reading.specs.Parser.{Input, Outcome, Took, Parser, after, returns, on, on_taken, next_is, mark, next_mark, Covered, Inner}
-use Rattle.es6_reading.specs.Words.{is_arrow, begins_operand, begins_expression}
+use Rattle.es6_ast.specs.Tokens.{Filled, IsMark, IsOnLine, begin_of, across}
+use Rattle.es6_ast.specs.Grammar.{Flags, with_in, IsName}
+use Rattle.es6_reading.specs.Parser.{Input, Outcome, Took, Parser, after, returns, on, on_taken, next_is, mark, next_mark, Covered}
+use Rattle.es6_reading.specs.Words.{is_arrow, begins_expression}
 use Rattle.es6_reading.specs.Refine.{Refined, Fits, Misfit, TooNested, refined_map, parameters_of, parts_of, rest_parameter, parameters_in, refine_parameters}
-use Rattle.es6_reading.specs.Expressions.{Leading, is_leading, Held, held_parts, sequenced, covered, covered_rest, rest_after, held_group, grouped, head}
+use Rattle.es6_reading.specs.Expressions.{Leading, is_leading, Held, held_parts, sequenced, covered, covered_rest, rest_after, held_group, grouped}
 use Rattle.es6_reading.proofs.Posts.{Misses}
 use Rattle.es6_reading.proofs.Meanings.{is-mark-true, mark-misses}
 use Rattle.es6_reading.proofs.Spans.{Moves, ◌⟫◌, span-across}
 use Rattle.es6_reading.proofs.Derived.{one}
-use Rattle.es6_reading.proofs.Reading.{Eventually, always, then_, both, pair, turn, begin, on-miss-is}
-use Rattle.es6_reading.proofs.RefineParameters.{IsNoSequence, one-alone}
+use Rattle.es6_reading.proofs.Reading.{Eventually, then_, both, pair, turn, begin}
 use Rattle.es6_reading.proofs.Exactly.{Exactly, exactly, equal, done, and_then, later, hit, miss, take, if-yes, group-in, mark-hit, if-is}
-use Rattle.es6_reading.proofs.CompleteTokens.{at-kind, parenthesis-begins, Closes, closes-comma, EndsYield, ends-yield, comma-ends-yield}
+use Rattle.es6_reading.proofs.CompleteTokens.{parenthesis-begins, Closes, closes-comma, ends-yield, comma-ends-yield}
 use Rattle.es6_reading.proofs.CompleteImports.{R, readers-fuel, opened, mark-no-mark, identifier-exact}
 use Rattle.es6_reading.proofs.CompleteLevels.{reading, HeadReads, head-chain, chain-update, update-power, no-unary, ConditionalReads, power-conditional}
 use Rattle.es6_reading.proofs.CompleteClaims.{Claim, unary-if-operand, stops-if, begins-no-close, begins-no-ellipsis, open-assignment}

@@ -1,10 +1,9 @@
 -- Functions and classes that are derived are read exactly so where they stand: as expressions, as declarations, under labels and
 -- in default exports. Exports of declarations.
-use Rattle.std.proofs.Common.{◌≡◌, ℕ, Bool, true, false, List, ◌∷◌, Option, Some, None, refl, sym, ap, subst, ◌∙◌, arith}
+use Rattle.std.proofs.Common.{◌≡◌, true, false, List, ◌∷◌, refl, sym, ap, subst, ◌∙◌}
 use Rattle.std.specs.Prelude.{codes}
 use Rattle.es_text.specs.declared.Span.{Span}
 use Rattle.es6_ast.specs.declared.operators.VariableKind.{VariableKind}
-use Rattle.es6_ast.specs.declared.operators.VariableKind.TheVariants.{Var}
 use Rattle.es6_ast.specs.declared.tree.Argument.TheOpen as layer
 use Rattle.es6_ast.specs.declared.tree.Argument.TheOpen.{Statement-F}
 use Rattle.es6_ast.specs.declared.tree.Class.{Class}
@@ -22,16 +21,14 @@ use Rattle.es6_ast.specs.Grammar as g
 use Rattle.es6_ast.specs.Grammar.{Flags, IsEnd, of_module, NotStar, NotWord, IsStatement}
 use Rattle.es6_reading.specs.Parser.{Listed, Labelled}
 use Rattle.es6_reading.specs.Refine.{Open}
-use Rattle.es6_reading.specs.Statements.{variables_statement, jump_statement, compound_statement, statement}
-use Rattle.es6_reading.specs.Modules.{export_item, exported_declaration, export_declaration, one_item, is_end}
-use Rattle.es6_reading.proofs.Spans.{◌⟫◌, span-across}
-use Rattle.es6_reading.proofs.Derived.{one}
+use Rattle.es6_reading.specs.Statements.{compound_statement, statement}
+use Rattle.es6_reading.specs.Modules.{export_item, exported_declaration, export_declaration, is_end}
 use Rattle.es6_reading.proofs.Reading.{Eventually, then_}
-use Rattle.es6_reading.proofs.Exactly.{Exactly, ReadsExactly, equal, done, and_then, later, hit, miss, word-hit}
+use Rattle.es6_reading.proofs.Exactly.{ReadsExactly, equal}
 use Rattle.es6_reading.proofs.CompleteTokens.{at-kind}
-use Rattle.es6_reading.proofs.CompleteImports.{R, word-no-word, ItemRead}
+use Rattle.es6_reading.proofs.CompleteImports.{R}
 use Rattle.es6_reading.proofs.CompleteClaims.{Claim}
-use Rattle.es6_reading.proofs.CompleteStatements.{Quiet, quiet-kind, StatementClaim, AfterWord, told}
+use Rattle.es6_reading.proofs.CompleteStatements.{quiet-kind, StatementClaim}
 use Rattle.es6_reading.proofs.CompleteGroups.{function-claim, class-claim}
 use Rattle.es6_reading.proofs.CompleteDeclarations.{DeclarationClaim, function_claim, class_claim, function-reads, class-reads, labelled-function-claim}
 use Rattle.es6_reading.proofs.CompleteItems.{ItemClaim, export-claim, ExportedClaim, exported-declaration, export-declared, default-function, default-class, default-value}

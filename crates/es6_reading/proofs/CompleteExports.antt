@@ -71,7 +71,7 @@ export-mark : (i : Inner) (u : Filled) (us : List Filled) (at last : ℕ) → Is
 unfolding export_item
 export-mark i u us at last p = at-kind (λ v. export_item i at (record { tokens = v ∷ us; last = last }) ≡ export_names i at (record { tokens = v ∷ us; last = last })) u _ p refl
 
-export-all-exact : {t star : Filled} {ts us : List Filled} {s : Specifier} {x : Item} → IsMark marks.Star star → IsFrom ts s us → x ≡ item.ExportAll (across (t ∷ star ∷ ts) us) s → ItemRead export_item t (star ∷ ts) x us
+pub export-all-exact : {t star : Filled} {ts us : List Filled} {s : Specifier} {x : Item} → IsMark marks.Star star → IsFrom ts s us → x ≡ item.ExportAll (across (t ∷ star ∷ ts) us) s → ItemRead export_item t (star ∷ ts) x us
 unfolding export_item export_all
 export-all-exact {t = t} {star = star} {ts = ts} {s = s} p fr e = always (λ k f r last. hit (mark marks.Star) _ _ star star ts t.span.end (mark-hit marks.Star star p)
     (and_then _ (later (one ⟫ one) (from-exact (R f r) fr star.span.end)) (λ end mv. done (ap (λ z. item.ExportAll z s) (span-across mv) ∙ sym e) mv)))
@@ -86,13 +86,13 @@ end-no-word w k h = refl
 brace-held : {ts us : List Filled} {others : Bool} {ns : List ExportName} → AreExports others ts ns us → Eventually (λ k f r. ReadsExactly (exports (R f r).fuel) ns ts us)
 brace-held {ts = ts} {us = us} {ns = ns} ds = begin (exports-exact ds) (λ t f r y. at-fuel (λ n. exports n) ns ts us f r y)
 
-export-from-exact : {t open_ : Filled} {ts us vs : List Filled} {ns : List ExportName} {s : Specifier} {x : Item} → IsMark marks.LeftBrace open_ → AreExports true ts ns us → IsFrom us s vs → x ≡ item.ExportNames (across (t ∷ open_ ∷ ts) vs) ns (Some s) → ItemRead export_item t (open_ ∷ ts) x vs
+pub export-from-exact : {t open_ : Filled} {ts us vs : List Filled} {ns : List ExportName} {s : Specifier} {x : Item} → IsMark marks.LeftBrace open_ → AreExports true ts ns us → IsFrom us s vs → x ≡ item.ExportNames (across (t ∷ open_ ∷ ts) vs) ns (Some s) → ItemRead export_item t (open_ ∷ ts) x vs
 unfolding export_names
 export-from-exact {t = t} {open_ = o} {ts = ts} {us = us} {ns = ns} {s = s} {x = x} p ds fr e = both opened (brace-held ds) (λ k f r a y last. equal (export-mark (R f r) o ts t.span.begin t.span.end p)
     (and_then _ (group-in (R f r) marks.LeftBrace _ _ o ts t.span.end (is-mark-true marks.LeftBrace o p) a (later (one ⟫ one) (y o.span.end))) (λ end mv. if-yes _ _ _ us end (from-word fr)
     (and_then _ (later mv (from-exact (R f r) fr end)) (λ end' mv'. done (ap (λ z. item.ExportNames z ns (Some s)) (span-across mv') ∙ sym e) mv')))))
 
-export-names-exact : {t open_ end : Filled} {ts us : List Filled} {ns : List ExportName} {x : Item} → IsMark marks.LeftBrace open_ → AreExports false ts ns (end ∷ us) → IsEnd end → x ≡ item.ExportNames (across (t ∷ open_ ∷ ts) us) ns None → ItemRead export_item t (open_ ∷ ts) x us
+pub export-names-exact : {t open_ end : Filled} {ts us : List Filled} {ns : List ExportName} {x : Item} → IsMark marks.LeftBrace open_ → AreExports false ts ns (end ∷ us) → IsEnd end → x ≡ item.ExportNames (across (t ∷ open_ ∷ ts) us) ns None → ItemRead export_item t (open_ ∷ ts) x us
 unfolding export_names own_names
 export-names-exact {t = t} {open_ = o} {end = d} {ts = ts} {us = us} {ns = ns} {x = x} p ds h e = both opened (brace-held ds) (λ k f r a y last. equal (export-mark (R f r) o ts t.span.begin t.span.end p)
     (and_then _ (group-in (R f r) marks.LeftBrace _ _ o ts t.span.end (is-mark-true marks.LeftBrace o p) a (later (one ⟫ one) (y o.span.end))) (λ end mv. if-no (next_word (codes "from")) _ _ (d ∷ us) end (end-no-word (codes "from") d.kind h)

@@ -1,7 +1,6 @@
 -- Functions, with their parameters and bodies, that are derived are read exactly so, if their parts are.
 use Rattle.std.proofs.Common.{◌≡◌, ℕ, Bool, true, false, List, [], ◌∷◌, Option, Some, None, refl, sym, ap, subst, ◌∙◌}
 use Rattle.std.specs.Prelude.{codes}
-use Rattle.es6_lexer.specs.declared.token.TokenKind.TheVariants as kinds
 use Rattle.es6_lexer.specs.declared.token.Punctuator.TheVariants as marks
 use Rattle.es6_ast.specs.declared.tree.Function.{Function, roll-Function}
 use Rattle.es6_ast.specs.declared.tree.Identifier.{Identifier}
@@ -9,10 +8,10 @@ use Rattle.es6_ast.specs.declared.tree.Parameter.{Parameter}
 use Rattle.es6_ast.specs.declared.tree.Parameter.TheVariants.{SingleParameter, RestParameter}
 use Rattle.es6_ast.specs.declared.tree.Part.{Part}
 use Rattle.es6_ast.specs.declared.tree.Statement.{Statement}
-use Rattle.es6_ast.specs.Tokens.{Filled, Read, IsWord, IsMark, begin_of, across}
+use Rattle.es6_ast.specs.Tokens.{Filled, IsWord, IsMark, across}
 use Rattle.es6_ast.specs.Grammar as g
 use Rattle.es6_ast.specs.Grammar.{Flags, of_function, name_target, IsName, IsStar}
-use Rattle.es6_reading.specs.Parser.{Input, Took, Parser, after, on_taken, next_is, mark, next_mark, Inner, group}
+use Rattle.es6_reading.specs.Parser.{Took, Parser, after, on_taken, next_is, mark, next_mark, Inner}
 use Rattle.es6_reading.specs.Words.{begins_operand}
 use Rattle.es6_reading.specs.Parts.{rest_parameter, more_parameters, parameters, statements, function_body, signature, star, rest_of_function, named_function, function_after_word}
 use Rattle.es6_reading.proofs.Posts.{Misses}
@@ -20,8 +19,8 @@ use Rattle.es6_reading.proofs.Meanings.{is-mark-true}
 use Rattle.es6_reading.proofs.Spans.{Moves, ◌⟫◌, span-across}
 use Rattle.es6_reading.proofs.Derived.{one}
 use Rattle.es6_reading.proofs.Reading.{Eventually, always, then_, both, pair, turn, begin, on-miss-is}
-use Rattle.es6_reading.proofs.Exactly.{Exactly, ReadsExactly, equal, done, and_then, later, hit, miss, take, if-yes, if-no, either-choice, group-in, known, mark-hit}
-use Rattle.es6_reading.proofs.CompleteTokens.{at-kind, mark-miss}
+use Rattle.es6_reading.proofs.Exactly.{Exactly, ReadsExactly, done, and_then, later, hit, miss, take, if-yes, if-no, either-choice, group-in, known, mark-hit}
+use Rattle.es6_reading.proofs.CompleteTokens.{at-kind}
 use Rattle.es6_reading.proofs.CompleteImports.{R, at-fuel, opened, mark-no-mark, word-no-mark, identifier-exact}
 use Rattle.es6_reading.proofs.CompleteClaims.{unary-if-operand, expression-if-unary, begins-no-close, begins-no-ellipsis}
 use Rattle.es6_reading.proofs.CompleteLists.{Ends, ends-comma, ends-close}

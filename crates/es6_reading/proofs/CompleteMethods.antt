@@ -1,13 +1,8 @@
 -- Methods and accessors that are derived are read exactly so, in object literals and in classes, if their parts are.
-use Rattle.std.proofs.Common.{◌≡◌, ℕ, Bool, true, false, ◌||◌, List, [], ◌∷◌, Option, Some, None, refl, sym, ap, subst, ◌∙◌}
+use Rattle.std.proofs.Common.{◌≡◌, ℕ, Bool, true, false, List, [], ◌∷◌, Some, None, refl, sym, ap, subst, ◌∙◌}
 use Rattle.std.specs.Prelude.{codes}
-use Rattle.es_outside.specs.HostNames.{reserved_words}
-use Rattle.es6_lexer.specs.declared.token.TokenKind.TheVariants as kinds
-use Rattle.es6_lexer.specs.declared.token.Punctuator.{Punctuator as Mark}
 use Rattle.es6_lexer.specs.declared.token.Punctuator.TheVariants as marks
-use Rattle.es6_ast.specs.declared.operators.MethodKind.{MethodKind}
-use Rattle.es6_ast.specs.declared.operators.MethodKind.TheVariants.{PlainMethod, GetterMethod, SetterMethod, GeneratorMethod}
-use Rattle.es6_ast.specs.declared.tree.ClassMember.{ClassMember}
+use Rattle.es6_ast.specs.declared.operators.MethodKind.TheVariants.{PlainMethod, GeneratorMethod}
 use Rattle.es6_ast.specs.declared.tree.Key.{Key}
 use Rattle.es6_ast.specs.declared.tree.Key.TheVariants.{WordKey}
 use Rattle.es6_ast.specs.declared.tree.Method.{Method}
@@ -17,19 +12,19 @@ use Rattle.es6_ast.specs.declared.tree.Part.{Part}
 use Rattle.es6_ast.specs.declared.tree.Property.{Property}
 use Rattle.es6_ast.specs.declared.tree.Property.TheVariants as property
 use Rattle.es6_ast.specs.declared.tree.Statement.{Statement}
-use Rattle.es6_ast.specs.Tokens.{Filled, Read, IsWord, IsMark, begin_of, across, is_word}
+use Rattle.es6_ast.specs.Tokens.{Filled, IsWord, IsMark, begin_of, across, is_word}
 use Rattle.es6_ast.specs.Grammar.{Flags, of_function, method_of}
-use Rattle.es6_reading.specs.Parser.{Input, Parser, next_is, mark, word, next_mark, Inner, group}
+use Rattle.es6_reading.specs.Parser.{next_is, mark, word, next_mark, group}
 use Rattle.es6_reading.specs.Words.{any_name_in, accessor_in, accessor_at, accessor_name}
-use Rattle.es6_reading.specs.Parts.{key, signature, method_after_key, no_parameter, one_parameter, accessor_parameters, accessor_kind, accessor, generator_method, method_after_accessor_word, method, member_of, member_after_static, one_member}
+use Rattle.es6_reading.specs.Parts.{no_parameter, one_parameter, accessor_parameters, accessor_kind, accessor, generator_method, method_after_accessor_word, method, member_of, member_after_static, one_member}
 use Rattle.es6_reading.specs.Expressions.{ends_name, after_accessor_word, one_property}
 use Rattle.es6_reading.proofs.Posts.{Misses}
 use Rattle.es6_reading.proofs.Meanings.{is-mark-true, some_same, word-means}
-use Rattle.es6_reading.proofs.Spans.{Moves, ◌⟫◌, span-across}
+use Rattle.es6_reading.proofs.Spans.{◌⟫◌, span-across}
 use Rattle.es6_reading.proofs.Derived.{one}
-use Rattle.es6_reading.proofs.Reading.{Eventually, always, then_, both, pair}
-use Rattle.es6_reading.proofs.Exactly.{Exactly, ReadsExactly, equal, done, and_then, later, hit, miss, take, if-yes, if-no, group-in, mark-hit, word-hit}
-use Rattle.es6_reading.proofs.CompleteTokens.{at-kind, mark-miss, word-miss}
+use Rattle.es6_reading.proofs.Reading.{Eventually, then_, both, pair}
+use Rattle.es6_reading.proofs.Exactly.{Exactly, ReadsExactly, done, and_then, later, hit, miss, take, if-yes, if-no, group-in, mark-hit, word-hit}
+use Rattle.es6_reading.proofs.CompleteTokens.{at-kind, word-miss}
 use Rattle.es6_reading.proofs.CompleteImports.{R, opened, mark-no-mark, word-no-mark, word-no-word}
 use Rattle.es6_reading.proofs.CompleteLists.{ends-close}
 use Rattle.es6_reading.proofs.CompleteObjects.{either-taken, accessor-is, PropertyClaim}

@@ -78,3 +78,4 @@ pub mod CompleteForms
 pub mod CompleteMethods
 pub mod CompleteClasses
 pub mod CompleteDeclared
+pub mod CompleteModules
