@@ -75,6 +75,7 @@ pub mod CompleteCovers
 pub mod CompleteParts
 pub mod CompleteFunctions
 pub mod CompleteForms
+pub mod Completeness
 pub mod CompleteMethods
 pub mod CompleteClasses
 pub mod CompleteDeclared
