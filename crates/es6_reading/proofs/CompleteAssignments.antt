@@ -1,5 +1,5 @@
 -- Assignments, arrow functions and `yield` that are derived are read exactly so, if their parts are.
-use Rattle.std.proofs.Common.{◌≡◌, ℕ, suc, ◌≤◌, Bool, true, false, ◌&&◌, ◌||◌, not, cond, List, [], ◌∷◌, Option, Some, None, refl, sym, ap, subst, ◌∙◌, arith}
+use Rattle.std.proofs.Common.{◌≡◌, ℕ, ◌≤◌, Bool, true, false, ◌&&◌, ◌||◌, not, cond, List, [], ◌∷◌, Some, None, refl, sym, ap, subst, ◌∙◌, arith}
 use Rattle.std.proofs.lemmas.Bool.{false≢true}
 use Rattle.std.specs.Prelude.{codes}
 use Rattle.es_outside.specs.HostNames.{reserved_words}
@@ -20,7 +20,7 @@ use Rattle.es6_ast.specs.Tokens.{Filling, Read, Inserted, Filled, IsWord, IsMark
 use Rattle.es6_ast.specs.Grammar.{Flags, of_function, of_arrow, assign_kind}
 use Rattle.es6_reading.specs.Parser.{next_is, is_mark, mark, word, next_mark, Shape, Other, is_left}
 use Rattle.es6_reading.specs.Words.{unless, assign_at, is_arrow, arrow_at, unary_operators, operand_words, begins_operand, begins_unary, begins_expression}
-use Rattle.es6_reading.specs.Refine.{Refined, Fits, target_before}
+use Rattle.es6_reading.specs.Refine.{Fits, target_before}
 use Rattle.es6_reading.specs.Expressions.{fitting, parameters_before, arrow_if, arrow_body, assigned_with, after_conditional, star_at, ends_value, ends_yield, after_yield, without_yield, assignment}
 use Rattle.es6_reading.proofs.Posts.{Misses}
 use Rattle.es6_reading.proofs.Meanings.{is-mark-true}

@@ -1,5 +1,5 @@
 -- What is claimed of each family of the grammar, and each production by what is claimed of its parts.
-use Rattle.std.proofs.Common.{◌≡◌, ℕ, suc, ◌+◌, ◌≤◌, Bool, true, false, List, [], ◌∷◌, Option, Some, None, refl, sym, ap, subst, ◌∙◌, arith}
+use Rattle.std.proofs.Common.{◌≡◌, ℕ, suc, ◌+◌, ◌≤◌, Bool, true, false, List, [], ◌∷◌, Some, None, refl, sym, ap, subst, ◌∙◌, arith}
 use Rattle.std.proofs.lemmas.Bool.{false≢true}
 use Rattle.std.specs.Prelude.{codes}
 use Rattle.es6_lexer.specs.declared.token.Punctuator.TheVariants as marks
@@ -7,11 +7,9 @@ use Rattle.es6_ast.specs.declared.operators.AssignOperator.{AssignOperator}
 use Rattle.es6_ast.specs.declared.operators.AssignOperator.TheVariants as assign
 use Rattle.es6_ast.specs.declared.operators.UpdateOperator.{UpdateOperator}
 use Rattle.es6_ast.specs.declared.operators.VariableKind.{VariableKind}
-use Rattle.es6_ast.specs.declared.operators.MethodKind.TheVariants.{PlainMethod, GeneratorMethod}
 use Rattle.es6_ast.specs.declared.tree.Expression.{Expression}
 use Rattle.es6_ast.specs.declared.tree.Expression.TheVariants as expr
 use Rattle.es6_ast.specs.declared.tree.Statement.{Statement}
-use Rattle.es6_ast.specs.declared.tree.Statement.TheVariants as stat
 use Rattle.es6_ast.specs.declared.tree.Pattern.{Pattern}
 use Rattle.es6_ast.specs.declared.tree.Pattern.TheVariants as pattern
 use Rattle.es6_ast.specs.declared.tree.ArrayPart.{ArrayPart}
@@ -26,15 +24,9 @@ use Rattle.es6_ast.specs.declared.tree.Element.TheVariants.{Hole, Present}
 use Rattle.es6_ast.specs.declared.tree.Argument.{Argument}
 use Rattle.es6_ast.specs.declared.tree.Link.{Link}
 use Rattle.es6_ast.specs.declared.tree.Operand.{Operand}
-use Rattle.es6_ast.specs.declared.tree.Parameter as parameter'
 use Rattle.es6_ast.specs.declared.tree.Parameter.{Parameter}
-use Rattle.es6_ast.specs.declared.tree.Parameter.TheVariants as parameter
 use Rattle.es6_ast.specs.declared.tree.Parameter.TheVariants.{SingleParameter, RestParameter}
 use Rattle.es6_ast.specs.declared.tree.Part.{Part}
-use Rattle.es6_ast.specs.declared.tree.Property.{Property}
-use Rattle.es6_ast.specs.declared.tree.Property.TheVariants as property
-use Rattle.es6_ast.specs.declared.tree.Method.{Method}
-use Rattle.es6_ast.specs.declared.tree.Function.{Function}
 use Rattle.es6_ast.specs.declared.tree.ForFirst.{ForFirst}
 use Rattle.es6_ast.specs.declared.tree.ForFirst.TheVariants.{NoFirst}
 use Rattle.es6_ast.specs.declared.tree.ForTarget.{ForTarget}
@@ -44,8 +36,8 @@ use Rattle.es6_ast.specs.Tokens.{Filled, Read, IsWord, IsMark, IsOnLine, across}
 use Rattle.es6_ast.specs.Targets.{is_pattern}
 use Rattle.es6_ast.specs.Grammar as g
 use Rattle.es6_ast.specs.Grammar.{Flags, with_in, without_in, of_function, is_plain, is_before, update_kind, assign_kind, level_left_hand_side, chain_level, kind_word, name_target, name_alone, NotStar, IsName, IsTarget, IsExpression, IsNode, AreOperands}
-use Rattle.es6_reading.specs.Parser.{next_is, mark, Listed, Labelled}
-use Rattle.es6_reading.specs.Refine.{Fits, made_part, refine, else_itself, target_before, refine_pattern}
+use Rattle.es6_reading.specs.Parser.{next_is, mark, Listed}
+use Rattle.es6_reading.specs.Refine.{Fits, made_part, target_before, refine_pattern}
 use Rattle.es6_reading.specs.Statements.{OfHeader, ends_case}
 use Rattle.es6_reading.specs.Modules.{readers}
 use Rattle.es6_reading.proofs.Posts.{Misses}
@@ -60,14 +52,12 @@ use Rattle.es6_reading.proofs.CompleteLevels.{no-before}
 use Rattle.es6_reading.proofs.CompleteOperators.{after-claim, OperandsClaim, binary-claim}
 use Rattle.es6_reading.proofs.CompleteChains.{LinksClaim, super-call-claim, super-call-heads, super-chain-claim, CalleeClaim, new-bare-claim, callee-new}
 use Rattle.es6_reading.proofs.CompleteAssignments.{enough-turns, assignment-claim}
-use Rattle.es6_reading.proofs.CompleteGroups.{function-claim}
 use Rattle.es6_reading.proofs.CompleteKeys.{KeyClaim}
 use Rattle.es6_reading.proofs.CompleteParts.{PartsClaim, SplitClaim, split-alone, split-sequence}
 use Rattle.es6_reading.proofs.CompleteStatements.{Quiet, StatementClaim, quiet-kind, BlockClaim, StatementsRead, statements-none, statements-next, BindingRead}
-use Rattle.es6_reading.proofs.CompleteDeclarations.{FunctionRead, DeclarationClaim, function_claim, function-reads, labelled-function-claim}
 use Rattle.es6_reading.proofs.CompleteSwitches.{InCaseRead, in-case-none, in-case-next, ends-quiet}
 use Rattle.es6_reading.proofs.CompleteFor.{FirstRead, first-nothing, HeaderRead, declared-header, assigned-header}
-use Rattle.es6_reading.proofs.CompleteFunctions.{MoreParametersClaim, parameters-rest, parameters-last, parameters-next, ParametersRead, parameters-none, parameters-some, FunctionClaim, function_read}
+use Rattle.es6_reading.proofs.CompleteFunctions.{MoreParametersClaim, parameters-rest, parameters-last, parameters-next, ParametersRead, parameters-none, parameters-some}
 use Rattle.es6_reading.proofs.CompleteBindings.{Like, TargetClaim, name-target, array-target, ArrayPartsRead, array-none, array-skipped, array-rest, array-last, array-next, PartClaim, part-alone, part-with-default}
 use Rattle.es6_reading.proofs.CompleteParameters.{ObjectPartClaim, ObjectPartsRead, object-none, object-last, object-next, object-target, named-claim, named-default-claim, keyed-claim, parameter-claim}
 use Rattle.es6_reading.proofs.CompletePatterns as p

@@ -21,14 +21,14 @@ use Rattle.es6_ast.specs.Grammar.{Flags, with_in, method_of}
 use Rattle.es6_reading.specs.Parser.{next_is, mark, next_mark, Inner}
 use Rattle.es6_reading.specs.Words.{name_if, free_name, WordToken, TextToken, IntegerToken, key_in, key_at, accessor_at, accessor_name}
 use Rattle.es6_reading.specs.Parts.{key, computed_key, signature, method_after_key, generator_method}
-use Rattle.es6_reading.specs.Expressions.{assignment, value_of_key, method_of_key, after_key, after_name, ends_name, one_property}
+use Rattle.es6_reading.specs.Expressions.{value_of_key, method_of_key, after_key, after_name, ends_name, one_property}
 use Rattle.es6_reading.proofs.Posts.{Misses}
 use Rattle.es6_reading.proofs.Meanings.{is-mark-true}
 use Rattle.es6_reading.proofs.Spans.{Moves, ◌⟫◌, span-across}
 use Rattle.es6_reading.proofs.Derived.{one}
-use Rattle.es6_reading.proofs.Reading.{Eventually, always, then_, both, pair}
+use Rattle.es6_reading.proofs.Reading.{Eventually, always, then_, both}
 use Rattle.es6_reading.proofs.Exactly.{Exactly, ReadsExactly, done, and_then, later, hit, miss, take, if-yes, group-in, mark-hit}
-use Rattle.es6_reading.proofs.CompleteTokens.{at-kind, mark-miss}
+use Rattle.es6_reading.proofs.CompleteTokens.{at-kind}
 use Rattle.es6_reading.proofs.CompleteImports.{R, opened, mark-no-mark, word-no-mark}
 use Rattle.es6_reading.proofs.CompleteLevels.{assignment_level}
 use Rattle.es6_reading.proofs.CompleteClaims.{Claim, open-assignment}

@@ -13,7 +13,7 @@ use Rattle.es6_ast.specs.Grammar.{of_module, IsExpression, level_assignment, IsF
 use Rattle.es6_ast.specs.Modules as m
 use Rattle.es6_ast.specs.Modules.{IsItem, AreItems, IsModule}
 use Rattle.es6_reading.specs.Parser.{Listed}
-use Rattle.es6_reading.proofs.Spelled.{AreReadAlone}
+use Rattle.es6_reading.specs.Laws.{IsComplete}
 use Rattle.es6_reading.proofs.CompleteImports.{alone-exact, clause-exact}
 use Rattle.es6_reading.proofs.CompleteExports.{export-all-exact, export-from-exact, export-names-exact}
 use Rattle.es6_reading.proofs.CompleteClaims.{Claim}
@@ -58,5 +58,5 @@ items-claim p (m.next_item x xs d ds) h = let c = item-claim p d in let rest = i
 module-claim : PartsAreRead → (tokens : List Filled) (x : Module) → IsModule tokens x → ModuleRead tokens x
 module-claim p tokens x (m.module_ items x' d h e) = module-read (items-claim p d h).reads h e
 
-pub modules-are-read : PartsAreRead → AreReadAlone
-modules-are-read p tokens x d = let c = module-claim p tokens x d in (c.bound, λ fuel room last a b. let r = c.reads fuel fuel room a a b last in (x, r.0, r.1))
+pub modules-are-read : PartsAreRead → IsComplete
+modules-are-read p tokens x d = let c = module-claim p tokens x d in (c.bound, λ fuel room last a b. c.reads fuel fuel room a a b last)

@@ -1,37 +1,29 @@
 -- Object literals that are derived are read exactly so, if their properties are.
 use Rattle.std.proofs.Common.{◌≡◌, ℕ, Bool, true, false, ◌||◌, List, [], ◌∷◌, Option, Some, None, refl, sym, ap, subst, ◌∙◌, arith}
-use Rattle.std.proofs.lemmas.Bool.{false≢true}
-use Rattle.std.specs.Prelude.{ℤ}
-use Rattle.es_outside.specs.HostNames.{reserved_words}
-use Rattle.es6_lexer.specs.declared.token.TokenKind.TheVariants as kinds
-use Rattle.es6_lexer.specs.declared.token.NumberToken.TheVariants.{Whole}
 use Rattle.es6_lexer.specs.declared.token.Punctuator.TheVariants as marks
 use Rattle.es6_ast.specs.declared.tree.Expression.{Expression}
 use Rattle.es6_ast.specs.declared.tree.Expression.TheVariants as expr
 use Rattle.es6_ast.specs.declared.tree.Identifier.{Identifier}
-use Rattle.es6_ast.specs.declared.tree.Key.{Key}
-use Rattle.es6_ast.specs.declared.tree.Key.TheVariants.{WordKey, TextKey, IntegerKey, ComputedKey}
 use Rattle.es6_ast.specs.declared.tree.Property.{Property}
 use Rattle.es6_ast.specs.declared.tree.Property.TheVariants as property
-use Rattle.es6_ast.specs.Tokens.{Filled, Read, IsWord, IsMark, begin_of, across, is_identifier}
+use Rattle.es6_ast.specs.Tokens.{Filled, IsWord, IsMark, across, is_identifier}
 use Rattle.es6_ast.specs.Grammar as g
 use Rattle.es6_ast.specs.Grammar.{Flags, with_in, IsName}
 use Rattle.es6_reading.specs.Parser.{Input, Parser, on, on_taken, next_is, mark, next_mark, Inner, LeftHandSide}
-use Rattle.es6_reading.specs.Words.{name_if, free_name, any_name_in, WordToken, TextToken, IntegerToken, key_in, key_at, accessor_at, accessor_name}
-use Rattle.es6_reading.specs.Parts.{key, computed_key}
+use Rattle.es6_reading.specs.Words.{name_if, free_name, any_name_in, accessor_at, accessor_name}
 use Rattle.es6_reading.specs.Modules.{readers}
-use Rattle.es6_reading.specs.Expressions.{Role, properties, bracketed, composed, primary, head, assignment, value_of_key, after_key, shorthand, after_name, ends_name, after_accessor_word, one_property}
+use Rattle.es6_reading.specs.Expressions.{Role, properties, bracketed, composed, primary, head, shorthand, after_name, ends_name, after_accessor_word, one_property}
 use Rattle.es6_reading.proofs.Posts.{Misses}
 use Rattle.es6_reading.proofs.Meanings.{is-mark-true, some_same, accessor-means}
-use Rattle.es6_reading.proofs.Spans.{Moves, ◌⟫◌, span-across}
+use Rattle.es6_reading.proofs.Spans.{◌⟫◌, span-across}
 use Rattle.es6_reading.proofs.Derived.{one}
 use Rattle.es6_reading.proofs.Reading.{Eventually, always, then_, both, pair, turn, begin, deeper}
 use Rattle.es6_reading.proofs.Exactly.{Exactly, ReadsExactly, equal, done, and_then, later, hit, miss, take, if-yes, if-no, group-in, group-out, mark-hit}
-use Rattle.es6_reading.proofs.CompleteTokens.{at-kind, mark-miss, brace-begins, closes-up, closes-brace, ends-yield, brace-ends-yield}
+use Rattle.es6_reading.proofs.CompleteTokens.{at-kind, brace-begins, closes-up, closes-brace, ends-yield, brace-ends-yield}
 use Rattle.es6_reading.proofs.CompleteImports.{R, at-fuel, opened, mark-no-mark, word-no-mark}
-use Rattle.es6_reading.proofs.CompleteLevels.{reading, assignment_level}
+use Rattle.es6_reading.proofs.CompleteLevels.{reading}
 use Rattle.es6_reading.proofs.CompleteClaims.{Claim, claim-primary, open-assignment}
-use Rattle.es6_reading.proofs.CompleteLists.{Ends, ends-comma, ends-square}
+use Rattle.es6_reading.proofs.CompleteLists.{Ends, ends-comma}
 
 -- ## What follows a property
 

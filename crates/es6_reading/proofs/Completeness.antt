@@ -38,7 +38,7 @@ use Rattle.es6_reading.specs.Parser.{Stand, Listed, Under, Labelled}
 use Rattle.es6_reading.specs.Parts.{template_parts}
 use Rattle.es6_reading.proofs.Reading.{Eventually}
 use Rattle.es6_reading.proofs.Exactly.{ReadsExactly}
-use Rattle.es6_reading.proofs.Spelled.{AreReadAlone}
+use Rattle.es6_reading.specs.Laws.{IsComplete}
 use Rattle.es6_reading.proofs.CompleteImports.{R}
 use Rattle.es6_reading.proofs.CompleteClaims.{Claim}
 use Rattle.es6_reading.proofs.CompleteLists.{ArgumentClaim, single-claim, spread-claim, more-last, more-next, TemplateClaim, whole_claim, parted_claim, template-last, template-next}
@@ -358,5 +358,5 @@ parts-are-read = record {
   listed = λ ts us x d. listedC d;
 }
 
-pub what-is-derived-is-read : AreReadAlone
+pub what-is-derived-is-read : IsComplete
 what-is-derived-is-read = modules-are-read parts-are-read

@@ -6,13 +6,23 @@ use Rattle.es6_ast.specs.declared.module.Item.{Item}
 use Rattle.es6_ast.specs.declared.module.Item.TheVariants as item
 use Rattle.es6_ast.specs.Tokens.{Filled, read}
 use Rattle.es6_ast.specs.Modules.{IsItem, IsModule}
-use Rattle.es6_ast.specs.Semicolons.{Fills}
+use Rattle.es6_ast.specs.Semicolons.{Fills, SpellsModule}
 use Rattle.es6_reading.specs.Parser.{Input, Stop, Took, Fault}
 use Rattle.es6_reading.specs.Modules.{readers, one_item, whole_module, most_open, read_module}
 
 -- Without inserted semicolons: a module that is read is derived from all of the tokens, with its spans.
 abbrev pub IsSound : Type 0
 IsSound = (fuel room : ℕ) (tokens : List Filled) (last : ℕ) (m : Module) (after : Input) → whole_module (readers false fuel room) (record { tokens = tokens; last = last }) ≡ Took m after → IsModule tokens m
+
+-- Without inserted semicolons: a module that the grammar derives is read exactly so, where loops have turns enough and constructs
+-- enough may open.
+abbrev pub IsComplete : Type 0
+IsComplete = (tokens : List Filled) (m : Module) → IsModule tokens m
+    → (bound : ℕ) × ((fuel room last : ℕ) → bound ≤ fuel → bound ≤ room → (after : Input) × (whole_module (readers false fuel room) (record { tokens = tokens; last = last }) ≡ Took m after))
+
+-- No tokens derive two modules, where every semicolon stands among them.
+abbrev pub IsUnambiguous : Type 0
+IsUnambiguous = (tokens : List Filled) (m n : Module) → IsModule tokens m → IsModule tokens n → m ≡ n
 
 -- A fault stands at one of the tokens, or at the end.
 abbrev pub FaultsAreInside : Type 0
@@ -31,6 +41,10 @@ pub record InsertedReading (fuel : ℕ) (tokens : List Token) (m : Module) : Typ
 
 abbrev pub IsInserted : Type 0
 IsInserted = (fuel : ℕ) (tokens : List Token) (m : Module) (after : Input) → read_module fuel (map read tokens) ≡ Took m after → InsertedReading fuel tokens m
+
+-- With inserted semicolons: a module that is read is spelled by the tokens.
+abbrev pub AreSpelled : Type 0
+AreSpelled = (fuel : ℕ) (tokens : List Token) (m : Module) (after : Input) → read_module fuel (map read tokens) ≡ Took m after → SpellsModule tokens m
 
 -- an import, or an export of names (15.2.2, 15.2.3)
 abbrev pub IsLink : Item → Type 0

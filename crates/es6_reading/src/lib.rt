@@ -5,13 +5,30 @@
 #![tactic(auto)]
 
 ghost use Rattle.es6_reading.specs.Examples.{AreRead, AreStopped, IsDeepest};
-ghost use Rattle.es6_reading.specs.Laws.{FaultsAreInside, IsInserted, IsSound, LinksAreRead};
+ghost use Rattle.es6_reading.specs.Laws.{AreSpelled, FaultsAreInside, IsComplete, IsInserted, IsSound, IsUnambiguous, LinksAreRead};
 ghost use Rattle.es6_reading.specs.Program.{IsProgramRead};
 ghost use Rattle.es6_reading.specs.Refinements.{AreRefined, ComeFromExpressions};
 
 /// What is read without inserted semicolons is derived from all of the tokens, with exact spans.
 pub fn what_is_read_is_derived()
     ensures { IsSound }
+{}
+
+/// A module that the grammar derives is read exactly so without inserted semicolons, if loops have turns enough and constructs
+/// enough may open.
+pub fn what_is_derived_is_read()
+    ensures { IsComplete }
+{}
+
+/// No tokens derive two modules, where every semicolon stands among them.
+pub fn derivations_give_one_module()
+    ensures { IsUnambiguous }
+{}
+
+/// A module that is read is spelled by the tokens: it is derived from them with semicolons put in (11.9), each of them only where
+/// the grammar allows one and before a token with which it has nothing to go on.
+pub fn modules_are_spelled()
+    ensures { AreSpelled }
 {}
 
 /// A semicolon is inserted only before a token with which no module goes on that is read without inserting any, and what is read
