@@ -34,46 +34,46 @@ use Rattle.es6_reading.proofs.RefineMore.{Kept, kept-before, kept-parameters-bef
 
 -- ## No expression begins with an inserted semicolon
 
-unary-none : (d : Bool) (at : ℕ) → ◌≡◌ {A = Option UnaryOperator} (unary_at (semi d at)) None
+pub unary-none : (d : Bool) (at : ℕ) → ◌≡◌ {A = Option UnaryOperator} (unary_at (semi d at)) None
 unfolding unary_operators
 unary-none d at = refl
 
-assign-none : (d : Bool) (at : ℕ) → ◌≡◌ {A = Option AssignOperator} (assign_at (semi d at)) None
+pub assign-none : (d : Bool) (at : ℕ) → ◌≡◌ {A = Option AssignOperator} (assign_at (semi d at)) None
 unfolding assign_operators
 assign-none d at = refl
 
-binary-none : (f : Flags) (level : ℕ) (d : Bool) (at : ℕ) → ◌≡◌ {A = Option BinaryOperator} (binary_at f level (semi d at)) None
+pub binary-none : (f : Flags) (level : ℕ) (d : Bool) (at : ℕ) → ◌≡◌ {A = Option BinaryOperator} (binary_at f level (semi d at)) None
 unfolding binary_operators
 binary-none f level d at = refl
 
-abbrev postfix_from : Inner → Flags → Role → ℕ → Parser Reading
+abbrev pub postfix_from : Inner → Flags → Role → ℕ → Parser Reading
 postfix_from i f role at = ◌>>=◌ (chain i f role) (λ x. on after_at (λ op. made at (λ span. other (expr.Update span op x.value))) (returns x))
 
-abbrev update_from : Inner → Flags → Role → ℕ → Parser Reading
+abbrev pub update_from : Inner → Flags → Role → ℕ → Parser Reading
 update_from i f role at = on before_at (λ op. updated i f at op) (postfix i f role)
 
-abbrev unary_from : Inner → Flags → ℕ → Parser Reading
+abbrev pub unary_from : Inner → Flags → ℕ → Parser Reading
 unary_from i f at = on unary_at (λ op. prefixed i f at op) (update i f Among)
 
-abbrev power_from : Inner → Flags → Role → ℕ → Parser Reading
+abbrev pub power_from : Inner → Flags → Role → ℕ → Parser Reading
 power_from i f role at = on unary_at (λ op. prefixed i f at op) (◌>>=◌ (update i f role) (λ x. raised i f at x))
 
-abbrev binary_body : Inner → Flags → Role → ℕ → ℕ → ℕ → Parser Reading
+abbrev pub binary_body : Inner → Flags → Role → ℕ → ℕ → ℕ → Parser Reading
 binary_body i f role above level at = ◌>>=◌ (binary_from i f role above (level + 1)) (λ x. ◌>>=◌ (operands (binary_from i f Among above (level + 1)) f level i.fuel) (λ rest. made at (operated x rest)))
 
-abbrev conditional_from : Inner → Flags → ℕ → Parser Reading
+abbrev pub conditional_from : Inner → Flags → ℕ → Parser Reading
 conditional_from i f at = ◌>>=◌ (binary_from i f Leading 10 3) (λ x. on (mark marks.Question) (λ _. branches i f at x.value) (returns x))
 
-abbrev assignment_from : Inner → Flags → ℕ → Parser Reading
+abbrev pub assignment_from : Inner → Flags → ℕ → Parser Reading
 assignment_from i f at = choose f.has_yield (on (word (codes "yield")) (λ _. after_yield i f at) (without_yield i f at)) (without_yield i f at)
 
-abbrev sequence_from : Inner → Flags → ℕ → Parser Reading
+abbrev pub sequence_from : Inner → Flags → ℕ → Parser Reading
 sequence_from i f at = ◌>>=◌ (assignment i f) (λ x. on (mark marks.Comma) (λ _. more_parts i f at x.value) (returns x))
 
-abbrev arrow_from : Inner → Flags → ℕ → Reading → ℕ → Parser Reading
+abbrev pub arrow_from : Inner → Flags → ℕ → Reading → ℕ → Parser Reading
 arrow_from i f at x place = arrow_if i f at (parameters_before i.fuel x.shape x.value)
 
-abbrev property_from : Inner → Flags → ℕ → Parser Property
+abbrev pub property_from : Inner → Flags → ℕ → Parser Property
 property_from i f at = on (mark marks.Star) (λ _. ◌>>=◌ (generator_method i f at) (λ m. returns (property.Defined m))) (on accessor_at (λ setter. after_accessor_word i f at setter)
     (on free_name (λ name. ◌>>=◌ (made {A = Identifier} at (λ span. record { span = span; name = name })) (λ n. after_name i f at n)) (◌>>=◌ (key i f) (λ k. after_key i f at k))))
 

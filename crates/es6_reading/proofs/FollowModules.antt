@@ -31,27 +31,27 @@ use Rattle.es6_reading.proofs.FollowParts.{follow-identifier, follow-any-name, w
 use Rattle.es6_reading.proofs.FollowLevels.{sequence-stops, follow-sequence, follow-assignment}
 use Rattle.es6_reading.proofs.FollowStatements.{follow-semicolon, follow-variables-statement, if-statement-stops, follow-if, follow-do, follow-while, follow-for, follow-continue, follow-break, follow-return, follow-throw, follow-debugger, follow-switch, follow-try}
 
-abbrev statement_from : Inner → Flags → Stand → ℕ → Parser Statement
+abbrev pub statement_from : Inner → Flags → Stand → ℕ → Parser Statement
 statement_from i f stand at = if_next (next_mark marks.LeftBrace) (block_statement i f) (if_next (next_word (codes "if")) (if_statement i f at)
     (on (mark marks.Semicolon) (λ _. made at (λ span. stat.Empty span)) (on (word (codes "var")) (λ _. variables_statement i f at Var) (compound_statement i f stand at))))
 
-abbrev specifier_from : ℕ → Parser Specifier
+abbrev pub specifier_from : ℕ → Parser Specifier
 specifier_from at = ◌>>=◌ (take_as text_at) (λ units. made at (λ span. record { span = span; text = units }))
 
-abbrev import_from : ℕ → Parser ImportName
+abbrev pub import_from : ℕ → Parser ImportName
 import_from at = ◌>>=◌ name_of_any_kind (λ n. on (word (codes "as")) (λ _. ◌>>=◌ identifier (λ m. made at (import_of n m))) (choose (is_identifier n.name) (made at (import_of n n)) refused))
 
-abbrev export_from : ℕ → Parser ExportName
+abbrev pub export_from : ℕ → Parser ExportName
 export_from at = ◌>>=◌ name_of_any_kind (λ n. on (word (codes "as")) (λ _. ◌>>=◌ name_of_any_kind (λ m. made at (export_of n m))) (made at (export_of n n)))
 
-abbrev default_from : Inner → ℕ → Span → ℕ → Parser Item
+abbrev pub default_from : Inner → ℕ → Span → ℕ → Parser Item
 default_from i at word_span inside = on (word (codes "function")) (λ _. ◌>>=◌ (function_after_word i true inside) (λ g. made at (λ span. item.ExportDefault span word_span (DefaultFunction g))))
     (on (word (codes "class")) (λ _. ◌>>=◌ (class_after_word i of_module true inside) (λ c. made at (λ span. item.ExportDefault span word_span (DefaultClass c)))) (default_value i at word_span))
 
-abbrev declaration_from : Inner → ℕ → Parser Statement
+abbrev pub declaration_from : Inner → ℕ → Parser Statement
 declaration_from i inside = on (word (codes "var")) (λ _. variables_statement i of_module inside Var) (on_declaration i of_module inside refused)
 
-abbrev item_from : Inner → ℕ → Parser Item
+abbrev pub item_from : Inner → ℕ → Parser Item
 item_from i at = on (word (codes "import")) (λ _. import_item i at) (on (word (codes "export")) (λ _. export_item i at) (statement_item i))
 
 specifier-free : (l place place' : ℕ) (d : Bool) (at : ℕ) (us : List Filled) (last : ℕ) → specifier_from place (record { tokens = semi d at ∷ us; last = last }) ≡ specifier_from place' (record { tokens = semi d at ∷ us; last = last })

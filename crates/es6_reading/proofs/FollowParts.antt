@@ -32,10 +32,10 @@ use Rattle.es6_reading.proofs.FollowEnds.{Follows}
 
 -- ## Names
 
-abbrev identifier_from : ℕ → Parser Identifier
+abbrev pub identifier_from : ℕ → Parser Identifier
 identifier_from at = ◌>>=◌ (take_as free_name) (λ name. made at (λ span. record { span = span; name = name }))
 
-abbrev any_name_from : ℕ → Parser Identifier
+abbrev pub any_name_from : ℕ → Parser Identifier
 any_name_from at = ◌>>=◌ (take_as any_name) (λ name. made at (λ span. record { span = span; name = name }))
 
 pub follow-identifier : (s : Input) → Runs (λ l. identifier) identifier s
@@ -67,41 +67,41 @@ follow-no-parameter s = bind-follows _ _ _ _ s (mark-follows marks.RightParenthe
 
 -- ## What begins at a place
 
-abbrev key_from : Inner → Flags → ℕ → Parser Key
+abbrev pub key_from : Inner → Flags → ℕ → Parser Key
 key_from i f at = on key_at (λ k. made at (λ span. key_of span k)) (on_group i marks.LeftBracket (computed_key i f at) no_number)
 
-abbrev array_parts_from : Inner → Flags → Parser (List ArrayPart) → ℕ → Parser (List ArrayPart)
+abbrev pub array_parts_from : Inner → Flags → Parser (List ArrayPart) → ℕ → Parser (List ArrayPart)
 array_parts_from i f more at = on (mark marks.RightBracket) (λ _. returns []) (on (mark marks.Comma) (λ _. ◌>>=◌ more (λ es. returns (SkippedPart ∷ es))) (on (mark marks.Ellipsis) (λ _. rest_part at)
     (◌>>=◌ (i.part f) (λ q. on (mark marks.Comma) (λ _. ◌>>=◌ more (λ es. returns (SinglePart q ∷ es))) (◌>>=◌ (take_as (mark marks.RightBracket)) (λ _. returns (SinglePart q ∷ [])))))))
 
-abbrev binding_from : Inner → Flags → ℕ → Parser Pattern
+abbrev pub binding_from : Inner → Flags → ℕ → Parser Pattern
 binding_from i f at = on free_name (λ name. made at (λ span. name_target (record { span = span; name = name }))) (binding_pattern i f at)
 
-abbrev initialized_from : Inner → Flags → Flags → ℕ → Parser Part
+abbrev pub initialized_from : Inner → Flags → Flags → ℕ → Parser Part
 initialized_from i f g at = ◌>>=◌ (binding i f) (λ p. on (mark marks.Assign) (λ _. ◌>>=◌ (i.assignment g) (λ x. made at (λ span. roll-Part (record { span = span; pattern = p; default = Some x.value }))))
     (made at (λ span. roll-Part (record { span = span; pattern = p; default = None }))))
 
-abbrev object_part_from : Inner → Flags → ℕ → Parser ObjectPart
+abbrev pub object_part_from : Inner → Flags → ℕ → Parser ObjectPart
 object_part_from i f at = on free_name (λ name. ◌>>=◌ (made {A = Identifier} at (λ span. record { span = span; name = name })) (λ n. on (mark marks.Colon) (λ _. keyed_part i f at (WordKey n.span n.name)) (named_part i f at n)))
     (◌>>=◌ (key i f) (λ k. ◌>>=◌ (take_as (mark marks.Colon)) (λ _. keyed_part i f at k)))
 
-abbrev more_parameters_from : Inner → Flags → Parser (List Parameter) → ℕ → Parser (List Parameter)
+abbrev pub more_parameters_from : Inner → Flags → Parser (List Parameter) → ℕ → Parser (List Parameter)
 more_parameters_from i f more at = on (mark marks.Ellipsis) (λ _. ◌>>=◌ (rest_parameter at) (λ e. returns (e ∷ [])))
     (◌>>=◌ (i.part f) (λ q. on (mark marks.Comma) (λ _. ◌>>=◌ more (λ es. returns (SingleParameter q ∷ es))) (◌>>=◌ (take_as (mark marks.RightParenthesis)) (λ _. returns (SingleParameter q ∷ [])))))
 
-abbrev block_from : Inner → Flags → ℕ → Parser Block
+abbrev pub block_from : Inner → Flags → ℕ → Parser Block
 block_from i f at = group i marks.LeftBrace (◌>>=◌ (statements i f i.fuel) (λ ss. made at (λ span. roll-Block (record { span = span; statements = ss }))))
 
-abbrev method_parameters_from : Inner → MethodKind → Bool → ℕ → Key → ℕ → Parser Method
+abbrev pub method_parameters_from : Inner → MethodKind → Bool → ℕ → Key → ℕ → Parser Method
 method_parameters_from i kind generator at k place = ◌>>=◌ (signature i generator) (λ s. ◌>>=◌ (made place (λ span. span)) (λ c. made at (λ span. method_of span kind k c s.parameters s.body)))
 
-abbrev accessor_parameters_from : Inner → ℕ → Bool → Key → ℕ → Parser Method
+abbrev pub accessor_parameters_from : Inner → ℕ → Bool → Key → ℕ → Parser Method
 accessor_parameters_from i at setter k place = ◌>>=◌ (group i marks.LeftParenthesis (accessor_parameters i setter)) (λ es. ◌>>=◌ (function_body i false) (λ ss. ◌>>=◌ (made place (λ span. span)) (λ c. made at (λ span. method_of span (accessor_kind setter) k c es ss))))
 
-abbrev method_from : Inner → Flags → ℕ → Parser Method
+abbrev pub method_from : Inner → Flags → ℕ → Parser Method
 method_from i f at = on (mark marks.Star) (λ _. generator_method i f at) (on accessor_at (λ setter. method_after_accessor_word i f at setter) (◌>>=◌ (key i f) (λ k. method_after_key i PlainMethod false at k)))
 
-abbrev member_from : Inner → Flags → ℕ → Parser ClassMember
+abbrev pub member_from : Inner → Flags → ℕ → Parser ClassMember
 member_from i f at = on (word (codes "static")) (λ _. member_after_static i f at) (◌>>=◌ (method i f) (λ m. made at (member_of false m)))
 
 module _ (i : Inner) (i' : ℕ → Inner) (h : Follows i i') where

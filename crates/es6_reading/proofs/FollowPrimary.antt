@@ -31,7 +31,7 @@ follow-covered-rest : (at dots : ℕ) (held : Option Expression) (s : Input) →
 unfolding covered_rest
 follow-covered-rest at dots held s = bind-follows _ _ _ _ s (follow-identifier s) (λ n c. bind-follows _ _ _ _ c (made-at-follows {A = Rest} dots (λ span. record { span = span; name = n }) c) (λ r d. bind-follows _ _ _ _ d (mark-follows marks.RightParenthesis d) (λ t e. follow-covered at held (Some r) e)))
 
-abbrev rest_from : ℕ → Expression → Refined (List Parameter) → ℕ → Parser Reading
+abbrev pub rest_from : ℕ → Expression → Refined (List Parameter) → ℕ → Parser Reading
 rest_from at held r dots = rest_after at dots held r
 
 -- what takes a rest, by what looks at more of the nesting of what stands before it
@@ -68,19 +68,19 @@ mapped {stands = stands} {p = p} {s = s} {c = c} {x = x} k nears r = record {
   run = λ l rest h. ap (λ o. after o (λ y. returns (k y))) (r.run l rest h);
 }
 
-abbrev argument_from : Inner → Flags → ℕ → Parser Argument
+abbrev pub argument_from : Inner → Flags → ℕ → Parser Argument
 argument_from i f at = on (mark marks.Ellipsis) (λ _. ◌>>=◌ (i.assignment (with_in f)) (λ x. made at (λ span. Spread span x.value))) (◌>>=◌ (i.assignment (with_in f)) (λ x. returns (Single x.value)))
 
-abbrev held_group_from : Inner → Flags → Role → ℕ → ℕ → Parser Reading
+abbrev pub held_group_from : Inner → Flags → Role → ℕ → ℕ → Parser Reading
 held_group_from i f role at inside = ◌>>=◌ (held_parts i f role i.fuel) (λ h. choose h.before_rest (from (λ dots. rest_after at dots (whole inside h) (parameters_of i.fuel (h.first ∷ h.more)))) (closed_group at (whole inside h)))
 
-abbrev dots_from : Inner → Flags → Role → ℕ → ℕ → Parser Reading
+abbrev pub dots_from : Inner → Flags → Role → ℕ → ℕ → Parser Reading
 dots_from i f role at dots = on (mark marks.Ellipsis) (λ _. covered_rest at dots None) (held_group i f role at)
 
-abbrev links_from : Inner → Flags → Bool → Parser (List Link) → ℕ → Parser (List Link)
+abbrev pub links_from : Inner → Flags → Bool → Parser (List Link) → ℕ → Parser (List Link)
 links_from i f calls more at = on_link i f calls at (λ x. ◌>>=◌ more (λ ls. returns (x ∷ ls))) (returns [])
 
-abbrev chain_from : Inner → Flags → Role → ℕ → Parser Reading
+abbrev pub chain_from : Inner → Flags → Role → ℕ → Parser Reading
 chain_from i f role at = ◌>>=◌ (head i f role at) (λ x. ◌>>=◌ (links i f (has_calls role) i.fuel) (λ ls. made at (chained x ls)))
 
 follow-no-operand : {A : Type 0} {p' : ℕ → Parser A} (role : Role) (s : Input) → Runs p' (no_operand role) s

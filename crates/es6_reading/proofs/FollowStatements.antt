@@ -36,7 +36,7 @@ goes-none : (d : Bool) (at : ℕ) → goes_on (semi d at) ≡ false
 goes-none true at = refl
 goes-none false at = refl
 
-abbrev label_from : ℕ → Parser (Option Identifier)
+abbrev pub label_from : ℕ → Parser (Option Identifier)
 label_from at = on label_at (λ name. made at (λ span. Some (record { span = span; name = name }))) (returns None)
 
 follow-label : (s : Input) → Runs (λ l. optional_label) optional_label s
@@ -57,16 +57,16 @@ follow-variables one one' h (suc turns) s = bind-follows _ _ _ _ s (follow-one-v
 whatever-follows : {A : Type 0} (x : A) (s : Input) → Holds (FollowedBy Whatever (λ l. returns x) s) (returns x s)
 whatever-follows x s = took (record { filled = []; ends = refl; gaps = stop; run = λ l rest k. refl })
 
-abbrev condition_from : Inner → Flags → ℕ → Parser Condition
+abbrev pub condition_from : Inner → Flags → ℕ → Parser Condition
 condition_from i f at = ◌>>=◌ (take_as (word (codes "if"))) (λ _. ◌>>=◌ (parenthesized i f) (λ test. ◌>>=◌ (i.statement f Under) (λ s. made at (λ span. roll-Condition (record { span = span; test = test; body = s })))))
 
-abbrev header_from : Inner → Flags → ℕ → Parser Header
+abbrev pub header_from : Inner → Flags → ℕ → Parser Header
 header_from i f at = on (mark marks.Semicolon) (λ _. rest_of_for i f NoFirst) (on kind_at (λ kind. for_variables i f at kind) (for_expression i f))
 
-abbrev handler_from : Inner → Flags → ℕ → Parser Catch
+abbrev pub handler_from : Inner → Flags → ℕ → Parser Catch
 handler_from i f at = ◌>>=◌ (take_as (word (codes "catch"))) (λ _. ◌>>=◌ (group i marks.LeftParenthesis (catch_parameter i f)) (λ p. ◌>>=◌ (block i f) (λ b. made at (λ span. roll-Catch (record { span = span; parameter = p; body = b })))))
 
-abbrev cases_from : Inner → Flags → Bool → Parser (List Case) → Parser (List Case) → ℕ → Parser (List Case)
+abbrev pub cases_from : Inner → Flags → Bool → Parser (List Case) → Parser (List Case) → ℕ → Parser (List Case)
 cases_from i f may more last at = on (mark marks.RightBrace) (λ _. returns []) (on (word (codes "case")) (λ _. ◌>>=◌ (case_clause i f at) (λ c. ◌>>=◌ more (λ cs. returns (c ∷ cs))))
     (choose may (on (word (codes "default")) (λ _. ◌>>=◌ (default_clause i f at) (λ c. ◌>>=◌ last (λ cs. returns (c ∷ cs)))) refused) refused))
 

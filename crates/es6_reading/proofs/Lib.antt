@@ -76,6 +76,9 @@ pub mod CompleteParts
 pub mod CompleteFunctions
 pub mod CompleteForms
 pub mod Completeness
+pub mod Forks
+pub mod ForksOfModules
+pub mod OneModule
 pub mod CompleteMethods
 pub mod CompleteClasses
 pub mod CompleteDeclared

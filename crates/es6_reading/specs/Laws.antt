@@ -46,6 +46,10 @@ IsInserted = (fuel : ℕ) (tokens : List Token) (m : Module) (after : Input) →
 abbrev pub AreSpelled : Type 0
 AreSpelled = (fuel : ℕ) (tokens : List Token) (m : Module) (after : Input) → read_module fuel (map read tokens) ≡ Took m after → SpellsModule tokens m
 
+-- No tokens spell two modules.
+abbrev pub IsUnique : Type 0
+IsUnique = (tokens : List Token) (m n : Module) → SpellsModule tokens m → SpellsModule tokens n → m ≡ n
+
 -- an import, or an export of names (15.2.2, 15.2.3)
 abbrev pub IsLink : Item → Type 0
 IsLink (item.Import span default_ names specifier) = Unit {0}

@@ -5,7 +5,7 @@
 #![tactic(auto)]
 
 ghost use Rattle.es6_reading.specs.Examples.{AreRead, AreStopped, IsDeepest};
-ghost use Rattle.es6_reading.specs.Laws.{AreSpelled, FaultsAreInside, IsComplete, IsInserted, IsSound, IsUnambiguous, LinksAreRead};
+ghost use Rattle.es6_reading.specs.Laws.{AreSpelled, FaultsAreInside, IsComplete, IsInserted, IsSound, IsUnambiguous, IsUnique, LinksAreRead};
 ghost use Rattle.es6_reading.specs.Program.{IsProgramRead};
 ghost use Rattle.es6_reading.specs.Refinements.{AreRefined, ComeFromExpressions};
 
@@ -29,6 +29,11 @@ pub fn derivations_give_one_module()
 /// the grammar allows one and before a token with which it has nothing to go on.
 pub fn modules_are_spelled()
     ensures { AreSpelled }
+{}
+
+/// No tokens spell two modules, whatever semicolons are put in among them.
+pub fn tokens_spell_one_module()
+    ensures { IsUnique }
 {}
 
 /// A semicolon is inserted only before a token with which no module goes on that is read without inserting any, and what is read
