@@ -1,5 +1,8 @@
--- A reader leaves a rest of the tokens that it was given, also where it stops at a fault.
-use Rattle.std.proofs.Common.{ℕ, zero, suc, Bool, true, false, List, [], ◌∷◌, Option, Some, None}
+-- A reader leaves a rest of the tokens that it was given, also where it stops at a fault, and the fault says what stands there.
+use Rattle.std.proofs.Common.{◌≡◌, ◌∙◌, ℕ, zero, suc, inl, inr, Bool, true, false, List, [], ◌∷◌, Option, Some, None, ap, sym, refl, arith}
+use Rattle.std.proofs.lemmas.Bool.{false≢true}
+use Rattle.es6_lexer.specs.declared.token.TokenKind.TheVariants as kinds
+use Rattle.es6_lexer.specs.declared.token.NumberToken.TheVariants.{TooLarge, Marked}
 use Rattle.es6_lexer.specs.declared.token.Punctuator.{Punctuator as Mark}
 use Rattle.es6_lexer.specs.declared.token.Punctuator.TheVariants as marks
 use Rattle.es6_ast.specs.declared.operators.AssignOperator.{AssignOperator}
@@ -13,14 +16,15 @@ use Rattle.es6_ast.specs.declared.tree.Parameter.{Parameter}
 use Rattle.es6_ast.specs.declared.tree.Rest.{Rest as Dots}
 use Rattle.es6_ast.specs.declared.tree.Stretch.{Stretch}
 use Rattle.es6_ast.specs.declared.tree.Template.{Template}
-use Rattle.es6_ast.specs.Tokens.{Filled}
+use Rattle.es6_ast.specs.Tokens.{Filling, Read, Filled}
 use Rattle.es6_ast.specs.Grammar.{Flags, with_in, of_function, of_arrow}
 use Rattle.es6_reading.specs.Parser as p
-use Rattle.es6_reading.specs.Parser.{Input, Stop, Outcome, Took, Fault, Parser, after, on, on_taken, choose, next_is, if_next, take_as, mark, refused, no_number, no_expression, Reading, is_left, Stand, Listed, Under, Labelled, Inner, on_group, semicolon, is_insertable}
+use Rattle.es6_reading.specs.Parser.{Input, Stop, Syntax, Lexical, Outside, Depth, Endless, Outcome, Took, Fault, Parser, fails, after, stop_in, number_stop_in, expression_stop_in, stop_at, on, on_taken, choose, next_is, if_next, take_as, mark, refused, no_number, no_expression, Reading, is_left, Stand, Listed, Under, Labelled, Inner, on_group, semicolon, is_insertable}
 use Rattle.es6_reading.specs.Refine.{Refined, Fits, Misfit, TooNested}
 use Rattle.es6_reading.specs.Parts as t6
 use Rattle.es6_reading.specs.Expressions as e
 use Rattle.es6_reading.specs.Expressions.{Role, Leading, Among, Heritage, Callee}
+use Rattle.es6_reading.specs.Laws.{regular_expression, marked_number, large_number, Says}
 
 pub data Rest : List Filled → List Filled → Type 0 where
   all : {ts : List Filled} → Rest ts ts
@@ -30,35 +34,79 @@ pub rest-of : {ts us vs : List Filled} → Rest ts us → Rest us vs → Rest ts
 rest-of all h = h
 rest-of (less g) h = less (rest-of g h)
 
+-- ## What is said of a token where a reader stops at it
+
+abbrev is_fault : Filling → Bool
+is_fault (Read (kinds.Fault kind)) = true
+is_fault k = false
+
+no_fault : (t : Filled) (ts : List Filled) → is_fault t.kind ≡ false → Says Syntax (t ∷ ts)
+no_fault t ts h kind e = false≢true (sym h ∙ ap is_fault e)
+
+says_in : (k : Filling) (t : Filled) (ts : List Filled) → t.kind ≡ k → Says (stop_in k) (t ∷ ts)
+says_in (Read (kinds.Fault kind)) t ts e = e
+says_in k t ts e = no_fault t ts (ap is_fault e)
+
+says_in_number : (k : Filling) (t : Filled) (ts : List Filled) → t.kind ≡ k → Says (number_stop_in k) (t ∷ ts)
+says_in_number (Read (kinds.Number TooLarge)) t ts e = (omega arith, omega arith, large_number e)
+says_in_number (Read (kinds.Number Marked)) t ts e = (omega arith, omega arith, marked_number e)
+says_in_number k t ts e = says_in k t ts e
+
+says_in_expression : (k : Filling) (t : Filled) (ts : List Filled) → t.kind ≡ k → Says (expression_stop_in k) (t ∷ ts)
+says_in_expression (Read (kinds.Punctuator marks.Slash)) t ts e = (omega arith, omega arith, regular_expression (inl e))
+says_in_expression (Read (kinds.Punctuator marks.SlashAssign)) t ts e = (omega arith, omega arith, regular_expression (inr e))
+says_in_expression k t ts e = says_in_number k t ts e
+
+says_at : (stop : Filling → Stop) → ((k : Filling) (t : Filled) (ts : List Filled) → t.kind ≡ k → Says (stop k) (t ∷ ts)) → (ts : List Filled) → Says (stop_at stop ts) ts
+says_at stop h [] = λ kind e. e
+says_at stop h (t ∷ ts) = h t.kind t ts refl
+
+-- ## What a reader leaves
+
 pub data Leaves {A : Type 0} (ts : List Filled) : Outcome A → Type 0 where
   took_rest : {x : A} {c : Input} → Rest ts c.tokens → Leaves ts (Took x c)
-  fault_rest : {stop : Stop} {us : List Filled} → Rest ts us → Leaves ts (Fault stop us)
+  fault_rest : {stop : Stop} {us : List Filled} → Says stop us → Rest ts us → Leaves ts (Fault stop us)
 
 pub further : {A : Type 0} {ts us : List Filled} {o : Outcome A} → Rest ts us → Leaves us o → Leaves ts o
 further h (took_rest r) = took_rest (rest-of h r)
-further h (fault_rest r) = fault_rest (rest-of h r)
+further h (fault_rest k r) = fault_rest k (rest-of h r)
 
 pub bind : {A B : Type 0} {ts : List Filled} {o : Outcome A} {q : A → Parser B} → Leaves ts o → ((x : A) (c : Input) → Leaves c.tokens (q x c)) → Leaves ts (after o q)
 bind (took_rest r) f = further r (f _ _)
-bind (fault_rest r) f = fault_rest r
+bind (fault_rest k r) f = fault_rest k r
 
 pub done : {A : Type 0} {x : A} {c : Input} → Leaves c.tokens (Took x c)
 done = took_rest all
 
-pub stopped : {A : Type 0} {stop : Stop} {ts : List Filled} → Leaves {A = A} ts (Fault stop ts)
-stopped = fault_rest all
+pub endless : {A : Type 0} {ts : List Filled} → Leaves {A = A} ts (Fault Endless ts)
+endless = fault_rest tt all
+
+pub deep : {A : Type 0} {ts : List Filled} → Leaves {A = A} ts (Fault Depth ts)
+deep = fault_rest tt all
 
 pub nowhere : {A : Type 0} (s : Input) → Leaves {A = A} s.tokens (refused s)
 unfolding refused
-nowhere s = stopped
+nowhere s = fault_rest (says_at stop_in says_in s.tokens) all
 
 pub number : {A : Type 0} (s : Input) → Leaves {A = A} s.tokens (no_number s)
 unfolding no_number
-number s = stopped
+number s = fault_rest (says_at number_stop_in says_in_number s.tokens) all
 
 pub expression : {A : Type 0} (s : Input) → Leaves {A = A} s.tokens (no_expression s)
 unfolding no_expression
-expression s = stopped
+expression s = fault_rest (says_at expression_stop_in says_in_expression s.tokens) all
+
+-- a stop at a token that the test knows
+pub stops : {A : Type 0} (stop : Stop) (test : Filled → Bool) (q : Parser A) (s : Input) → ((t : Filled) (ts : List Filled) → test t ≡ true → Says stop (t ∷ ts)) → Leaves s.tokens (q s) → Leaves s.tokens (if_next test (fails stop) q s)
+stops {A = A} stop test q s f g = at s.tokens s.last g
+  where
+    at : (ts : List Filled) (last : ℕ) → Leaves ts (q (record { tokens = ts; last = last })) → Leaves ts (if_next test (fails stop) q (record { tokens = ts; last = last }))
+    at [] last g = g
+    at (t ∷ ts) last g = known (test t) refl g
+      where
+        known : (b : Bool) → test t ≡ b → Leaves (t ∷ ts) (q (record { tokens = t ∷ ts; last = last })) → Leaves (t ∷ ts) (choose b (fails stop) q (record { tokens = t ∷ ts; last = last }))
+        known true e g = fault_rest (f t ts e) all
+        known false e g = g
 
 pub next : {A B : Type 0} (test : Filled → Option B) (p : B → Parser A) (q : Parser A) (s : Input) → ((x : B) (c : Input) → Leaves c.tokens (p x c)) → Leaves s.tokens (q s) → Leaves s.tokens (on test p q s)
 next {A = A} {B = B} test p q s f g = at s.tokens s.last g
@@ -82,7 +130,7 @@ pub looks : {A : Type 0} (test : Filled → Bool) (p q : Parser A) (s : Input) �
 looks test p q s f g = either (next_is test s.tokens) p q s f g
 
 pub group : {A : Type 0} (i : Inner) (m : Mark) (p q : Parser A) (s : Input) → ((c : Input) → Leaves c.tokens (p c)) → (Unit {0} → Leaves s.tokens (q s)) → Leaves s.tokens (on_group i m p q s)
-group i m p q s f g = looks _ _ q s (either i.may_open _ _ s (next (mark m) (λ t. p) q s (λ t c. f c) (g tt)) stopped) (g tt)
+group i m p q s f g = looks _ _ q s (either i.may_open _ _ s (next (mark m) (λ t. p) q s (λ t c. f c) (g tt)) deep) (g tt)
 
 pub record Placed (i : Inner) : Type 0 where
   pub sequence : (f : Flags) (s : Input) → Leaves s.tokens (i.sequence f s)
@@ -149,7 +197,7 @@ covered_rest at dots held s = bind (identifier s) λ n c. bind (take _ c) λ t d
 rest_after : (at dots : ℕ) (held : Expression) (r : Refined (List Parameter)) (s : Input) → Leaves s.tokens (e.rest_after at dots held r s)
 rest_after at dots held (Fits es) s = next _ _ _ s (λ t c. covered_rest at dots (Some held) c) (nowhere s)
 rest_after at dots held (Misfit place) s = nowhere s
-rest_after at dots held TooNested s = stopped
+rest_after at dots held TooNested s = endless
 
 closed_group : (at : ℕ) (held : Expression) (s : Input) → Leaves s.tokens (e.closed_group at held s)
 unfolding e.closed_group
@@ -162,7 +210,7 @@ member_link at s = bind (any_name s) λ n c. done
 pub fitting : {A : Type 0} (r : Refined A) (s : Input) → Leaves s.tokens (e.fitting r s)
 fitting (Fits x) s = done
 fitting (Misfit place) s = nowhere s
-fitting TooNested s = stopped
+fitting TooNested s = endless
 
 module _ (i : Inner) (h : Placed i) where
   key : (f : Flags) (s : Input) → Leaves s.tokens (t6.key i f s)
@@ -171,13 +219,13 @@ module _ (i : Inner) (h : Placed i) where
 
   array_parts : (f : Flags) (n : ℕ) (s : Input) → Leaves s.tokens (t6.array_parts i f n s)
   unfolding t6.array_parts
-  array_parts f zero s = stopped
+  array_parts f zero s = endless
   array_parts f (suc n) s = next _ _ _ s (λ t c. done) (next _ _ _ s (λ t c. bind (array_parts f n c) λ x d. done) (next _ _ _ s (λ t c. rest_part _ c)
       (bind (h.part f s) λ q c. next _ _ _ c (λ t d. bind (array_parts f n d) λ x k. done) (bind (take _ c) λ t d. done))))
 
   object_parts : (f : Flags) (n : ℕ) (s : Input) → Leaves s.tokens (t6.object_parts i f n s)
   unfolding t6.object_parts
-  object_parts f zero s = stopped
+  object_parts f zero s = endless
   object_parts f (suc n) s = next _ _ _ s (λ t c. done) (bind (h.object_part f s) λ q c. next _ _ _ c (λ t d. bind (object_parts f n d) λ x k. done) (bind (take _ c) λ t d. done))
 
   binding_pattern : (f : Flags) (at : ℕ) (s : Input) → Leaves s.tokens (t6.binding_pattern i f at s)
@@ -210,7 +258,7 @@ module _ (i : Inner) (h : Placed i) where
 
   more_parameters : (f : Flags) (n : ℕ) (s : Input) → Leaves s.tokens (t6.more_parameters i f n s)
   unfolding t6.more_parameters
-  more_parameters f zero s = stopped
+  more_parameters f zero s = endless
   more_parameters f (suc n) s = next _ _ _ s (λ t c. bind (rest_parameter _ c) λ x d. done) (bind (h.part f s) λ q c. next _ _ _ c (λ t d. bind (more_parameters f n d) λ x k. done) (bind (take _ c) λ t d. done))
 
   parameters : (f : Flags) (s : Input) → Leaves s.tokens (t6.parameters i f s)
@@ -219,7 +267,7 @@ module _ (i : Inner) (h : Placed i) where
 
   statements : (f : Flags) (n : ℕ) (s : Input) → Leaves s.tokens (t6.statements i f n s)
   unfolding t6.statements
-  statements f zero s = stopped
+  statements f zero s = endless
   statements f (suc n) s = next _ _ _ s (λ t c. done) (bind (h.statement f Listed s) λ x c. bind (statements f n c) λ y d. done)
 
   pub block : (f : Flags) (s : Input) → Leaves s.tokens (t6.block i f s)
@@ -277,7 +325,7 @@ module _ (i : Inner) (h : Placed i) where
 
   members : (f : Flags) (n : ℕ) (s : Input) → Leaves s.tokens (t6.members i f n s)
   unfolding t6.members
-  members f zero s = stopped
+  members f zero s = endless
   members f (suc n) s = next _ _ _ s (λ t c. done) (next _ _ _ s (λ t c. members f n c) (bind (h.member f s) λ m c. bind (members f n c) λ ms d. done))
 
   heritage : (f : Flags) (s : Input) → Leaves s.tokens (t6.heritage i f s)
@@ -298,7 +346,7 @@ module _ (i : Inner) (h : Placed i) where
 
   template_parts : (f : Flags) (n : ℕ) (s : Input) → Leaves s.tokens (t6.template_parts i f n s)
   unfolding t6.template_parts
-  template_parts f zero s = stopped
+  template_parts f zero s = endless
   template_parts f (suc n) s = bind (h.sequence (with_in f) s) λ x c. next _ _ _ c (λ r d. done) (bind (take _ c) λ r d. bind (template_parts f n d) λ ms k. done)
 
   parted : (f : Flags) (at : ℕ) (r : Stretch) (s : Input) → Leaves s.tokens (t6.parted_template i f at r s)
@@ -306,7 +354,7 @@ module _ (i : Inner) (h : Placed i) where
   parted f at r s = bind (template_parts f i.fuel s) λ ms c. done
 
   on_template : {A : Type 0} (f : Flags) (at : ℕ) (p : Template → Parser A) (q : Parser A) (s : Input) → ((m : Template) (c : Input) → Leaves c.tokens (p m c)) → Leaves s.tokens (q s) → Leaves s.tokens (t6.on_template i f at p q s)
-  on_template f at p q s k g = next _ _ _ s (λ r c. k _ c) (next _ _ _ s (λ r c. either i.may_open _ _ c (bind (parted f at r c) λ m d. k m d) stopped) g)
+  on_template f at p q s k g = next _ _ _ s (λ r c. k _ c) (next _ _ _ s (λ r c. either i.may_open _ _ c (bind (parted f at r c) λ m d. k m d) deep) g)
 
   argument : (f : Flags) (s : Input) → Leaves s.tokens (e.argument i f s)
   unfolding e.argument
@@ -314,13 +362,13 @@ module _ (i : Inner) (h : Placed i) where
 
   elements : (f : Flags) (n : ℕ) (s : Input) → Leaves s.tokens (e.elements i f n s)
   unfolding e.elements
-  elements f zero s = stopped
+  elements f zero s = endless
   elements f (suc n) s = next _ _ _ s (λ t c. done) (next _ _ _ s (λ t c. bind (elements f n c) λ l d. done)
       (bind (argument f s) λ a c. next _ _ _ c (λ t d. next _ _ _ d (λ u k. done) (bind (elements f n d) λ l k. done)) (bind (take _ c) λ t d. done)))
 
   more_arguments : (f : Flags) (n : ℕ) (s : Input) → Leaves s.tokens (e.more_arguments i f n s)
   unfolding e.more_arguments
-  more_arguments f zero s = stopped
+  more_arguments f zero s = endless
   more_arguments f (suc n) s = bind (argument f s) λ a c. next _ _ _ c (λ t d. bind (more_arguments f n d) λ x k. done) (bind (take _ c) λ t d. done)
 
   arguments : (f : Flags) (s : Input) → Leaves s.tokens (e.arguments i f s)
@@ -329,12 +377,12 @@ module _ (i : Inner) (h : Placed i) where
 
   properties : (f : Flags) (n : ℕ) (s : Input) → Leaves s.tokens (e.properties i f n s)
   unfolding e.properties
-  properties f zero s = stopped
+  properties f zero s = endless
   properties f (suc n) s = next _ _ _ s (λ t c. done) (bind (h.property f s) λ x c. next _ _ _ c (λ t d. bind (properties f n d) λ y k. done) (bind (take _ c) λ t d. done))
 
   held_parts : (f : Flags) (role : Role) (n : ℕ) (s : Input) → Leaves s.tokens (e.held_parts i f role n s)
   unfolding e.held_parts
-  held_parts f role zero s = stopped
+  held_parts f role zero s = endless
   held_parts f role (suc n) s = bind (h.assignment (with_in f) s) λ x c. next _ _ _ c (λ t d. looks _ _ _ d done (bind (held_parts f role n d) λ y k. done)) done
 
   held_group : (f : Flags) (role : Role) (at : ℕ) (s : Input) → Leaves s.tokens (e.held_group i f role at s)
@@ -385,7 +433,7 @@ module _ (i : Inner) (h : Placed i) where
 
   links : (f : Flags) (calls : Bool) (n : ℕ) (s : Input) → Leaves s.tokens (e.links i f calls n s)
   unfolding e.links
-  links f calls zero s = stopped
+  links f calls zero s = endless
   links f calls (suc n) s = on_link f calls _ _ _ s (λ l c. bind (links f calls n c) λ ls d. done) done
 
   pub chain : (f : Flags) (role : Role) (s : Input) → Leaves s.tokens (e.chain i f role s)
@@ -414,7 +462,7 @@ module _ (i : Inner) (h : Placed i) where
 
   operands : (f : Flags) (level : ℕ) (q : Parser Reading) (k : (s : Input) → Leaves s.tokens (q s)) (n : ℕ) (s : Input) → Leaves s.tokens (e.operands q f level n s)
   unfolding e.operands
-  operands f level q k zero s = stopped
+  operands f level q k zero s = endless
   operands f level q k (suc n) s = next _ _ _ s (λ op c. bind (k c) λ x d. bind (operands f level q k n d) λ y m. done) done
 
   binary : (f : Flags) (role : Role) (up level : ℕ) (s : Input) → Leaves s.tokens (e.binary_from i f role up level s)
@@ -433,7 +481,7 @@ module _ (i : Inner) (h : Placed i) where
   arrow_if : (f : Flags) (at : ℕ) (r : Refined (List Parameter)) (s : Input) → Leaves s.tokens (e.arrow_if i f at r s)
   arrow_if f at (Fits es) s = next _ _ _ s (λ t c. arrow_body f at es c) (nowhere s)
   arrow_if f at (Misfit place) s = nowhere s
-  arrow_if f at TooNested s = stopped
+  arrow_if f at TooNested s = endless
 
   assigned_with : (f : Flags) (at : ℕ) (x : Expression) (op : AssignOperator) (s : Input) → Leaves s.tokens (e.assigned_with i f at x op s)
   unfolding e.assigned_with
@@ -457,7 +505,7 @@ module _ (i : Inner) (h : Placed i) where
 
   parts : (f : Flags) (n : ℕ) (s : Input) → Leaves s.tokens (e.parts i f n s)
   unfolding e.parts
-  parts f zero s = stopped
+  parts f zero s = endless
   parts f (suc n) s = bind (assignment f s) λ x c. next _ _ _ c (λ t d. bind (parts f n d) λ y k. done) done
 
   pub sequence : (f : Flags) (s : Input) → Leaves s.tokens (e.sequence i f s)

@@ -1,6 +1,8 @@
--- Statements, imports, exports and modules leave a rest of the tokens that they were given, also where they stop at a fault.
-use Rattle.std.proofs.Common.{◌≡◌, ℕ, zero, suc, Bool, true, false, List, [], ◌∷◌, ◌++◌, Option, Some, None, refl, ap, subst}
-use Rattle.std.specs.Prelude.{is_some}
+-- Statements, imports, exports and modules leave a rest of the tokens that they were given, also where they stop at a fault, and the
+-- fault says what stands there.
+use Rattle.std.proofs.Common.{◌≡◌, ℕ, zero, suc, Bool, true, false, List, [], ◌∷◌, ◌++◌, ◌||◌, Option, Some, None, refl, ap, subst, arith}
+use Rattle.std.specs.Prelude.{is_some, codes}
+use Rattle.std.proofs.lemmas.Bool.{false≢true}
 use Rattle.es_text.specs.declared.Span.{Span}
 use Rattle.es6_lexer.specs.declared.token.Punctuator.TheVariants as marks
 use Rattle.es6_ast.specs.declared.operators.VariableKind.{VariableKind}
@@ -16,19 +18,33 @@ use Rattle.es6_ast.specs.declared.tree.Statement.{Statement}
 use Rattle.es6_ast.specs.declared.module.ExportName.{ExportName}
 use Rattle.es6_ast.specs.declared.module.ImportedNames.{ImportedNames}
 use Rattle.es6_ast.specs.declared.module.Module.{Module}
-use Rattle.es6_ast.specs.Tokens.{Filled, is_identifier}
+use Rattle.es6_ast.specs.Tokens.{Filled, is_word, is_identifier}
 use Rattle.es6_ast.specs.Grammar.{Flags, with_in, without_in, of_module}
-use Rattle.es6_reading.specs.Parser.{Input, Stop, Fault, Parser, is_left, Stand, Listed, Under, Labelled, Inner}
+use Rattle.es6_reading.specs.Parser.{Input, Stop, Syntax, Outside, Fault, Parser, next_word, is_left, Stand, Listed, Under, Labelled, Inner}
 use Rattle.es6_reading.specs.Statements as s6
 use Rattle.es6_reading.specs.Modules as m6
 use Rattle.es6_reading.specs.Expressions as e
-use Rattle.es6_reading.specs.Laws.{FaultsAreInside}
+use Rattle.es6_reading.specs.Laws.{FaultsAreInside, for_in, with, Says, FaultsSayWhatStandsThere}
 use Rattle.es6_reading.specs.Expressions.{Among, Heritage, Callee}
-use Rattle.es6_reading.proofs.Places.{Rest, all, less, Leaves, fault_rest, bind, done, stopped, nowhere, number, expression, next, take, either, looks, group, Placed, identifier, any_name, semicolon_, do_while_end, fitting, initialized, block, binding, one_part, object_part, named_function, function, class, member, assignment, sequence, unary, power, chain, property}
+use Rattle.es6_reading.proofs.Meanings.{word-is}
+use Rattle.es6_reading.proofs.Places.{Rest, all, less, Leaves, fault_rest, bind, done, deep, endless, stops, nowhere, number, expression, next, take, either, looks, group, Placed, identifier, any_name, semicolon_, do_while_end, fitting, initialized, block, binding, one_part, object_part, named_function, function, class, member, assignment, sequence, unary, power, chain, property}
+
+-- ## What is said of words
+
+says_in_word : (t : Filled) (ts : List Filled) → next_word (codes "in") t ≡ true → Says (Outside 1) (t ∷ ts)
+says_in_word t ts h = (omega arith, omega arith, for_in (word-is (codes "in") t.kind h))
+
+says_with : (t : Filled) (ts : List Filled) → next_word (codes "with") t ≡ true → Says (Outside 5) (t ∷ ts)
+says_with t ts h = (omega arith, omega arith, with (word-is (codes "with") t.kind h))
+
+says_declaration : (t : Filled) (ts : List Filled) → s6.begins_declaration t ≡ true → Says Syntax (t ∷ ts)
+says_declaration t ts h kind e = false≢true (subst (λ k. (is_word (codes "function") k || is_word (codes "class") k) ≡ true) e h)
+
+-- ## Readers
 
 variables : (one : Parser Part) (k : (s : Input) → Leaves s.tokens (one s)) (n : ℕ) (s : Input) → Leaves s.tokens (s6.variables one n s)
 unfolding s6.variables s6.one_variable
-variables one k zero s = stopped
+variables one k zero s = endless
 variables one k (suc n) s = bind (bind (k s) λ q c. either (s6.is_whole q) _ _ c done (nowhere c)) λ q c. next _ _ _ c (λ t d. bind (variables one k n d) λ qs m. done) done
 
 label : (s : Input) → Leaves s.tokens (s6.optional_label s)
@@ -45,7 +61,7 @@ one_import s = bind (any_name s) λ n c. next _ _ _ c (λ t d. bind (identifier 
 
 imports : (n : ℕ) (s : Input) → Leaves s.tokens (m6.imports n s)
 unfolding m6.imports
-imports zero s = stopped
+imports zero s = endless
 imports (suc n) s = next _ _ _ s (λ t c. done) (bind (one_import s) λ x c. next _ _ _ c (λ t d. bind (imports n d) λ y k. done) (bind (take _ c) λ t d. done))
 
 namespace : (s : Input) → Leaves s.tokens (m6.namespace s)
@@ -58,20 +74,20 @@ one_export s = bind (any_name s) λ n c. next _ _ _ c (λ t d. bind (any_name d)
 
 exports : (n : ℕ) (s : Input) → Leaves s.tokens (m6.exports n s)
 unfolding m6.exports
-exports zero s = stopped
+exports zero s = endless
 exports (suc n) s = next _ _ _ s (λ t c. done) (bind (one_export s) λ x c. next _ _ _ c (λ t d. bind (exports n d) λ y k. done) (bind (take _ c) λ t d. done))
 
 expression_stops : (begins : Filled → Bool) (s : Input) → Leaves s.tokens (e.expression_at_limit begins s)
 unfolding e.expression_at_limit
-expression_stops begins s = looks _ _ _ s stopped (expression s)
+expression_stops begins s = looks _ _ _ s deep (expression s)
 
 operand_stops : (s : Input) → Leaves s.tokens (e.operand_at_limit s)
 unfolding e.operand_at_limit
-operand_stops s = looks _ _ _ s stopped (number s)
+operand_stops s = looks _ _ _ s deep (number s)
 
 statement_stops : (f : Flags) (stand : Stand) (s : Input) → Leaves s.tokens (s6.statement_at_limit f stand s)
 unfolding s6.statement_at_limit
-statement_stops f stand s = looks _ _ _ s stopped (looks _ _ _ s stopped (expression s))
+statement_stops f stand s = looks _ _ _ s deep (stops (Outside 5) _ _ s says_with (expression s))
 
 module _ (i : Inner) (h : Placed i) where
   variables_statement : (f : Flags) (at : ℕ) (kind : VariableKind) (s : Input) → Leaves s.tokens (s6.variables_statement i f at kind s)
@@ -88,7 +104,7 @@ module _ (i : Inner) (h : Placed i) where
 
   otherwise : (f : Flags) (n : ℕ) (s : Input) → Leaves s.tokens (s6.otherwise i f n s)
   unfolding s6.otherwise
-  otherwise f zero s = stopped
+  otherwise f zero s = endless
   otherwise f (suc n) s = next _ _ _ s (λ t c. looks _ _ _ c (bind (condition f c) λ x d. bind (otherwise f n d) λ r k. done) (bind (h.statement f Under c) λ x d. done)) done
 
   if_statement : (f : Flags) (at : ℕ) (s : Input) → Leaves s.tokens (s6.if_statement i f at s)
@@ -125,7 +141,7 @@ module _ (i : Inner) (h : Placed i) where
 
   after_bare : (f : Flags) (at : ℕ) (kind : VariableKind) (q : Part) (s : Input) → Leaves s.tokens (s6.after_bare_variable i f at kind q s)
   unfolding s6.after_bare_variable
-  after_bare f at kind q s = looks _ _ _ s stopped (looks _ _ _ s (bind (take _ s) λ t c. rest_of_of f _ c) (after_first f at kind q s))
+  after_bare f at kind q s = stops (Outside 1) _ _ s says_in_word (looks _ _ _ s (bind (take _ s) λ t c. rest_of_of f _ c) (after_first f at kind q s))
 
   for_variables : (f : Flags) (at : ℕ) (kind : VariableKind) (s : Input) → Leaves s.tokens (s6.for_variables i f at kind s)
   unfolding s6.for_variables
@@ -141,7 +157,7 @@ module _ (i : Inner) (h : Placed i) where
 
   for_expression : (f : Flags) (s : Input) → Leaves s.tokens (s6.for_expression i f s)
   unfolding s6.for_expression
-  for_expression f s = bind (h.sequence (without_in f) s) λ x c. either (is_left x.shape) _ _ c (looks _ _ _ c stopped (next _ _ _ c (λ t d. assigned_in_turn f _ d) (first_expression f _ c))) (first_expression f _ c)
+  for_expression f s = bind (h.sequence (without_in f) s) λ x c. either (is_left x.shape) _ _ c (stops (Outside 1) _ _ c says_in_word (next _ _ _ c (λ t d. assigned_in_turn f _ d) (first_expression f _ c))) (first_expression f _ c)
 
   for_header : (f : Flags) (s : Input) → Leaves s.tokens (s6.for_header i f s)
   unfolding s6.for_header
@@ -173,7 +189,7 @@ module _ (i : Inner) (h : Placed i) where
 
   in_case : (f : Flags) (n : ℕ) (s : Input) → Leaves s.tokens (s6.in_case i f n s)
   unfolding s6.in_case
-  in_case f zero s = stopped
+  in_case f zero s = endless
   in_case f (suc n) s = looks _ _ _ s done (bind (h.statement f Listed s) λ x c. bind (in_case f n c) λ y d. done)
 
   case_clause : (f : Flags) (at : ℕ) (s : Input) → Leaves s.tokens (s6.case_clause i f at s)
@@ -186,7 +202,7 @@ module _ (i : Inner) (h : Placed i) where
 
   cases : (f : Flags) (may : Bool) (n : ℕ) (s : Input) → Leaves s.tokens (s6.cases i f may n s)
   unfolding s6.cases
-  cases f may zero s = stopped
+  cases f may zero s = endless
   cases f may (suc n) s = next _ _ _ s (λ t c. done) (next _ _ _ s (λ t c. bind (case_clause f _ c) λ x d. bind (cases f may n d) λ y k. done)
       (either may _ _ s (next _ _ _ s (λ t c. bind (default_clause f _ c) λ x d. bind (cases f false n d) λ y k. done) (nowhere s)) (nowhere s)))
 
@@ -256,7 +272,7 @@ module _ (i : Inner) (h : Placed i) where
 
   plain_statement : (f : Flags) (at : ℕ) (s : Input) → Leaves s.tokens (s6.plain_statement i f at s)
   unfolding s6.plain_statement
-  plain_statement f at s = looks _ _ _ s stopped (looks _ _ _ s stopped (expression_statement f at s))
+  plain_statement f at s = stops (Outside 5) _ _ s says_with (stops Syntax _ _ s says_declaration (expression_statement f at s))
 
   jump_statement : (f : Flags) (stand : Stand) (at : ℕ) (s : Input) → Leaves s.tokens (s6.jump_statement i f stand at s)
   unfolding s6.jump_statement
@@ -342,7 +358,7 @@ module _ (i : Inner) (h : Placed i) where
 
   items : (n : ℕ) (s : Input) → Leaves s.tokens (m6.items i n s)
   unfolding m6.items
-  items zero s = stopped
+  items zero s = endless
   items (suc n) s = looks _ _ _ s done (bind (one_item s) λ x c. bind (items n c) λ y d. done)
 
   whole_module : (s : Input) → Leaves s.tokens (m6.whole_module i s)
@@ -358,13 +374,13 @@ placed mode fuel zero = record {
   unary = λ f s. expression_stops _ s;
   callee = λ f s. operand_stops s;
   heritage = λ f s. operand_stops s;
-  block = λ f s. stopped;
-  property = λ f s. stopped;
-  target = λ f s. stopped;
-  part = λ f s. stopped;
-  object_part = λ f s. stopped;
-  variable = λ f s. stopped;
-  member = λ f s. stopped;
+  block = λ f s. deep;
+  property = λ f s. deep;
+  target = λ f s. deep;
+  part = λ f s. deep;
+  object_part = λ f s. deep;
+  variable = λ f s. deep;
+  member = λ f s. deep;
   statement = λ f stand s. statement_stops f stand s;
 }
 placed mode fuel (suc room) =
@@ -392,9 +408,15 @@ of-rest : {ts us : List Filled} → Rest ts us → (front : List Filled) × (ts 
 of-rest all = ([], refl)
 of-rest (less {t = t} h) = let f = of-rest h in (t ∷ f.0, ap (λ vs. t ∷ vs) f.1)
 
-of-fault : {A : Type 0} {ts us : List Filled} {stop : Stop} → Leaves {A = A} ts (Fault stop us) → Rest ts us
-of-fault (fault_rest r) = r
+of-fault : {A : Type 0} {ts us : List Filled} {stop : Stop} → Leaves {A = A} ts (Fault stop us) → Says stop us × Rest ts us
+of-fault (fault_rest k r) = (k, r)
+
+left : (fuel : ℕ) (tokens : List Filled) (stop : Stop) (rest : List Filled) → m6.read_module fuel tokens ≡ Fault stop rest → Says stop rest × Rest tokens rest
+unfolding m6.read_module
+left fuel tokens stop rest e = of-fault {A = Module} {stop = stop} (subst (λ o. Leaves tokens o) e (whole_module (m6.readers true fuel m6.most_open) (placed true fuel m6.most_open) (record { tokens = tokens; last = 0 })))
 
 pub places : FaultsAreInside
-unfolding m6.read_module
-places fuel tokens stop rest e = of-rest (of-fault {A = Module} {stop = stop} (subst (λ o. Leaves tokens o) e (whole_module (m6.readers true fuel m6.most_open) (placed true fuel m6.most_open) (record { tokens = tokens; last = 0 }))))
+places fuel tokens stop rest e = of-rest (left fuel tokens stop rest e).1
+
+pub says : FaultsSayWhatStandsThere
+says fuel tokens stop rest e = (left fuel tokens stop rest e).0

@@ -1,13 +1,17 @@
 -- What is proved of the model, in the grammar's terms.
-use Rattle.std.specs.Prelude.{◌≡◌, ℕ, ◌+◌, ◌≤◌, false, List, [], ◌++◌, map}
+use Rattle.std.specs.Prelude.{◌≡◌, ℕ, ◌+◌, ◌≤◌, ◌⊎◌, false, List, [], ◌∷◌, ◌++◌, map, codes}
 use Rattle.es6_lexer.specs.declared.token.Token.{Token}
+use Rattle.es6_lexer.specs.declared.token.TokenKind.TheVariants as kinds
+use Rattle.es6_lexer.specs.declared.token.NumberToken.TheVariants.{TooLarge, Marked}
+use Rattle.es6_lexer.specs.declared.token.LexicalKind.{LexicalKind}
+use Rattle.es6_lexer.specs.declared.token.Punctuator.TheVariants.{Slash, SlashAssign}
 use Rattle.es6_ast.specs.declared.module.Module.{Module}
 use Rattle.es6_ast.specs.declared.module.Item.{Item}
 use Rattle.es6_ast.specs.declared.module.Item.TheVariants as item
-use Rattle.es6_ast.specs.Tokens.{Filled, read}
+use Rattle.es6_ast.specs.Tokens.{Filling, Read, Filled, read}
 use Rattle.es6_ast.specs.Modules.{IsItem, IsModule}
 use Rattle.es6_ast.specs.Semicolons.{Fills, SpellsModule}
-use Rattle.es6_reading.specs.Parser.{Input, Stop, Took, Fault}
+use Rattle.es6_reading.specs.Parser.{Input, Stop, Syntax, Lexical, Outside, Depth, Endless, Took, Fault}
 use Rattle.es6_reading.specs.Modules.{readers, one_item, whole_module, most_open, read_module}
 
 -- Without inserted semicolons: a module that is read is derived from all of the tokens, with its spans.
@@ -27,6 +31,32 @@ IsUnambiguous = (tokens : List Filled) (m n : Module) → IsModule tokens m → 
 -- A fault stands at one of the tokens, or at the end.
 abbrev pub FaultsAreInside : Type 0
 FaultsAreInside = (fuel : ℕ) (tokens : List Filled) (stop : Stop) (rest : List Filled) → read_module fuel tokens ≡ Fault stop rest → (front : List Filled) × (tokens ≡ front ++ rest)
+
+-- the tokens begin with one of the kind
+abbrev pub BeginWith : Filling → List Filled → Type 0
+BeginWith k [] = ⊥
+BeginWith k (t ∷ ts) = t.kind ≡ k
+
+-- The construct outside the profile that begins or is meant with the first of the tokens: for-in, a regular expression, a number
+-- with a point or an exponent, a number above 9007199254740991, and `with` (6th edition, 11.8.3, 11.8.5, 13.7.5, 13.11).
+pub data IsOutsideAt (rest : List Filled) : ℕ → Type 0 where
+  for_in : BeginWith (Read (kinds.Word (codes "in"))) rest → IsOutsideAt rest 1
+  regular_expression : BeginWith (Read (kinds.Punctuator Slash)) rest ⊎ BeginWith (Read (kinds.Punctuator SlashAssign)) rest → IsOutsideAt rest 2
+  marked_number : BeginWith (Read (kinds.Number Marked)) rest → IsOutsideAt rest 3
+  large_number : BeginWith (Read (kinds.Number TooLarge)) rest → IsOutsideAt rest 4
+  with : BeginWith (Read (kinds.Word (codes "with"))) rest → IsOutsideAt rest 5
+
+-- What a fault says of the tokens from it on. It is a lexical one of a kind exactly where a lexical fault of this kind stands,
+-- unless too many constructs are open or a loop's turns are used up.
+abbrev pub Says : Stop → List Filled → Type 0
+Says Syntax rest = (kind : LexicalKind) → BeginWith (Read (kinds.Fault kind)) rest → ⊥
+Says (Lexical kind) rest = BeginWith (Read (kinds.Fault kind)) rest
+Says (Outside rule) rest = (1 ≤ rule) × (rule ≤ 5) × IsOutsideAt rest rule
+Says Depth rest = Unit {0}
+Says Endless rest = Unit {0}
+
+abbrev pub FaultsSayWhatStandsThere : Type 0
+FaultsSayWhatStandsThere = (fuel : ℕ) (tokens : List Filled) (stop : Stop) (rest : List Filled) → read_module fuel tokens ≡ Fault stop rest → Says stop rest
 
 -- A module is read of the tokens without inserting semicolons, with more turns for each loop and more constructs open.
 abbrev pub IsReadAlone : ℕ → ℕ → List Filled → Type 0

@@ -5,7 +5,7 @@
 #![tactic(auto)]
 
 ghost use Rattle.es6_reading.specs.Examples.{AreRead, AreStopped, IsDeepest};
-ghost use Rattle.es6_reading.specs.Laws.{AreSpelled, FaultsAreInside, IsComplete, IsInserted, IsSound, IsUnambiguous, IsUnique, LinksAreRead};
+ghost use Rattle.es6_reading.specs.Laws.{AreSpelled, FaultsAreInside, FaultsSayWhatStandsThere, IsComplete, IsInserted, IsSound, IsUnambiguous, IsUnique, LinksAreRead};
 ghost use Rattle.es6_reading.specs.Program.{IsProgramRead};
 ghost use Rattle.es6_reading.specs.Refinements.{AreRefined, ComeFromExpressions};
 
@@ -45,6 +45,13 @@ pub fn semicolons_are_inserted_where_nothing_goes_on()
 /// A fault of a module stands at one of its tokens, or at the end.
 pub fn faults_stand_at_tokens()
     ensures { FaultsAreInside }
+{}
+
+/// A fault of a module says what stands at it: that it is a lexical one, and of which kind, exactly where a lexical fault stands
+/// (unless too many constructs are open there, or a loop's turns are used up), and a rule of the profile only at a token that the
+/// rule speaks of.
+pub fn faults_say_what_stands_there()
+    ensures { FaultsSayWhatStandsThere }
 {}
 
 /// Small modules are read to their end.
