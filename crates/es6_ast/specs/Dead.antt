@@ -1,6 +1,6 @@
 -- Where a reader of modules stops, and at what: the first token with which no module goes on, or at which too many constructs
 -- are open.
-use Rattle.std.specs.Prelude.{◌≡◌, ℕ, ◌+◌, ◌<◌, ◌⊎◌, pos, List, [], ◌∷◌, ◌++◌, length, take, codes, Some, slice_get}
+use Rattle.std.specs.Prelude.{◌≡◌, ℕ, ◌+◌, ◌<◌, ◌≤◌, ◌⊎◌, pos, List, [], ◌∷◌, ◌++◌, length, take, codes, Some, slice_get}
 use Rattle.es6_lexer.specs.declared.token.Token.{Token}
 use Rattle.es6_lexer.specs.declared.token.TokenKind.{TokenKind}
 use Rattle.es6_lexer.specs.declared.token.TokenKind.TheVariants.{Word, Punctuator, Number, Fault}
@@ -19,9 +19,19 @@ IsAlive tokens = (rest : List Token) × (m : Module) × SpellsModule (tokens ++ 
 abbrev pub IsDead : List Token → ℕ → Type 0
 IsDead tokens p = IsAlive (take (p + 1) tokens) → ⊥
 
+-- each token stands behind the one before it, and none but the last is empty, as in a text
+abbrev pub IsBefore : Token → List Token → Type 0
+IsBefore t [] = Unit {0}
+IsBefore t (u ∷ us) = (t.span.begin < t.span.end) × (t.span.end ≤ u.span.begin)
+
+abbrev pub AreInOrder : List Token → Type 0
+AreInOrder [] = Unit {0}
+AreInOrder (t ∷ ts) = IsBefore t ts × AreInOrder ts
+
 -- some module begins with the tokens up to this one, at which more than 256 of its constructs are open
 pub record IsTooDeep (tokens : List Token) (p : ℕ) : Type 0 where
   pub rest : List Token
+  pub placed : AreInOrder (take (p + 1) tokens ++ rest)
   pub tree : Module
   pub spelled : SpellsModule (take (p + 1) tokens ++ rest) tree
   pub deep : 256 < open_constructs (take (p + 1) tokens) tree

@@ -1,5 +1,5 @@
 -- Graphs that are loaded, and graphs that are linked.
-use Rattle.std.specs.Prelude.{◌≡◌, ℕ, ◌<◌, ◌≤◌, List, [], ◌∷◌, codes, length, map, Option, Some, None, All, AllPairs, sum_by}
+use Rattle.std.specs.Prelude.{◌≡◌, ℕ, ◌+◌, ◌<◌, ◌≤◌, List, [], ◌∷◌, codes, length, map, take, Option, Some, None, All, AllPairs, sum_by}
 use Rattle.std.specs.Str.{chars, IsUtf8}
 use Rattle.es6_lexer.specs.declared.token.Token.{Token}
 use Rattle.es6_lexer.specs.Lexes.{Lexes}
@@ -11,7 +11,7 @@ use Rattle.es6_ast.specs.declared.graph.Graph.{Graph}
 use Rattle.es6_ast.specs.declared.graph.LoadedModule.{LoadedModule}
 use Rattle.es6_ast.specs.declared.graph.Request.{Request}
 use Rattle.es6_ast.specs.Semicolons.{SpellsModule}
-use Rattle.es6_ast.specs.Dead.{IsTooDeep}
+use Rattle.es6_ast.specs.Depth.{open_constructs}
 use Rattle.es6_ast.specs.Findings.{joined}
 use Rattle.es6_ast.specs.Early.{early_pairs}
 use Rattle.es6_ast.specs.Outside.{outside_pairs}
@@ -52,7 +52,8 @@ pub record IsText (bytes : List ℕ) (m : LoadedModule) : Type 0 where
   pub tokens : List Token
   pub lexed : Lexes (chars bytes) tokens
   pub spelled : SpellsModule tokens m.tree
-  pub shallow : (p : ℕ) → IsTooDeep tokens p → ⊥
+  -- at each token at most 256 constructs are open
+  pub shallow : (p : ℕ) → p < length tokens → open_constructs (take (p + 1) tokens) m.tree ≤ 256
 
 -- a loaded module of a graph of so many, with its text
 pub record IsLoadedModule (count : ℕ) (bytes : List ℕ) (m : LoadedModule) : Type 0 where
