@@ -1,0 +1,7 @@
+pub mod Marks
+pub mod Choices
+pub mod Tables
+pub mod Rooms
+pub mod Loops
+pub mod Groups
+pub mod Rules

@@ -1,0 +1,7 @@
+pub mod Settings
+pub mod Reads
+pub mod Takes
+pub mod Keys
+pub mod Tables
+pub mod Readers
+pub mod Groups
