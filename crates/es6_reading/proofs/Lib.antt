@@ -35,6 +35,13 @@ pub mod SoundModules
 pub mod Soundness
 pub mod Places
 pub mod PlacesOfModules
+pub mod SpanCounts
+pub mod SpanSums
+pub mod SpanSumsOfStatements
+pub mod Shallow
+pub mod ShallowTokens
+pub mod ShallowParts
+pub mod ShallowExpressions
 pub mod Follows
 pub mod FollowChoices
 pub mod RefineMore

@@ -1,5 +1,5 @@
 -- What is proved of the model, in the grammar's terms.
-use Rattle.std.specs.Prelude.{◌≡◌, ℕ, ◌+◌, ◌≤◌, ◌⊎◌, false, List, [], ◌∷◌, ◌++◌, map, codes}
+use Rattle.std.specs.Prelude.{◌≡◌, ℕ, ◌+◌, ◌<◌, ◌≤◌, ◌⊎◌, false, List, [], ◌∷◌, ◌++◌, length, map, take, codes}
 use Rattle.es6_lexer.specs.declared.token.Token.{Token}
 use Rattle.es6_lexer.specs.declared.token.TokenKind.TheVariants as kinds
 use Rattle.es6_lexer.specs.declared.token.NumberToken.TheVariants.{TooLarge, Marked}
@@ -11,6 +11,8 @@ use Rattle.es6_ast.specs.declared.module.Item.TheVariants as item
 use Rattle.es6_ast.specs.Tokens.{Filling, Read, Filled, read}
 use Rattle.es6_ast.specs.Modules.{IsItem, IsModule}
 use Rattle.es6_ast.specs.Semicolons.{Fills, SpellsModule}
+use Rattle.es6_ast.specs.Depth.{open_constructs}
+use Rattle.es6_ast.specs.Dead.{AreInOrder}
 use Rattle.es6_reading.specs.Parser.{Input, Stop, Syntax, Lexical, Outside, Depth, Endless, Took, Fault}
 use Rattle.es6_reading.specs.Modules.{readers, one_item, whole_module, most_open, read_module}
 
@@ -75,6 +77,10 @@ IsInserted = (fuel : ℕ) (tokens : List Token) (m : Module) (after : Input) →
 -- With inserted semicolons: a module that is read is spelled by the tokens.
 abbrev pub AreSpelled : Type 0
 AreSpelled = (fuel : ℕ) (tokens : List Token) (m : Module) (after : Input) → read_module fuel (map read tokens) ≡ Took m after → SpellsModule tokens m
+
+-- At each token of a module that is read, at most 256 of its constructs are open, where the tokens stand one behind another.
+abbrev pub AreShallow : Type 0
+AreShallow = (fuel : ℕ) (tokens : List Token) (m : Module) (after : Input) → AreInOrder tokens → read_module fuel (map read tokens) ≡ Took m after → (p : ℕ) → p < length tokens → open_constructs (take (p + 1) tokens) m ≤ most_open
 
 -- No tokens spell two modules.
 abbrev pub IsUnique : Type 0
