@@ -42,6 +42,7 @@ pub mod Shallow
 pub mod ShallowTokens
 pub mod ShallowParts
 pub mod ShallowExpressions
+pub mod ShallowRefined
 pub mod Follows
 pub mod FollowChoices
 pub mod RefineMore
