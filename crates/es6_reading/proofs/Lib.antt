@@ -43,6 +43,9 @@ pub mod ShallowTokens
 pub mod ShallowParts
 pub mod ShallowExpressions
 pub mod ShallowRefined
+pub mod ShallowLevels
+pub mod ShallowStatements
+pub mod ShallowItems
 pub mod Follows
 pub mod FollowChoices
 pub mod RefineMore

@@ -38,7 +38,7 @@ wider w a = record { begins = w.begins; ends = omega (arith, w.ends, a.order) }
 pub later : {room : ℕ} {s c : Input} {D : ℕ → ℕ} (x : Reading) (d : Input) → At room s 0 0 d D → ((at : ℕ) → in_expression x.value at ≤ D at) → Within s c (spans_expression x.value).span → c.last ≤ d.last → ExpressionAt room s x d
 later x d a l w o = (less a l, record { begins = w.begins; ends = omega (arith, w.ends, o) })
 
-no_operand : {Q : Reading → Input → Type 0} (role : Role) (s : Input) → Holds Q (e.no_operand role s)
+pub no_operand : {Q : Reading → Input → Type 0} (role : Role) (s : Input) → Holds Q (e.no_operand role s)
 no_operand Leading s = no-expression-holds s
 no_operand Among s = no-expression-holds s
 no_operand Heritage s = no-number-holds s

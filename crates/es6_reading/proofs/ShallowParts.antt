@@ -91,7 +91,7 @@ in-method_of span from kind k es body at =
     omega (arith, in-method span kind k (roll-Function (record { span = from; is_generator = is_generator_method kind; name = None; parameters = es; body = body })) at, in-function from (is_generator_method kind) None es body at)
 
 module _ (i : Inner) (room : ℕ) (h : Shallow i room) where
-  key : (f : Flags) (s : Input) → Ready room 0 s → Holds (λ k c. At room s 0 0 c (in_key k)) (t6.key i f s)
+  pub key : (f : Flags) (s : Input) → Ready room 0 s → Holds (λ k c. At room s 0 0 c (in_key k)) (t6.key i f s)
   unfolding t6.key t6.computed_key
   key f s r = let a = begin s r in next key-token _ a (λ k c t b. took (finish b (in-key_of _ k) (λ at. omega arith)))
       (group i marks.LeftBracket _ h.opens (refl, refl, refl) a (λ c b. bind (h.assignment (with_in f) c b.sorted) λ x d o. bind (close right-bracket (and b o.grouped)) λ t e m. took (finish m (in-computed_key _ _) (λ at. omega arith))) (no-number-holds s))
