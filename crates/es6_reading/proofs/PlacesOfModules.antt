@@ -356,7 +356,7 @@ module _ (i : Inner) (h : Placed i) where
   unfolding m6.one_item
   one_item s = next _ _ _ s (λ t c. import_item _ c) (next _ _ _ s (λ t c. export_item _ c) (statement_item s))
 
-  items : (n : ℕ) (s : Input) → Leaves s.tokens (m6.items i n s)
+  pub items : (n : ℕ) (s : Input) → Leaves s.tokens (m6.items i n s)
   unfolding m6.items
   items zero s = endless
   items (suc n) s = looks _ _ _ s done (bind (one_item s) λ x c. bind (items n c) λ y d. done)
@@ -365,7 +365,7 @@ module _ (i : Inner) (h : Placed i) where
   unfolding m6.whole_module
   whole_module s = bind (items i.fuel s) λ xs c. bind (take _ c) λ t d. looks _ _ _ d (nowhere d) done
 
-placed : (mode : Bool) (fuel room : ℕ) → Placed (m6.readers mode fuel room)
+pub placed : (mode : Bool) (fuel room : ℕ) → Placed (m6.readers mode fuel room)
 unfolding m6.readers
 placed mode fuel zero = record {
   sequence = λ f s. expression_stops _ s;
@@ -404,7 +404,7 @@ placed mode fuel (suc room) =
 
 -- ## Modules
 
-of-rest : {ts us : List Filled} → Rest ts us → (front : List Filled) × (ts ≡ front ++ us)
+pub of-rest : {ts us : List Filled} → Rest ts us → (front : List Filled) × (ts ≡ front ++ us)
 of-rest all = ([], refl)
 of-rest (less {t = t} h) = let f = of-rest h in (t ∷ f.0, ap (λ vs. t ∷ vs) f.1)
 
