@@ -46,6 +46,7 @@ pub mod ShallowRefined
 pub mod ShallowLevels
 pub mod ShallowStatements
 pub mod ShallowItems
+pub mod Ordered
 pub mod ShallowModules
 pub mod Follows
 pub mod FollowChoices

@@ -23,6 +23,7 @@ use Rattle.es6_reading.proofs.SpanCounts.{around, around-is, around-append, sum_
 use Rattle.es6_reading.proofs.Shallow.{opens_of, closes_of, Sorted, Walk, stay, step, At, Ready}
 use Rattle.es6_reading.proofs.ShallowParts.{Shallow}
 use Rattle.es6_reading.proofs.ShallowItems.{shallow, in_item, items}
+use Rattle.es6_reading.proofs.Ordered.{Behind}
 
 -- ## The end of the text stands last
 
@@ -80,10 +81,6 @@ end-alone (longer t h) = absurd (no-end h refl)
 
 end-after : {t u : Filled} {ts : List Filled} → EndsIn (t ∷ u ∷ ts) → EndsIn (u ∷ ts)
 end-after (longer t h) = h
-
-abbrev Behind : ℕ → List Token → Type 0
-Behind last [] = Unit {0}
-Behind last (t ∷ ts) = last ≤ t.span.begin
 
 sorted-from : (last : ℕ) (tokens : List Token) → Behind last tokens → AreInOrder tokens → EndsIn (map read tokens) → Sorted last (map read tokens)
 sorted-from last [] b o e = tt

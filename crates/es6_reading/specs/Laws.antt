@@ -5,6 +5,7 @@ use Rattle.es6_lexer.specs.declared.token.TokenKind.TheVariants as kinds
 use Rattle.es6_lexer.specs.declared.token.NumberToken.TheVariants.{TooLarge, Marked}
 use Rattle.es6_lexer.specs.declared.token.LexicalKind.{LexicalKind}
 use Rattle.es6_lexer.specs.declared.token.Punctuator.TheVariants.{Slash, SlashAssign}
+use Rattle.es6_lexer.specs.Lexes.{Lexes}
 use Rattle.es6_ast.specs.declared.module.Module.{Module}
 use Rattle.es6_ast.specs.declared.module.Item.{Item}
 use Rattle.es6_ast.specs.declared.module.Item.TheVariants as item
@@ -77,6 +78,10 @@ IsInserted = (fuel : ℕ) (tokens : List Token) (m : Module) (after : Input) →
 -- With inserted semicolons: a module that is read is spelled by the tokens.
 abbrev pub AreSpelled : Type 0
 AreSpelled = (fuel : ℕ) (tokens : List Token) (m : Module) (after : Input) → read_module fuel (map read tokens) ≡ Took m after → SpellsModule tokens m
+
+-- The tokens of a text stand one behind the other, and none but the last is empty.
+abbrev pub StandInOrder : Type 0
+StandInOrder = (text : List ℕ) (tokens : List Token) → Lexes text tokens → AreInOrder tokens
 
 -- At each token of a module that is read, at most 256 of its constructs are open, where the tokens stand one behind another.
 abbrev pub AreShallow : Type 0

@@ -5,7 +5,7 @@
 #![tactic(auto)]
 
 ghost use Rattle.es6_reading.specs.Examples.{AreRead, AreStopped, IsDeepest};
-ghost use Rattle.es6_reading.specs.Laws.{AreShallow, AreSpelled, FaultsAreInside, FaultsSayWhatStandsThere, IsComplete, IsInserted, IsSound, IsUnambiguous, IsUnique, LinksAreRead};
+ghost use Rattle.es6_reading.specs.Laws.{AreShallow, AreSpelled, FaultsAreInside, FaultsSayWhatStandsThere, IsComplete, IsInserted, IsSound, IsUnambiguous, IsUnique, LinksAreRead, StandInOrder};
 ghost use Rattle.es6_reading.specs.Program.{IsProgramRead};
 ghost use Rattle.es6_reading.specs.Refinements.{AreRefined, ComeFromExpressions};
 
@@ -29,6 +29,11 @@ pub fn derivations_give_one_module()
 /// the grammar allows one and before a token with which it has nothing to go on.
 pub fn modules_are_spelled()
     ensures { AreSpelled }
+{}
+
+/// The tokens of a text stand one behind the other, and none but the last is empty.
+pub fn tokens_of_a_text_stand_in_order()
+    ensures { StandInOrder }
 {}
 
 /// At each token of a module that is read at most 256 of its constructs are open, where the tokens stand one behind another.
