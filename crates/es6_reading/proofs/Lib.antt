@@ -36,6 +36,7 @@ pub mod Soundness
 pub mod Places
 pub mod PlacesOfModules
 pub mod SpanCounts
+pub mod SpanLayers
 pub mod SpanSums
 pub mod SpanSumsOfStatements
 pub mod Shallow

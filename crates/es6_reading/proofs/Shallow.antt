@@ -1,17 +1,16 @@
 -- How many constructs are open at each token that a reader takes: the groups that are open since it began, and the spans of the
 -- parts of what it gives that lie round the token.
-use Rattle.std.proofs.Common.{◌≡◌, ◌∙◌, ℕ, zero, suc, ◌+◌, ◌<◌, ◌≤◌, Bool, true, false, cond, List, [], ◌∷◌, Option, Some, None, ap, sym, refl, subst, arith}
-use Rattle.std.specs.Prelude.{nat_lt, nat_le, ◌&&◌}
+use Rattle.std.proofs.Common.{◌≡◌, ℕ, suc, ◌+◌, ◌<◌, ◌≤◌, Bool, true, false, cond, List, [], ◌∷◌, Option, Some, sym, refl, subst, arith}
 use Rattle.std.proofs.lemmas.Bool.Decides.{nat_tests}
 use Rattle.es_text.specs.declared.Span.{Span}
 use Rattle.es6_lexer.specs.declared.token.Punctuator.{Punctuator as Mark}
 use Rattle.es6_lexer.specs.declared.token.TokenKind.TheVariants as kinds
-use Rattle.es6_ast.specs.Tokens.{Filling, Read, Inserted, Filled, IsMark, begin_of}
+use Rattle.es6_ast.specs.Tokens.{Filling, Read, Inserted, Filled, begin_of}
 use Rattle.es6_ast.specs.Depth.{opens_group, closes_group, is_around}
-use Rattle.es6_reading.specs.Parser.{Input, Outcome, Took, Parser, fails, on, on_taken, choose, next_is, if_next, mark, next_mark, take_as, Inner, on_group, refused}
+use Rattle.es6_reading.specs.Parser.{Input, Parser, on, choose, next_is, if_next, mark, take_as, Inner, on_group}
 use Rattle.es6_reading.specs.Modules.{is_end, is_end_kind}
-use Rattle.es6_reading.proofs.Meanings.{mark-is, mark-means}
-use Rattle.es6_reading.proofs.Posts.{Holds, took, fault, bind, weaken, Taken, taken, on-holds, refused-holds, choose-holds, if-holds}
+use Rattle.es6_reading.proofs.Meanings.{mark-means}
+use Rattle.es6_reading.proofs.Posts.{Holds, took, fault, weaken, Taken, taken, on-holds, refused-holds, choose-holds}
 use Rattle.es6_reading.proofs.SpanCounts.{one, sum_of}
 
 abbrev pub opens_of : Filling → ℕ

@@ -1,26 +1,22 @@
 -- How many constructs are open at what is read as primary and left-hand-side expressions.
-use Rattle.std.proofs.Common.{◌≡◌, ◌∙◌, ℕ, zero, suc, ◌+◌, ◌≤◌, Bool, true, false, List, [], ◌∷◌, Option, Some, None, ap, sym, refl, subst, arith}
+use Rattle.std.proofs.Common.{◌≡◌, ℕ, zero, suc, ◌+◌, ◌≤◌, Bool, true, List, [], ◌∷◌, Option, Some, None, sym, refl, subst, arith}
 use Rattle.std.specs.Prelude.{codes}
 use Rattle.es_text.specs.declared.Span.{Span}
 use Rattle.es6_lexer.specs.declared.token.Punctuator.TheVariants as marks
 use Rattle.es6_ast.specs.declared.tree.Expression.{Expression}
-use Rattle.es6_ast.specs.declared.tree.Expression.TheVariants as expr
-use Rattle.es6_ast.specs.declared.tree.Identifier.{Identifier}
 use Rattle.es6_ast.specs.declared.tree.Link.{Link}
-use Rattle.es6_ast.specs.declared.tree.Link.TheVariants as link
 use Rattle.es6_ast.specs.declared.tree.Parameter.{Parameter}
 use Rattle.es6_ast.specs.declared.tree.Rest.{Rest}
-use Rattle.es6_ast.specs.declared.tree.Template.{Template}
-use Rattle.es6_ast.specs.Tokens.{Filled, begin_of}
+use Rattle.es6_ast.specs.Tokens.{begin_of}
 use Rattle.es6_ast.specs.Grammar.{Flags, with_in}
-use Rattle.es6_reading.specs.Parser.{Input, Outcome, Parser, Reading, Inner}
-use Rattle.es6_reading.specs.Refine.{Refined, Fits, Misfit, TooNested, parameters_of}
+use Rattle.es6_reading.specs.Parser.{Input, Parser, Reading, Inner}
+use Rattle.es6_reading.specs.Refine.{Refined, Fits, Misfit, TooNested}
 use Rattle.es6_reading.specs.Expressions as e
 use Rattle.es6_reading.specs.Expressions.{Role, Leading, Among, Heritage, Callee}
-use Rattle.es6_reading.proofs.Posts.{Holds, took, fault, bind, weaken, refused-holds, no-number-holds, no-expression-holds}
-use Rattle.es6_reading.proofs.SpanCounts.{sum_of, in_some, spans_expression, in_argument, in_element, in_expression, in_link, in_property, in_template, with_expression}
+use Rattle.es6_reading.proofs.Posts.{Holds, took, fault, bind, refused-holds, no-number-holds, no-expression-holds}
+use Rattle.es6_reading.proofs.SpanCounts.{sum_of, in_some, spans_expression, in_argument, in_element, in_expression, in_link, in_property, with_expression}
 use Rattle.es6_reading.proofs.SpanSums.{in-single, in-spread, in-hole, in-present, in-this, in-name, in-literal, in-template_value, in-array_list, in-object_list, in-function_value, in-class_value, in-chain, in-super_member, in-super_index, in-super_call, in-new_target, in-new, in-sequence, in-group, in-cover, in-member, in-index, in-call, in-tagged, span-this, span-name, span-literal, span-template_value, span-array_list, span-object_list, span-function_value, span-class_value, span-chain, span-super_member, span-super_index, span-super_call, span-new_target, span-new, span-group, span-cover}
-use Rattle.es6_reading.proofs.Shallow.{Sorted, At, Ready, ready, begin, and, less, finish, first, Within, within, Opened, next, ends, take, close, either, looks, group}
+use Rattle.es6_reading.proofs.Shallow.{At, Ready, ready, begin, and, less, finish, first, Within, within, next, ends, take, close, either, looks, group}
 use Rattle.es6_reading.proofs.ShallowTokens.{a-word, comma, ellipsis, dot, right-parenthesis, right-bracket, right-brace, free-name, literal}
 use Rattle.es6_reading.proofs.ShallowParts.{Shallow, identifier, name, function, class, on_template}
 

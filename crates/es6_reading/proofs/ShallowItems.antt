@@ -1,6 +1,6 @@
 -- How many constructs are open at what is read as imports, exports and items.
-use Rattle.std.proofs.Common.{◌≡◌, ◌∙◌, ℕ, zero, suc, ◌+◌, ◌≤◌, Bool, true, false, List, [], ◌∷◌, Option, Some, None, ap, sym, refl, arith}
-use Rattle.std.specs.Prelude.{codes, is_some}
+use Rattle.std.proofs.Common.{ℕ, zero, suc, Bool, true, List, Option, refl, arith}
+use Rattle.std.specs.Prelude.{codes}
 use Rattle.std.proofs.lemmas.Bool.{false≢true}
 use Rattle.es_text.specs.declared.Span.{Span}
 use Rattle.es6_lexer.specs.declared.token.Punctuator.TheVariants as marks
@@ -11,9 +11,9 @@ use Rattle.es6_ast.specs.declared.module.ExportName.{ExportName}
 use Rattle.es6_ast.specs.declared.module.ImportedNames.{ImportedNames}
 use Rattle.es6_ast.specs.declared.module.Item.{Item}
 use Rattle.es6_ast.specs.Depth.{item_spans}
-use Rattle.es6_ast.specs.Tokens.{Filled, begin_of, is_identifier}
+use Rattle.es6_ast.specs.Tokens.{Filled, is_identifier}
 use Rattle.es6_ast.specs.Grammar.{Flags, of_module}
-use Rattle.es6_reading.specs.Parser.{Input, Outcome, Parser, Reading, Stand, Listed, Inner}
+use Rattle.es6_reading.specs.Parser.{Input, Reading, Stand, Listed, Inner}
 use Rattle.es6_reading.specs.Parts as t6
 use Rattle.es6_reading.specs.Expressions as e
 use Rattle.es6_reading.specs.Expressions.{Among, Heritage, Callee}
@@ -21,11 +21,11 @@ use Rattle.es6_reading.specs.Statements as s6
 use Rattle.es6_reading.specs.Modules as m6
 use Rattle.es6_reading.proofs.Posts.{Holds, took, fault, bind, weaken, refused-holds, no-number-holds, no-expression-holds}
 use Rattle.es6_reading.proofs.SpanCounts.{around, sum_of, spans_block, spans_expression, spans_statement, in_block, in_expression, in_statement}
-use Rattle.es6_reading.proofs.Shallow.{Sorted, At, Ready, ready, begin, and, less, finish, Within, within, inside, Opened, opened, Nothing, next, ends, take, close, either, looks, group}
+use Rattle.es6_reading.proofs.Shallow.{Sorted, At, Ready, ready, begin, and, less, inside, opened, next, ends, take, close, either, looks, group}
 use Rattle.es6_reading.proofs.ShallowTokens.{a-word, comma, a-star, right-brace, text}
 use Rattle.es6_reading.proofs.ShallowParts.{Shallow, identifier, name, semicolon_, binding, initialized, one_part, object_part, block, function, member, class}
 use Rattle.es6_reading.proofs.ShallowExpressions.{chain}
-use Rattle.es6_reading.proofs.ShallowLevels.{unary, power, assignment, sequence, property, none-chain, none-unary, none-power, none-assignment, none-sequence}
+use Rattle.es6_reading.proofs.ShallowLevels.{unary, power, assignment, sequence, property, none-chain, none-unary, none-power, none-assignment}
 use Rattle.es6_reading.proofs.ShallowStatements.{StatementAt, variables_statement, on_declaration, statement, none-block, none-statement}
 
 -- ## The readers tied into one another

@@ -1,8 +1,7 @@
 -- How many constructs are open at what is read as operators, assignments, arrows and properties.
-use Rattle.std.proofs.Common.{◌≡◌, ◌∙◌, ℕ, zero, suc, ◌+◌, ◌≤◌, Bool, true, false, List, [], ◌∷◌, Option, Some, None, ap, sym, refl, arith}
+use Rattle.std.proofs.Common.{◌≡◌, ◌∙◌, ℕ, zero, suc, ◌+◌, false, List, [], ◌∷◌, Some, None, ap, arith}
 use Rattle.std.specs.Prelude.{codes}
 use Rattle.es_text.specs.declared.Span.{Span}
-use Rattle.es6_lexer.specs.declared.token.Punctuator.TheVariants as marks
 use Rattle.es6_ast.specs.declared.operators.AssignOperator.{AssignOperator}
 use Rattle.es6_ast.specs.declared.operators.UnaryOperator.{UnaryOperator}
 use Rattle.es6_ast.specs.declared.operators.UpdateOperator.{UpdateOperator}
@@ -17,21 +16,21 @@ use Rattle.es6_ast.specs.declared.tree.Key.{Key}
 use Rattle.es6_ast.specs.declared.tree.Operand.{Operand}
 use Rattle.es6_ast.specs.declared.tree.Parameter.{Parameter}
 use Rattle.es6_ast.specs.declared.tree.Pattern.{Pattern}
-use Rattle.es6_ast.specs.Tokens.{Filled, begin_of}
+use Rattle.es6_ast.specs.Tokens.{begin_of}
 use Rattle.es6_ast.specs.Grammar.{Flags, with_in, of_function, of_arrow, is_before}
-use Rattle.es6_reading.specs.Parser.{Input, Outcome, Parser, Reading, is_left, Inner}
+use Rattle.es6_reading.specs.Parser.{Input, Parser, Reading, is_left, Inner}
 use Rattle.es6_reading.specs.Refine.{Refined, Fits, Misfit, TooNested, target_before}
 use Rattle.es6_reading.specs.Words.{after_at}
 use Rattle.es6_reading.specs.Expressions as e
 use Rattle.es6_reading.specs.Expressions.{Role, Leading, Among, Heritage, Callee}
 use Rattle.es6_reading.proofs.Meanings.{after-means}
-use Rattle.es6_reading.proofs.Posts.{Holds, took, fault, bind, weaken, Taken, taken, refused-holds}
-use Rattle.es6_reading.proofs.SpanCounts.{sum_of, in_some, one, spans_arrow_body, spans_block, spans_expression, in_arrow_body, in_expression, in_operand, in_parameter, in_pattern, in_property, in_key, with_block, with_expression, with_arrow_body}
+use Rattle.es6_reading.proofs.Posts.{Holds, took, fault, bind, Taken, taken, refused-holds}
+use Rattle.es6_reading.proofs.SpanCounts.{sum_of, one, spans_block, spans_expression, in_arrow_body, in_expression, in_operand, in_parameter, in_pattern, in_property, in_key, with_block, with_expression}
 use Rattle.es6_reading.proofs.SpanSums.{in-value_body, span-value_body, in-block_body, span-block_body, in-arrow_value, span-arrow_value, in-arrow, span-arrow, in-unary, in-power, in-binary, in-conditional, in-assign, in-sequence, in-yield, in-delegate, in-plain, in-shorthand, in-initialized, in-defined, in-operand, in-update, in-update-after, in-word_key, span-unary, span-power, span-binary, span-conditional, span-assign, span-sequence, span-yield, span-delegate, span-update}
-use Rattle.es6_reading.proofs.Shallow.{Sorted, At, Ready, ready, begin, and, less, finish, first, Within, within, Opened, Nothing, next, ends, take, close, either, looks, group}
+use Rattle.es6_reading.proofs.Shallow.{At, Ready, ready, begin, and, less, finish, first, within, Nothing, next, take, either, looks}
 use Rattle.es6_reading.proofs.ShallowTokens.{a-word, comma, colon, equals, a-star, power-mark, question, arrow, line-star, unary-operator, update-before, update-after, assign-operator, binary-operator, accessor-word, free-name}
 use Rattle.es6_reading.proofs.ShallowParts.{Shallow, method_after_key, accessor, generator_method, key}
-use Rattle.es6_reading.proofs.ShallowExpressions.{ExpressionAt, same-span, wider, no_operand, chain}
+use Rattle.es6_reading.proofs.ShallowExpressions.{ExpressionAt, wider, no_operand, chain}
 use Rattle.es6_reading.proofs.ShallowRefined.{Below, before-below, parameters-before}
 
 -- no prefix operator is one that stands after its operand

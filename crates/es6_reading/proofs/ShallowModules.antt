@@ -1,22 +1,19 @@
 -- At each token of a module that is read, at most 256 of its constructs are open.
-use Rattle.std.proofs.Common.{◌≡◌, ◌∙◌, ℕ, zero, suc, ◌+◌, ◌-◌, ◌<◌, ◌≤◌, Bool, true, false, cond, List, [], ◌∷◌, ◌++◌, length, map, take, Option, Some, None, ap, sym, refl, subst, arith}
-use Rattle.std.specs.Prelude.{count_by}
+use Rattle.std.proofs.Common.{◌≡◌, ◌∙◌, ℕ, zero, suc, ◌+◌, ◌-◌, ◌<◌, ◌≤◌, Bool, true, false, cond, List, [], ◌∷◌, length, map, take, Some, None, ap, sym, refl, subst, arith}
 use Rattle.std.proofs.lemmas.Bool.{true≢false}
-use Rattle.es_text.specs.declared.Span.{Span}
 use Rattle.es6_lexer.specs.declared.token.Token.{Token}
 use Rattle.es6_lexer.specs.declared.token.TokenKind.TheVariants as kinds
 use Rattle.es6_ast.specs.declared.module.Item.{Item}
 use Rattle.es6_ast.specs.declared.module.Module.{Module}
 use Rattle.es6_ast.specs.Tokens.{Filling, Read, Filled, read}
-use Rattle.es6_ast.specs.Dead.{IsBefore, AreInOrder}
-use Rattle.es6_ast.specs.Depth.{joined, item_spans, module_spans, opens_group, closes_group, open_groups, open_constructs, is_around, begin_of_last}
+use Rattle.es6_ast.specs.Dead.{AreInOrder}
+use Rattle.es6_ast.specs.Depth.{joined, item_spans, module_spans, opens_group, closes_group, open_groups, open_constructs, begin_of_last}
 use Rattle.es6_reading.specs.Parser.{Input, Outcome, Took, Fault, Parser, Inner, after, next_is}
 use Rattle.es6_reading.specs.Modules as m6
 use Rattle.es6_reading.specs.Modules.{is_end, is_end_kind, end_at, most_open}
 use Rattle.es6_reading.specs.Laws.{AreShallow}
-use Rattle.es6_reading.proofs.Meanings.{some_same}
 use Rattle.es6_reading.proofs.Posts.{Holds, took, fault, of_took, bind, weaken, Taken, taken, take-holds, if-holds, refused-holds}
-use Rattle.es6_reading.proofs.Places.{Rest, all, less as further, Leaves, took_rest, fault_rest}
+use Rattle.es6_reading.proofs.Places.{Rest, all, less as further, Leaves, took_rest}
 use Rattle.es6_reading.proofs.PlacesOfModules.{placed, of-rest}
 use Rattle.es6_reading.proofs.PlacesOfModules as places
 use Rattle.es6_reading.proofs.SpanCounts.{around, around-is, around-append, sum_of}

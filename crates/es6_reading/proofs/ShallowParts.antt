@@ -1,11 +1,10 @@
 -- How many constructs are open at what is read as names, keys, patterns that bind, functions, methods, classes and templates.
-use Rattle.std.proofs.Common.{◌≡◌, ◌∙◌, ℕ, zero, suc, ◌+◌, ◌≤◌, Bool, true, false, List, [], ◌∷◌, Option, Some, None, ap, refl, arith}
+use Rattle.std.proofs.Common.{◌≡◌, ◌∙◌, ℕ, zero, suc, ◌+◌, ◌≤◌, Bool, true, false, List, [], Option, Some, None, refl, arith}
 use Rattle.std.specs.Prelude.{codes}
 use Rattle.es_text.specs.declared.Span.{Span}
 use Rattle.es6_lexer.specs.declared.token.Punctuator.TheVariants as marks
 use Rattle.es6_ast.specs.declared.operators.MethodKind.{MethodKind}
 use Rattle.es6_ast.specs.declared.tree.ArrayPart.TheVariants.{RestPart}
-use Rattle.es6_ast.specs.declared.tree.Block.{Block}
 use Rattle.es6_ast.specs.declared.tree.Expression.{Expression}
 use Rattle.es6_ast.specs.declared.tree.Function.{roll-Function}
 use Rattle.es6_ast.specs.declared.tree.Identifier.{Identifier}
@@ -13,19 +12,18 @@ use Rattle.es6_ast.specs.declared.tree.Key.{Key}
 use Rattle.es6_ast.specs.declared.tree.ObjectPart.TheVariants.{NamedPart}
 use Rattle.es6_ast.specs.declared.tree.Parameter.{Parameter}
 use Rattle.es6_ast.specs.declared.tree.Part.{roll-Part}
-use Rattle.es6_ast.specs.declared.tree.Pattern.{Pattern}
 use Rattle.es6_ast.specs.declared.tree.Expression.TheVariants as expr
 use Rattle.es6_ast.specs.declared.tree.Statement.{Statement}
 use Rattle.es6_ast.specs.declared.tree.Stretch.{Stretch}
 use Rattle.es6_ast.specs.declared.tree.Template.{Template}
-use Rattle.es6_ast.specs.Tokens.{Filled, begin_of}
-use Rattle.es6_ast.specs.Grammar.{Flags, with_in, of_function, name_target, name_alone, method_of, is_generator_method}
+use Rattle.es6_ast.specs.Tokens.{begin_of}
+use Rattle.es6_ast.specs.Grammar.{Flags, with_in, of_function, name_target, method_of, is_generator_method}
 use Rattle.es6_reading.specs.Parser as p
 use Rattle.es6_reading.specs.Parser.{Input, Outcome, Parser, Reading, Stand, Listed, Inner, semicolon, is_insertable}
 use Rattle.es6_reading.specs.Words.{KeyToken, WordToken, TextToken, IntegerToken}
 use Rattle.es6_reading.specs.Parts as t6
 use Rattle.es6_reading.proofs.Posts.{Holds, took, fault, bind, weaken, on-holds, choose-holds, refused-holds, no-number-holds}
-use Rattle.es6_reading.proofs.SpanCounts.{sum_of, in_some, spans_block, spans_class, spans_expression, spans_function, spans_statement, spans_template, in_array_part, in_block, in_class, in_class_member, in_expression, in_function, in_key, in_method, in_object_part, in_parameter, in_part, in_pattern, in_property, in_statement, in_template, in_template_part, with_block, with_expression, with_statement}
+use Rattle.es6_reading.proofs.SpanCounts.{sum_of, in_some, spans_block, spans_class, spans_function, spans_template, in_array_part, in_block, in_class, in_class_member, in_expression, in_function, in_key, in_method, in_object_part, in_parameter, in_part, in_pattern, in_property, in_statement, in_template, in_template_part, with_block, with_expression, with_statement}
 use Rattle.es6_reading.proofs.SpanSums.{in-skipped_part, in-single_part, in-rest_part, in-name, in-word_key, in-text_key, in-integer_key, in-computed_key, in-named_part, in-keyed_part, in-single_parameter, in-rest_parameter, in-target, in-array_pattern, in-object_pattern, in-class, span-class, in-class_member, in-function, span-function, in-method, in-part, in-template, span-template, in-template_part}
 use Rattle.es6_reading.proofs.SpanSumsOfStatements.{in-block, span-block}
 use Rattle.es6_reading.proofs.Shallow.{Sorted, At, Ready, ready, begin, and, less, finish, first, Within, within, Opened, entered, next, ends, take, close, either, looks, group}

@@ -1,6 +1,5 @@
 -- No more spans lie round a place in what an expression is refined to than in the expression.
-use Rattle.std.proofs.Common.{◌≡◌, ◌∙◌, ℕ, zero, suc, ◌+◌, ◌≤◌, Bool, true, false, List, [], ◌∷◌, ◌++◌, Option, Some, None, ap, sym, refl, arith}
-use Rattle.es_text.specs.declared.Span.{Span}
+use Rattle.std.proofs.Common.{◌≡◌, ◌∙◌, ℕ, zero, suc, ◌+◌, ◌≤◌, Bool, true, false, List, [], ◌∷◌, ◌++◌, Some, None, ap, sym, refl, arith}
 use Rattle.es6_ast.specs.declared.operators.AssignOperator.{AssignOperator}
 use Rattle.es6_ast.specs.declared.operators.AssignOperator.TheVariants as assign
 use Rattle.es6_ast.specs.declared.tree.Argument.{Argument, out-Argument, roll-Argument, roll-out-Argument}
@@ -11,10 +10,8 @@ use Rattle.es6_ast.specs.declared.tree.Element.TheVariants as element
 use Rattle.es6_ast.specs.declared.tree.Expression.{Expression, out-Expression, roll-Expression, roll-out-Expression}
 use Rattle.es6_ast.specs.declared.tree.Expression.TheVariants as expr
 use Rattle.es6_ast.specs.declared.tree.Identifier.{Identifier}
-use Rattle.es6_ast.specs.declared.tree.ObjectPart.{ObjectPart}
-use Rattle.es6_ast.specs.declared.tree.ObjectPart.TheVariants.{NamedPart, KeyedPart}
-use Rattle.es6_ast.specs.declared.tree.Parameter.{Parameter}
-use Rattle.es6_ast.specs.declared.tree.Parameter.TheVariants.{SingleParameter, RestParameter}
+use Rattle.es6_ast.specs.declared.tree.ObjectPart.TheVariants.{KeyedPart}
+use Rattle.es6_ast.specs.declared.tree.Parameter.TheVariants.{SingleParameter}
 use Rattle.es6_ast.specs.declared.tree.Part.{Part}
 use Rattle.es6_ast.specs.declared.tree.Pattern.{Pattern, out-Pattern, roll-Pattern, roll-out-Pattern}
 use Rattle.es6_ast.specs.declared.tree.Pattern.TheVariants as pattern
@@ -25,10 +22,10 @@ use Rattle.es6_ast.specs.declared.tree.Argument.TheOpen as layer
 use Rattle.es6_ast.specs.declared.tree.Argument.TheOpen.{Argument-F, Element-F, Expression-F, Pattern-F, Property-F}
 use Rattle.es6_ast.specs.Grammar.{name_target, name_alone}
 use Rattle.es6_reading.specs.Parser.{Shape, Bare, Grouped, Covered, LeftHandSide, Other}
-use Rattle.es6_reading.specs.Refine.{Open, Refined, Fits, Misfit, TooNested, refined_map, refined_cons, refined_then, span_of, bound, simple, alone, binds_names, made_part, target_of_default, part_in, rest_of, argument_part, element_part, is_last, array_parts_of, property_part, object_parts_of, target_in, refine, refine_pattern, refine_part, else_itself, target_before, parameters_of, parts_in, parts_of, rest_parameter, parameters_in, refine_parameters}
+use Rattle.es6_reading.specs.Refine.{Open, Refined, Fits, Misfit, TooNested, refined_map, refined_cons, span_of, bound, simple, alone, binds_names, made_part, target_of_default, part_in, rest_of, argument_part, element_part, is_last, array_parts_of, property_part, object_parts_of, target_in, refine, refine_pattern, refine_part, else_itself, target_before, parameters_of, parts_in, parts_of, rest_parameter, parameters_in, refine_parameters}
 use Rattle.es6_reading.specs.Expressions.{parameters_before}
-use Rattle.es6_reading.proofs.SpanCounts.{sum_of, in_some, in_argument, in_array_part, in_element, in_expression, in_key, in_object_part, in_parameter, in_part, in_pattern, in_property, with_expression}
-use Rattle.es6_reading.proofs.SpanSums.{in-single, in-spread, in-skipped_part, in-single_part, in-rest_part, in-hole, in-present, in-array_list, in-object_list, in-assign, in-sequence, in-group, in-cover, in-named_part, in-keyed_part, in-single_parameter, in-rest_parameter, in-target, in-array_pattern, in-object_pattern, in-plain, in-shorthand, in-initialized, in-part}
+use Rattle.es6_reading.proofs.SpanCounts.{sum_of, in_argument, in_array_part, in_element, in_expression, in_object_part, in_parameter, in_part, in_pattern, in_property}
+use Rattle.es6_reading.proofs.SpanSums.{in-single, in-spread, in-skipped_part, in-single_part, in-rest_part, in-present, in-array_list, in-object_list, in-assign, in-sequence, in-group, in-cover, in-named_part, in-keyed_part, in-single_parameter, in-rest_parameter, in-target, in-array_pattern, in-object_pattern, in-plain, in-initialized, in-part}
 use Rattle.es6_reading.proofs.ShallowParts.{in-name_target}
 
 -- where it fits, there are no more

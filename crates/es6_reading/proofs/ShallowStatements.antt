@@ -1,5 +1,5 @@
 -- How many constructs are open at what is read as statements.
-use Rattle.std.proofs.Common.{◌≡◌, ◌∙◌, ℕ, zero, suc, ◌+◌, ◌≤◌, Bool, true, false, List, [], ◌∷◌, Option, Some, None, ap, sym, refl, arith}
+use Rattle.std.proofs.Common.{◌≡◌, ℕ, zero, suc, ◌+◌, ◌≤◌, Bool, true, false, List, [], Option, Some, None, ap, sym, refl, arith}
 use Rattle.std.specs.Prelude.{codes, is_some}
 use Rattle.es_text.specs.declared.Span.{Span}
 use Rattle.es6_lexer.specs.declared.token.Punctuator.TheVariants as marks
@@ -10,28 +10,25 @@ use Rattle.es6_ast.specs.declared.tree.Block.{Block}
 use Rattle.es6_ast.specs.declared.tree.Catch.{Catch}
 use Rattle.es6_ast.specs.declared.tree.Expression.{Expression}
 use Rattle.es6_ast.specs.declared.tree.ForFirst.{ForFirst}
-use Rattle.es6_ast.specs.declared.tree.ForFirst.TheVariants.{NoFirst, FirstVariables, FirstExpression}
 use Rattle.es6_ast.specs.declared.tree.ForTarget.{ForTarget}
-use Rattle.es6_ast.specs.declared.tree.ForTarget.TheVariants.{Declared, Assigned}
 use Rattle.es6_ast.specs.declared.tree.Identifier.{Identifier}
-use Rattle.es6_ast.specs.declared.tree.Part.{Part, out-Part, roll-Part, roll-out-Part}
+use Rattle.es6_ast.specs.declared.tree.Part.{Part, roll-out-Part}
 use Rattle.es6_ast.specs.declared.tree.Statement.{Statement}
-use Rattle.es6_ast.specs.declared.tree.Statement.TheVariants as stat
-use Rattle.es6_ast.specs.Tokens.{Filled, begin_of}
+use Rattle.es6_ast.specs.Tokens.{begin_of}
 use Rattle.es6_ast.specs.Grammar.{Flags, with_in, without_in}
-use Rattle.es6_reading.specs.Parser.{Input, Outcome, Parser, Reading, is_left, Stand, Listed, Under, Labelled, mark, Inner}
+use Rattle.es6_reading.specs.Parser.{Input, Parser, is_left, Stand, Listed, Under, Labelled, mark, Inner}
 use Rattle.es6_reading.specs.Refine.{target_before}
 use Rattle.es6_reading.specs.Parts as t6
 use Rattle.es6_reading.specs.Statements as s6
 use Rattle.es6_reading.specs.Statements.{Header, ForHeader, OfHeader}
-use Rattle.es6_reading.proofs.Posts.{Holds, took, fault, bind, weaken, refused-holds, no-number-holds, no-expression-holds}
-use Rattle.es6_reading.proofs.SpanCounts.{sum_of, in_some, spans_statement, in_block, in_case, in_catch, in_condition, in_expression, in_for_first, in_for_target, in_part, in_pattern, in_statement, with_expression, with_statement}
+use Rattle.es6_reading.proofs.Posts.{Holds, took, fault, bind, weaken, refused-holds}
+use Rattle.es6_reading.proofs.SpanCounts.{sum_of, in_some, spans_statement, in_block, in_case, in_catch, in_condition, in_expression, in_for_first, in_for_target, in_part, in_pattern, in_statement, with_statement}
 use Rattle.es6_reading.proofs.SpanSums.{in-part}
 use Rattle.es6_reading.proofs.SpanSumsOfStatements as laws
-use Rattle.es6_reading.proofs.Shallow.{Sorted, At, Ready, ready, begin, and, less, finish, first, Within, within, Opened, Nothing, next, ends, take, close, either, looks, group}
+use Rattle.es6_reading.proofs.Shallow.{At, Ready, ready, begin, and, less, finish, first, Within, within, Nothing, next, ends, take, close, either, looks, group}
 use Rattle.es6_reading.proofs.ShallowTokens.{a-word, comma, colon, semicolon-mark, right-parenthesis, right-brace, label, kind-word, lexical-word}
 use Rattle.es6_reading.proofs.ShallowParts.{Shallow, semicolon_, do_while_end, block, initialized, function, named_function, class}
-use Rattle.es6_reading.proofs.ShallowExpressions.{ExpressionAt, same-span}
+use Rattle.es6_reading.proofs.ShallowExpressions.{same-span}
 use Rattle.es6_reading.proofs.ShallowRefined.{before-below}
 use Rattle.es6_reading.proofs.ShallowLevels.{fitting, sequence, none-sequence}
 

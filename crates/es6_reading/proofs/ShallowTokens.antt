@@ -1,8 +1,7 @@
 -- The groups that the tokens open and close which the readers know.
-use Rattle.std.proofs.Common.{◌≡◌, ℕ, Bool, true, false, List, Option, Some, None, ap, sym, refl, subst}
-use Rattle.std.specs.Prelude.{codes, cond}
+use Rattle.std.proofs.Common.{◌≡◌, ℕ, Bool, true, false, List, Some, None, refl}
+use Rattle.std.specs.Prelude.{cond}
 use Rattle.es6_lexer.specs.declared.token.TokenKind.TheVariants as kinds
-use Rattle.es6_lexer.specs.declared.token.Punctuator.{Punctuator as Mark}
 use Rattle.es6_lexer.specs.declared.token.Punctuator.TheVariants as marks
 use Rattle.es6_ast.specs.declared.operators.UnaryOperator.{UnaryOperator}
 use Rattle.es6_ast.specs.declared.operators.UnaryOperator.TheVariants as unaries
@@ -14,15 +13,13 @@ use Rattle.es6_ast.specs.declared.operators.AssignOperator.{AssignOperator}
 use Rattle.es6_ast.specs.declared.operators.AssignOperator.TheVariants as assign
 use Rattle.es6_ast.specs.declared.operators.Literal.{Literal}
 use Rattle.es6_ast.specs.declared.operators.Literal.TheVariants as literals
-use Rattle.es6_ast.specs.declared.operators.VariableKind.{VariableKind}
-use Rattle.es6_ast.specs.declared.tree.Stretch.{Stretch}
-use Rattle.es6_ast.specs.Tokens.{Filling, Read, Inserted, Filled}
+use Rattle.es6_ast.specs.Tokens.{Filling, Read, Inserted}
 use Rattle.es6_ast.specs.Grammar.{Flags, ends, unary_kind, update_kind, assign_kind, binary_kind, literal_kind, kind_word}
-use Rattle.es6_reading.specs.Parser.{mark, word, ending, kept_if}
-use Rattle.es6_reading.specs.Words.{KeyToken, WordToken, TextToken, IntegerToken, any_name, free_name, literal_at, text_at, key_at, accessor_at, accessor_name, stretch_at, unless, unary_at, before_at, after_at, assign_at, binary_at, arrow_at, kind_at, lexical_kind_at}
+use Rattle.es6_reading.specs.Parser.{mark, word, ending}
+use Rattle.es6_reading.specs.Words.{KeyToken, WordToken, TextToken, IntegerToken, any_name, free_name, literal_at, text_at, key_at, accessor_at, accessor_name, stretch_at, unary_at, before_at, after_at, assign_at, binary_at, arrow_at, kind_at, lexical_kind_at}
 use Rattle.es6_reading.specs.Expressions.{star_at}
 use Rattle.es6_reading.specs.Statements.{label_at, label_if}
-use Rattle.es6_reading.proofs.Meanings.{word-means, mark-means, ending-means, do-while-ending-means, any-name-means, free-name-means, literal-means, text-means, key_kind, key-means, accessor-means, stretch-means, unary-means, assign-means, before-means, after-means, binary-means, arrow-means, kind-means, lexical-kind-means}
+use Rattle.es6_reading.proofs.Meanings.{word-means, ending-means, do-while-ending-means, any-name-means, free-name-means, literal-means, text-means, key_kind, key-means, accessor-means, stretch-means, unary-means, assign-means, before-means, after-means, binary-means, arrow-means, kind-means, lexical-kind-means}
 use Rattle.es6_reading.proofs.Shallow.{Groups, Knows, of-kind, of-mark}
 
 pub a-word : (w : List ℕ) → Knows 0 0 (word w)

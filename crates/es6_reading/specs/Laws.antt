@@ -85,7 +85,7 @@ StandInOrder = (text : List ℕ) (tokens : List Token) → Lexes text tokens →
 
 -- At each token of a module that is read, at most 256 of its constructs are open, where the tokens stand one behind another.
 abbrev pub AreShallow : Type 0
-AreShallow = (fuel : ℕ) (tokens : List Token) (m : Module) (after : Input) → AreInOrder tokens → read_module fuel (map read tokens) ≡ Took m after → (p : ℕ) → p < length tokens → open_constructs (take (p + 1) tokens) m ≤ most_open
+AreShallow = (fuel : ℕ) (tokens : List Token) (m : Module) (after : Input) → AreInOrder tokens → read_module fuel (map read tokens) ≡ Took m after → (p : ℕ) → p < length tokens → open_constructs (take (p + 1) tokens) m ≤ 256
 
 -- No tokens spell two modules.
 abbrev pub IsUnique : Type 0
