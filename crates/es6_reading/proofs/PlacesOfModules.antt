@@ -404,7 +404,7 @@ placed mode fuel (suc room) =
 
 -- ## Modules
 
-pub of-rest : {ts us : List Filled} → Rest ts us → (front : List Filled) × (ts ≡ front ++ us)
+of-rest : {ts us : List Filled} → Rest ts us → (front : List Filled) × (ts ≡ front ++ us)
 of-rest all = ([], refl)
 of-rest (less {t = t} h) = let f = of-rest h in (t ∷ f.0, ap (λ vs. t ∷ vs) f.1)
 

@@ -32,6 +32,8 @@ pub data Walk (room : ℕ) (spans : ℕ → ℕ) (low high : ℕ) : ℕ → List
   stay : {g : ℕ} {ts : List Filled} → Walk room spans low high g ts g ts
   step : {g k h : ℕ} {t : Filled} {ts us : List Filled} → low ≤ t.span.begin → t.span.begin < high → g + opens_of t.kind + spans t.span.begin ≤ room → g + opens_of t.kind ≡ k + closes_of t.kind → Walk room spans low high k ts h us → Walk room spans low high g (t ∷ ts) h us
 
+-- What was read from the one input, with so many groups open, up to the other one, where so many are open. The spans of what it
+-- gives are counted at each place, and lie round none before what was taken or behind it.
 pub record At (room : ℕ) (s : Input) (g h : ℕ) (c : Input) (spans : ℕ → ℕ) : Type 0 where
   pub walk : Walk room spans s.last c.last g s.tokens h c.tokens
   pub before : (at : ℕ) → at < s.last → spans at ≡ 0
@@ -56,6 +58,7 @@ begin s a = record { walk = stay; before = λ at l. refl; behind = λ at l. refl
 
 -- ## Walks
 
+-- other bounds, and spans that are counted anew at the places in between
 change : {room room' low low' high high' : ℕ} {D E : ℕ → ℕ} {g h : ℕ} {ts us : List Filled} → ((at : ℕ) → low ≤ at → at < high → (low' ≤ at) × (at < high') × ((m : ℕ) → m + D at ≤ room → m + E at ≤ room')) → Walk room D low high g ts h us → Walk room' E low' high' g ts h us
 change f stay = stay
 change f (step {g = g} {t = t} l m b e w) =
@@ -72,6 +75,7 @@ join (step l m b e w) v = step l m b e (join w v)
 
 -- ## What is taken one after another
 
+-- what was read, and what is read after it
 pub and : {room g h k : ℕ} {s c d : Input} {D E : ℕ → ℕ} → At room s g h c D → At room c h k d E → At room s g k d (λ at. D at + E at)
 and {room = room} {s = s} {c = c} {d = d} {D = D} {E = E} a b = record {
   walk = join (change (λ at l m. let z = b.before at m in (l, omega (arith, m, b.order), λ n i. omega (arith, z, i))) a.walk) (change (λ at l m. let z = a.behind at l in (omega (arith, l, a.order), m, λ n i. omega (arith, z, i))) b.walk);
@@ -93,9 +97,6 @@ less {D = D} {E = E} a f = record {
   fits = a.fits;
 }
 
-pub equal : {room g h : ℕ} {s c : Input} {D E : ℕ → ℕ} → At room s g h c D → ((at : ℕ) → E at ≡ D at) → At room s g h c E
-equal a f = less a (λ at. omega (arith, f at))
-
 -- what a tree holds is a sum over its parts, and these were read
 pub finish : {room g h : ℕ} {s c : Input} {D E F : ℕ → ℕ} → At room s g h c D → ((at : ℕ) → E at ≡ F at) → ((at : ℕ) → F at ≤ D at) → At room s g h c E
 finish a e f = less a (λ at. omega (arith, e at, f at))
@@ -106,6 +107,7 @@ first f xs a e b = less a (λ at. omega (arith, e at, b at))
 
 -- ## One construct deeper
 
+-- in a group that the reader opened
 pub inside : {room : ℕ} {s c : Input} {D : ℕ → ℕ} → At room s 0 0 c D → At (suc room) s 1 1 c D
 inside a = record { walk = deepen a.walk; before = a.before; behind = a.behind; order = a.order; sorted = a.sorted; fits = omega arith }
 
@@ -130,6 +132,7 @@ one-before at span l = grind (arith, nat_tests)
 one-behind : (at : ℕ) (span : Span) → span.end ≤ at → one span at ≡ 0
 one-behind at span l = grind (arith, nat_tests)
 
+-- as a construct of its own
 pub surround : {room : ℕ} {s c : Input} {D : ℕ → ℕ} (span : Span) → s.last ≤ span.begin → span.end ≤ c.last → At room s 0 0 c D → At (suc room) s 0 0 c (λ at. one span at + D at)
 surround span l m a = record {
   walk = change (λ at i j. (i, j, λ n b. omega (arith, b, one-is at span))) a.walk;
@@ -183,6 +186,7 @@ over {room = room} {h = h} {k = k} {s = s} {D = D} {t = t} {ts = ts} {last = las
       fits = omega (arith, bound, e);
     }
 
+-- a token that opens and closes none, the one that opens a group, and the one that closes it
 pub passed : {B : Type 0} {room g h : ℕ} {s c d : Input} {D : ℕ → ℕ} {test : Filled → Option B} {x : B} → Knows 0 0 test → At room s g h c D → Taken test c x d → At room s g h d D
 passed f a (taken {t = t} {x = x} e) = let q = f t x e in over a q.2 (omega (arith, q.0, a.fits)) (omega (arith, q.0, q.1))
 

@@ -30,10 +30,6 @@ same-span {s = s} {c = c} e w = subst (λ z. Within s c z) (sym e) w
 pub wider : {room g h : ℕ} {s c d : Input} {D : ℕ → ℕ} {span : Span} → Within s c span → At room c g h d D → Within s d span
 wider w a = record { begins = w.begins; ends = omega (arith, w.ends, a.order) }
 
--- the same expression, after more tokens
-pub later : {room : ℕ} {s c : Input} {D : ℕ → ℕ} (x : Reading) (d : Input) → At room s 0 0 d D → ((at : ℕ) → in_expression x.value at ≤ D at) → Within s c (spans_expression x.value).span → c.last ≤ d.last → ExpressionAt room s x d
-later x d a l w o = (less a l, record { begins = w.begins; ends = omega (arith, w.ends, o) })
-
 pub no_operand : {Q : Reading → Input → Type 0} (role : Role) (s : Input) → Holds Q (e.no_operand role s)
 no_operand Leading s = no-expression-holds s
 no_operand Among s = no-expression-holds s

@@ -14,7 +14,7 @@ use Rattle.es6_reading.specs.Modules.{is_end, is_end_kind, end_at, most_open}
 use Rattle.es6_reading.specs.Laws.{AreShallow}
 use Rattle.es6_reading.proofs.Posts.{Holds, took, fault, of_took, bind, weaken, Taken, taken, take-holds, if-holds, refused-holds}
 use Rattle.es6_reading.proofs.Places.{Rest, all, less as further, Leaves, took_rest}
-use Rattle.es6_reading.proofs.PlacesOfModules.{placed, of-rest}
+use Rattle.es6_reading.proofs.PlacesOfModules.{placed}
 use Rattle.es6_reading.proofs.PlacesOfModules as places
 use Rattle.es6_reading.proofs.SpanCounts.{around, around-is, around-append, sum_of}
 use Rattle.es6_reading.proofs.Shallow.{opens_of, closes_of, Sorted, Walk, stay, step, At, Ready}

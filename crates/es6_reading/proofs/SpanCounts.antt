@@ -1,4 +1,4 @@
--- How many of the spans of constructs in a tree lie round a place.
+-- How many of the spans of constructs in a tree lie round a place: in it, and, for what may be a construct of its own, with it.
 use Rattle.std.proofs.Common.{◌≡◌, ℕ, ◌+◌, Bool, true, false, List, [], ◌∷◌, ◌++◌, map, Option, Some, None, refl, arith}
 use Rattle.std.specs.Prelude.{count_by, cond}
 use Rattle.std.proofs.lemmas.List.Recursion.{is_count_by}
