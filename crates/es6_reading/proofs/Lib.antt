@@ -97,3 +97,4 @@ pub mod CompleteMethods
 pub mod CompleteClasses
 pub mod CompleteDeclared
 pub mod CompleteModules
+pub mod Locality
