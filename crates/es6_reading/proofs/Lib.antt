@@ -98,3 +98,5 @@ pub mod CompleteClasses
 pub mod CompleteDeclared
 pub mod CompleteModules
 pub mod Locality
+pub mod LocalExpressions
+pub mod LocalModules

@@ -4,7 +4,7 @@
 use Rattle.std.proofs.Common.{◌≡◌, ◌∙◌, ℕ, zero, suc, Bool, true, false, List, [], ◌∷◌, ◌++◌, append_assoc, Option, Some, None, refl, sym, ap, subst}
 use Rattle.es6_lexer.specs.declared.token.Punctuator.{Punctuator as Mark}
 use Rattle.es6_ast.specs.Tokens.{Filling, Filled, begin_of}
-use Rattle.es6_reading.specs.Parser.{Input, Stop, Depth, Endless, Outcome, Took, Fault, Parser, fails, after, stop_in, number_stop_in, expression_stop_in, stop_at, on, on_taken, choose, next_is, if_next, from, take_as, mark, next_mark, refused, no_number, no_expression, Inner, on_group}
+use Rattle.es6_reading.specs.Parser.{Input, Stop, Depth, Endless, Outcome, Took, Fault, Parser, fails, after, stop_in, number_stop_in, expression_stop_in, stop_at, on, on_taken, choose, next_is, if_next, from, take_as, mark, next_mark, refused, no_number, no_expression, Inner, on_group, is_insertable}
 use Rattle.es6_reading.specs.Refine.{Refined, Fits, Misfit, TooNested}
 use Rattle.es6_reading.proofs.Follows.{plus, SameHead, nothing, same}
 use Rattle.es6_reading.proofs.RefineMore.{Kept, as_it_was, was_too_nested}
@@ -89,6 +89,13 @@ same-next test same = refl
 
 pub looks : {A : Type 0} {l : ℕ} (test : Filled → Bool) (p p' q q' : Parser A) (s : Input) → Local l p p' s → Local l q q' s → Local l (if_next test p q) (if_next test p' q') s
 looks test p p' q q' s f g = relay (λ us k. ap (λ b. choose b p' q' (record { tokens = us; last = s.last })) (same-next test k)) (either (next_is test s.tokens) p p' q q' s f g)
+
+pub insertable : {A : Type 0} {l : ℕ} (p p' q q' : Parser A) (s : Input) → Local l p p' s → Local l q q' s → Local l (λ c. choose (is_insertable c.tokens) p q c) (λ c. choose (is_insertable c.tokens) p' q' c) s
+insertable p p' q q' s f g = relay (λ us k. ap (λ b. choose b p' q' (record { tokens = us; last = s.last })) (same-ending k)) (either (is_insertable s.tokens) p p' q q' s f g)
+  where
+    same-ending : {ts us : List Filled} → SameHead ts us → is_insertable us ≡ is_insertable ts
+    same-ending nothing = refl
+    same-ending same = refl
 
 pub next : {A B : Type 0} {l : ℕ} (test : Filled → Option B) (p p' : B → Parser A) (q q' : Parser A) (s : Input) → ((x : B) (c : Input) → Local l (p x) (p' x) c) → Local l q q' s → Local l (on test p q) (on test p' q') s
 next {A = A} {B = B} {l = l} test p p' q q' s f g = at s.tokens s.last g
