@@ -100,3 +100,4 @@ pub mod CompleteModules
 pub mod Locality
 pub mod LocalExpressions
 pub mod LocalModules
+pub mod LocalLimits
