@@ -14,7 +14,7 @@ use Rattle.es6_ast.specs.declared.tree.Stretch.{Stretch}
 use Rattle.es6_ast.specs.declared.tree.Template.{Template}
 use Rattle.es6_ast.specs.Grammar.{Flags, with_in, of_function, of_arrow}
 use Rattle.es6_reading.specs.Parser as p
-use Rattle.es6_reading.specs.Parser.{Input, Parser, returns, refused, choose, Reading, is_left, Stand, Listed, Inner, semicolon, inserts, inserts_anywhere, is_insertable, next_is}
+use Rattle.es6_reading.specs.Parser.{Input, Parser, returns, refused, choose, Reading, is_left, Stand, Listed, Under, Labelled, Inner, semicolon, inserts, inserts_anywhere, is_insertable, next_is}
 use Rattle.es6_reading.specs.Refine.{Refined, Fits, Misfit, TooNested, target_before, parameters_of}
 use Rattle.es6_reading.specs.Parts as t6
 use Rattle.es6_reading.specs.Expressions as e
@@ -24,6 +24,12 @@ use Rattle.es6_reading.proofs.FollowPrimary as primary'
 use Rattle.es6_reading.proofs.FollowLevels as levels'
 use Rattle.es6_reading.proofs.RefineMore.{kept-before, kept-parameters-of, kept-parameters-before}
 use Rattle.es6_reading.proofs.Locality.{too_long, Local, bind, done, stops, nowhere, number, expression, either, next, take, looks, begins, insertable, Opens, opened, group, Turns, over, turn, endless, Deeper, as_before, nested_less, deeper}
+
+-- where a statement stands; in a list it stands inside a construct
+pub data Inside (i : Inner) : Stand → Type 0 where
+  in_list : i.may_open ≡ true → Inside i Listed
+  under_statement : Inside i Under
+  under_label : Inside i Labelled
 
 -- two readers, the second with so many more turns, and so many more constructs that may open
 pub record Grown (l : ℕ) (i j : Inner) : Type 0 where
@@ -43,7 +49,7 @@ pub record Grown (l : ℕ) (i j : Inner) : Type 0 where
   pub object_part : (f : Flags) (s : Input) → Local l (i.object_part f) (j.object_part f) s
   pub variable : (f : Flags) (s : Input) → Local l (i.variable f) (j.variable f) s
   pub member : (f : Flags) (s : Input) → Local l (i.member f) (j.member f) s
-  pub statement : (f : Flags) (stand : Stand) (s : Input) → Local l (i.statement f stand) (j.statement f stand) s
+  pub statement : (f : Flags) (stand : Stand) → Inside i stand → (s : Input) → Local l (i.statement f stand) (j.statement f stand) s
 
 module _ {l : ℕ} where
   pub identifier : (s : Input) → Local l (t6.identifier) (t6.identifier) s
@@ -115,7 +121,7 @@ module _ {l : ℕ} where
 module _ {l : ℕ} (i j : Inner) (h : Grown l i j) where
   key : (f : Flags) (s : Input) → Local l (t6.key i f) (t6.key j f) s
   unfolding t6.key t6.computed_key
-  key f s = begins (parts'.key_from i f) (parts'.key_from j f) s (λ place. next _ _ _ _ _ s (λ k c. done) (group i j h.opens marks.LeftBracket _ _ _ _ s (λ c. bind _ _ (h.assignment (with_in f) c) λ x d. bind _ _ (take _ d) λ t k. done) (number s)))
+  key f s = begins (parts'.key_from i f) (parts'.key_from j f) s (λ place. next _ _ _ _ _ s (λ k c. done) (group i j h.opens marks.LeftBracket _ _ _ _ s (λ c opens. bind _ _ (h.assignment (with_in f) c) λ x d. bind _ _ (take _ d) λ t k. done) (number s)))
 
   array_parts : (f : Flags) {n m : ℕ} (w : Turns l n m) (s : Input) → Local l (t6.array_parts i f n) (t6.array_parts j f m) s
   unfolding t6.array_parts
@@ -129,7 +135,7 @@ module _ {l : ℕ} (i j : Inner) (h : Grown l i j) where
 
   binding_pattern : (f : Flags) (at : ℕ) (s : Input) → Local l (t6.binding_pattern i f at) (t6.binding_pattern j f at) s
   unfolding t6.binding_pattern
-  binding_pattern f at s = group i j h.opens marks.LeftBracket _ _ _ _ s (λ c. bind _ _ (array_parts f h.fuel c) λ x d. done) (group i j h.opens marks.LeftBrace _ _ _ _ s (λ c. bind _ _ (object_parts f h.fuel c) λ x d. done) (nowhere s))
+  binding_pattern f at s = group i j h.opens marks.LeftBracket _ _ _ _ s (λ c opens. bind _ _ (array_parts f h.fuel c) λ x d. done) (group i j h.opens marks.LeftBrace _ _ _ _ s (λ c opens. bind _ _ (object_parts f h.fuel c) λ x d. done) (nowhere s))
 
   pub binding : (f : Flags) (s : Input) → Local l (t6.binding i f) (t6.binding j f) s
   unfolding t6.binding
@@ -164,22 +170,22 @@ module _ {l : ℕ} (i j : Inner) (h : Grown l i j) where
   unfolding t6.parameters
   parameters f s = next _ _ _ _ _ s (λ t c. done) (more_parameters f h.fuel s)
 
-  statements : (f : Flags) {n m : ℕ} (w : Turns l n m) (s : Input) → Local l (t6.statements i f n) (t6.statements j f m) s
+  statements : i.may_open ≡ true → (f : Flags) {n m : ℕ} (w : Turns l n m) (s : Input) → Local l (t6.statements i f n) (t6.statements j f m) s
   unfolding t6.statements
-  statements f over s = endless (λ m. t6.statements j f m) l (λ c. refl) s
-  statements f (turn w) s = next _ _ _ _ _ s (λ t c. done) (bind _ _ (h.statement f Listed s) λ x c. bind _ _ (statements f w c) λ y d. done)
+  statements opens f over s = endless (λ m. t6.statements j f m) l (λ c. refl) s
+  statements opens f (turn w) s = next _ _ _ _ _ s (λ t c. done) (bind _ _ (h.statement f Listed (in_list opens) s) λ x c. bind _ _ (statements opens f w c) λ y d. done)
 
   pub block : (f : Flags) (s : Input) → Local l (t6.block i f) (t6.block j f) s
   unfolding t6.block
-  block f s = begins (parts'.block_from i f) (parts'.block_from j f) s (λ place. group i j h.opens marks.LeftBrace _ _ _ _ s (λ c. bind _ _ (statements f h.fuel c) λ x d. done) (nowhere s))
+  block f s = begins (parts'.block_from i f) (parts'.block_from j f) s (λ place. group i j h.opens marks.LeftBrace _ _ _ _ s (λ c opens. bind _ _ (statements opens f h.fuel c) λ x d. done) (nowhere s))
 
   function_body : (generator : Bool) (s : Input) → Local l (t6.function_body i generator) (t6.function_body j generator) s
   unfolding t6.function_body
-  function_body generator s = group i j h.opens marks.LeftBrace _ _ _ _ s (λ c. statements (of_function generator) h.fuel c) (nowhere s)
+  function_body generator s = group i j h.opens marks.LeftBrace _ _ _ _ s (λ c opens. statements opens (of_function generator) h.fuel c) (nowhere s)
 
   signature : (generator : Bool) (s : Input) → Local l (t6.signature i generator) (t6.signature j generator) s
   unfolding t6.signature
-  signature generator s = bind _ _ (group i j h.opens marks.LeftParenthesis _ _ _ _ s (λ c. parameters (of_function generator) c) (nowhere s)) λ x c. bind _ _ (function_body generator c) λ y d. done
+  signature generator s = bind _ _ (group i j h.opens marks.LeftParenthesis _ _ _ _ s (λ c opens. parameters (of_function generator) c) (nowhere s)) λ x c. bind _ _ (function_body generator c) λ y d. done
 
   rest_of_function : (at : ℕ) (generator : Bool) (name : Option Identifier) (s : Input) → Local l (t6.rest_of_function i at generator name) (t6.rest_of_function j at generator name) s
   unfolding t6.rest_of_function
@@ -204,7 +210,7 @@ module _ {l : ℕ} (i j : Inner) (h : Grown l i j) where
 
   accessor : (f : Flags) (at : ℕ) (setter : Bool) (s : Input) → Local l (t6.accessor i f at setter) (t6.accessor j f at setter) s
   unfolding t6.accessor
-  accessor f at setter s = bind _ _ (key f s) λ k c. begins (parts'.accessor_parameters_from i at setter k) (parts'.accessor_parameters_from j at setter k) c (λ place. bind _ _ (group i j h.opens marks.LeftParenthesis _ _ _ _ c (λ d. accessor_parameters setter d) (nowhere c)) λ x d. bind _ _ (function_body false d) λ y m. done)
+  accessor f at setter s = bind _ _ (key f s) λ k c. begins (parts'.accessor_parameters_from i at setter k) (parts'.accessor_parameters_from j at setter k) c (λ place. bind _ _ (group i j h.opens marks.LeftParenthesis _ _ _ _ c (λ d opens. accessor_parameters setter d) (nowhere c)) λ x d. bind _ _ (function_body false d) λ y m. done)
 
   generator_method : (f : Flags) (at : ℕ) (s : Input) → Local l (t6.generator_method i f at) (t6.generator_method j f at) s
   unfolding t6.generator_method
@@ -233,7 +239,7 @@ module _ {l : ℕ} (i j : Inner) (h : Grown l i j) where
 
   rest_of_class : (f : Flags) (at : ℕ) (name : Option Identifier) (s : Input) → Local l (t6.rest_of_class i f at name) (t6.rest_of_class j f at name) s
   unfolding t6.rest_of_class
-  rest_of_class f at name s = bind _ _ (heritage f s) λ x c. bind _ _ (group i j h.opens marks.LeftBrace _ _ _ _ c (λ d. members f h.fuel d) (nowhere c)) λ ms d. done
+  rest_of_class f at name s = bind _ _ (heritage f s) λ x c. bind _ _ (group i j h.opens marks.LeftBrace _ _ _ _ c (λ d opens. members f h.fuel d) (nowhere c)) λ ms d. done
 
   named_class : (f : Flags) (at : ℕ) (s : Input) → Local l (t6.named_class i f at) (t6.named_class j f at) s
   unfolding t6.named_class
@@ -253,7 +259,7 @@ module _ {l : ℕ} (i j : Inner) (h : Grown l i j) where
   parted f at r s = bind _ _ (template_parts f h.fuel s) λ ms c. done
 
   on_template : {A : Type 0} (f : Flags) (at : ℕ) (p p' : Template → Parser A) (q q' : Parser A) (s : Input) → ((m : Template) (c : Input) → Local l (p m) (p' m) c) → Local l q q' s → Local l (t6.on_template i f at p q) (t6.on_template j f at p' q') s
-  on_template f at p p' q q' s k g = next _ _ _ _ _ s (λ r c. k _ c) (next _ _ _ _ _ s (λ r c. opened _ _ c h.opens (bind _ _ (parted f at r c) λ m d. k m d)) g)
+  on_template f at p p' q q' s k g = next _ _ _ _ _ s (λ r c. k _ c) (next _ _ _ _ _ s (λ r c. opened _ _ c h.opens (λ opens. bind _ _ (parted f at r c) λ m d. k m d)) g)
 
   argument : (f : Flags) (s : Input) → Local l (e.argument i f) (e.argument j f) s
   unfolding e.argument
@@ -294,11 +300,11 @@ module _ {l : ℕ} (i j : Inner) (h : Grown l i j) where
 
   bracketed : (f : Flags) (role : Role) (at : ℕ) (s : Input) → Local l (e.bracketed i f role at) (e.bracketed j f role at) s
   unfolding e.bracketed
-  bracketed f role at s = group i j h.opens marks.LeftBracket _ _ _ _ s (λ c. bind _ _ (elements f h.fuel c) λ l d. done) (group i j h.opens marks.LeftBrace _ _ _ _ s (λ c. bind _ _ (properties f h.fuel c) λ x d. done) (no_operand role s))
+  bracketed f role at s = group i j h.opens marks.LeftBracket _ _ _ _ s (λ c opens. bind _ _ (elements f h.fuel c) λ l d. done) (group i j h.opens marks.LeftBrace _ _ _ _ s (λ c opens. bind _ _ (properties f h.fuel c) λ x d. done) (no_operand role s))
 
   composed : (f : Flags) (role : Role) (at : ℕ) (s : Input) → Local l (e.composed i f role at) (e.composed j f role at) s
   unfolding e.composed
-  composed f role at s = next _ _ _ _ _ s (λ t c. bind _ _ (function true at c) λ x d. done) (next _ _ _ _ _ s (λ t c. bind _ _ (class f true at c) λ x d. done) (on_template f at _ _ _ _ s (λ m c. done) (group i j h.opens marks.LeftParenthesis _ _ _ _ s (λ c. grouped f role at c) (bracketed f role at s))))
+  composed f role at s = next _ _ _ _ _ s (λ t c. bind _ _ (function true at c) λ x d. done) (next _ _ _ _ _ s (λ t c. bind _ _ (class f true at c) λ x d. done) (on_template f at _ _ _ _ s (λ m c. done) (group i j h.opens marks.LeftParenthesis _ _ _ _ s (λ c opens. grouped f role at c) (bracketed f role at s))))
 
   primary : (f : Flags) (role : Role) (at : ℕ) (s : Input) → Local l (e.primary i f role at) (e.primary j f role at) s
   unfolding e.primary
@@ -306,11 +312,11 @@ module _ {l : ℕ} (i j : Inner) (h : Grown l i j) where
 
   after_new : (f : Flags) (at : ℕ) (s : Input) → Local l (e.after_new i f at) (e.after_new j f at) s
   unfolding e.after_new e.after_callee
-  after_new f at s = next _ _ _ _ _ s (λ t c. bind _ _ (take _ c) λ u d. done) (bind _ _ (h.callee f s) λ x c. group i j h.opens marks.LeftParenthesis _ _ _ _ c (λ d. bind _ _ (arguments f d) λ y k. done) (done))
+  after_new f at s = next _ _ _ _ _ s (λ t c. bind _ _ (take _ c) λ u d. done) (bind _ _ (h.callee f s) λ x c. group i j h.opens marks.LeftParenthesis _ _ _ _ c (λ d opens. bind _ _ (arguments f d) λ y k. done) (done))
 
   after_super : (f : Flags) (role : Role) (at : ℕ) (s : Input) → Local l (e.after_super i f role at) (e.after_super j f role at) s
   unfolding e.after_super e.super_call
-  after_super f role at s = next _ _ _ _ _ s (λ t c. bind _ _ (any_name c) λ n d. done) (group i j h.opens marks.LeftBracket _ _ _ _ s (λ c. bind _ _ (h.sequence (with_in f) c) λ x d. bind _ _ (take _ d) λ t k. done) (either (e.has_calls role) _ _ _ _ s (group i j h.opens marks.LeftParenthesis _ _ _ _ s (λ c. bind _ _ (arguments f c) λ x d. done) (nowhere s)) (nowhere s)))
+  after_super f role at s = next _ _ _ _ _ s (λ t c. bind _ _ (any_name c) λ n d. done) (group i j h.opens marks.LeftBracket _ _ _ _ s (λ c opens. bind _ _ (h.sequence (with_in f) c) λ x d. bind _ _ (take _ d) λ t k. done) (either (e.has_calls role) _ _ _ _ s (group i j h.opens marks.LeftParenthesis _ _ _ _ s (λ c opens. bind _ _ (arguments f c) λ x d. done) (nowhere s)) (nowhere s)))
 
   head : (f : Flags) (role : Role) (at : ℕ) (s : Input) → Local l (e.head i f role at) (e.head j f role at) s
   unfolding e.head
@@ -325,8 +331,8 @@ module _ {l : ℕ} (i j : Inner) (h : Grown l i j) where
   call f at s = bind _ _ (arguments f s) λ x c. done
 
   on_link : (f : Flags) (calls : Bool) (at : ℕ) (p p' : Link → Parser (List Link)) (q q' : Parser (List Link)) (s : Input) → ((x : Link) (c : Input) → Local l (p x) (p' x) c) → Local l q q' s → Local l (e.on_link i f calls at p q) (e.on_link j f calls at p' q') s
-  on_link f calls at p p' q q' s k g = next _ _ _ _ _ s (λ t c. bind _ _ (member_link _ c) λ x d. k x d) (group i j h.opens marks.LeftBracket _ _ _ _ s (λ c. bind _ _ (index f _ c) λ x d. k x d) (on_template f _ _ _ _ _ s (λ m c. k _ c)
-      (either calls _ _ _ _ s (group i j h.opens marks.LeftParenthesis _ _ _ _ s (λ c. bind _ _ (call f _ c) λ x d. k x d) g) g)))
+  on_link f calls at p p' q q' s k g = next _ _ _ _ _ s (λ t c. bind _ _ (member_link _ c) λ x d. k x d) (group i j h.opens marks.LeftBracket _ _ _ _ s (λ c opens. bind _ _ (index f _ c) λ x d. k x d) (on_template f _ _ _ _ _ s (λ m c. k _ c)
+      (either calls _ _ _ _ s (group i j h.opens marks.LeftParenthesis _ _ _ _ s (λ c opens. bind _ _ (call f _ c) λ x d. k x d) g) g)))
 
   links : (f : Flags) (calls : Bool) {n m : ℕ} (w : Turns l n m) (s : Input) → Local l (e.links i f calls n) (e.links j f calls m) s
   unfolding e.links

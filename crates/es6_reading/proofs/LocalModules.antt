@@ -26,7 +26,7 @@ use Rattle.es6_reading.proofs.FollowStatements as statements'
 use Rattle.es6_reading.proofs.FollowModules as modules'
 use Rattle.es6_reading.proofs.RefineMore.{kept-before}
 use Rattle.es6_reading.proofs.Locality.{Local, bind, done, stops, nowhere, either, next, take, looks, begins, group, Turns, over, turn, endless, deeper}
-use Rattle.es6_reading.proofs.LocalExpressions.{Grown, identifier, any_name, semicolon_, do_while_end, fitting, initialized, block, named_function, function, class, assignment, sequence}
+use Rattle.es6_reading.proofs.LocalExpressions.{in_list, under_statement, under_label, Grown, identifier, any_name, semicolon_, do_while_end, fitting, initialized, block, named_function, function, class, assignment, sequence}
 
 module _ {l : ℕ} where
   variables : (one one' : Parser Part) (k : (s : Input) → Local l one one' s) {n m : ℕ} (w : Turns l n m) (s : Input) → Local l (s6.variables one n) (s6.variables one' m) s
@@ -71,16 +71,16 @@ module _ {l : ℕ} (i j : Inner) (h : Grown l i j) where
 
   parenthesized : (f : Flags) (s : Input) → Local l (s6.parenthesized i f) (s6.parenthesized j f) s
   unfolding s6.parenthesized
-  parenthesized f s = group i j h.opens marks.LeftParenthesis _ _ _ _ s (λ c. bind _ _ (h.sequence (with_in f) c) λ x d. bind _ _ (take _ d) λ t k. done) (nowhere s)
+  parenthesized f s = group i j h.opens marks.LeftParenthesis _ _ _ _ s (λ c opens. bind _ _ (h.sequence (with_in f) c) λ x d. bind _ _ (take _ d) λ t k. done) (nowhere s)
 
   condition : (f : Flags) (s : Input) → Local l (s6.condition i f) (s6.condition j f) s
   unfolding s6.condition
-  condition f s = begins (statements'.condition_from i f) (statements'.condition_from j f) s (λ place. bind _ _ (take _ s) λ t c. bind _ _ (parenthesized f c) λ x d. bind _ _ (h.statement f Under d) λ y k. done)
+  condition f s = begins (statements'.condition_from i f) (statements'.condition_from j f) s (λ place. bind _ _ (take _ s) λ t c. bind _ _ (parenthesized f c) λ x d. bind _ _ (h.statement f Under under_statement d) λ y k. done)
 
   otherwise : (f : Flags) {n m : ℕ} (w : Turns l n m) (s : Input) → Local l (s6.otherwise i f n) (s6.otherwise j f m) s
   unfolding s6.otherwise
   otherwise f over s = endless (λ m. s6.otherwise j f m) l (λ c. refl) s
-  otherwise f (turn w) s = next _ _ _ _ _ s (λ t c. looks _ _ _ _ _ c (bind _ _ (condition f c) λ x d. bind _ _ (otherwise f w d) λ r k. done) (bind _ _ (h.statement f Under c) λ x d. done)) done
+  otherwise f (turn w) s = next _ _ _ _ _ s (λ t c. looks _ _ _ _ _ c (bind _ _ (condition f c) λ x d. bind _ _ (otherwise f w d) λ r k. done) (bind _ _ (h.statement f Under under_statement c) λ x d. done)) done
 
   if_statement : (f : Flags) (at : ℕ) (s : Input) → Local l (s6.if_statement i f at) (s6.if_statement j f at) s
   unfolding s6.if_statement
@@ -88,11 +88,11 @@ module _ {l : ℕ} (i j : Inner) (h : Grown l i j) where
 
   do_statement : (f : Flags) (at : ℕ) (s : Input) → Local l (s6.do_statement i f at) (s6.do_statement j f at) s
   unfolding s6.do_statement
-  do_statement f at s = bind _ _ (h.statement f Under s) λ x c. bind _ _ (take _ c) λ t d. bind _ _ (parenthesized f d) λ y k. bind _ _ (do_while_end i j h.mode k) λ u m. done
+  do_statement f at s = bind _ _ (h.statement f Under under_statement s) λ x c. bind _ _ (take _ c) λ t d. bind _ _ (parenthesized f d) λ y k. bind _ _ (do_while_end i j h.mode k) λ u m. done
 
   while_statement : (f : Flags) (at : ℕ) (s : Input) → Local l (s6.while_statement i f at) (s6.while_statement j f at) s
   unfolding s6.while_statement
-  while_statement f at s = bind _ _ (parenthesized f s) λ x c. bind _ _ (h.statement f Under c) λ y d. done
+  while_statement f at s = bind _ _ (parenthesized f s) λ x c. bind _ _ (h.statement f Under under_statement c) λ y d. done
 
   optional : (f : Flags) (end : Filled → Option Filled) (s : Input) → Local l (s6.optional i f end) (s6.optional j f end) s
   unfolding s6.optional
@@ -140,7 +140,7 @@ module _ {l : ℕ} (i j : Inner) (h : Grown l i j) where
 
   for_statement : (f : Flags) (at : ℕ) (s : Input) → Local l (s6.for_statement i f at) (s6.for_statement j f at) s
   unfolding s6.for_statement
-  for_statement f at s = bind _ _ (group i j h.opens marks.LeftParenthesis _ _ _ _ s (λ c. for_header f c) (nowhere s)) λ x c. bind _ _ (h.statement f Under c) λ y d. done
+  for_statement f at s = bind _ _ (group i j h.opens marks.LeftParenthesis _ _ _ _ s (λ c opens. for_header f c) (nowhere s)) λ x c. bind _ _ (h.statement f Under under_statement c) λ y d. done
 
   continue_statement : (at : ℕ) (s : Input) → Local l (s6.continue_statement i at) (s6.continue_statement j at) s
   unfolding s6.continue_statement
@@ -162,27 +162,27 @@ module _ {l : ℕ} (i j : Inner) (h : Grown l i j) where
   unfolding s6.throw_statement
   throw_statement f at s = looks _ _ _ _ _ s (nowhere s) (bind _ _ (sequence i j h (with_in f) s) λ x c. bind _ _ (semicolon_ i j h.mode c) λ t d. done)
 
-  in_case : (f : Flags) {n m : ℕ} (w : Turns l n m) (s : Input) → Local l (s6.in_case i f n) (s6.in_case j f m) s
+  in_case : i.may_open ≡ true → (f : Flags) {n m : ℕ} (w : Turns l n m) (s : Input) → Local l (s6.in_case i f n) (s6.in_case j f m) s
   unfolding s6.in_case
-  in_case f over s = endless (λ m. s6.in_case j f m) l (λ c. refl) s
-  in_case f (turn w) s = looks _ _ _ _ _ s done (bind _ _ (h.statement f Listed s) λ x c. bind _ _ (in_case f w c) λ y d. done)
+  in_case opens f over s = endless (λ m. s6.in_case j f m) l (λ c. refl) s
+  in_case opens f (turn w) s = looks _ _ _ _ _ s done (bind _ _ (h.statement f Listed (in_list opens) s) λ x c. bind _ _ (in_case opens f w c) λ y d. done)
 
-  case_clause : (f : Flags) (at : ℕ) (s : Input) → Local l (s6.case_clause i f at) (s6.case_clause j f at) s
+  case_clause : i.may_open ≡ true → (f : Flags) (at : ℕ) (s : Input) → Local l (s6.case_clause i f at) (s6.case_clause j f at) s
   unfolding s6.case_clause
-  case_clause f at s = bind _ _ (h.sequence (with_in f) s) λ x c. bind _ _ (take _ c) λ t d. bind _ _ (in_case f h.fuel d) λ y k. done
+  case_clause opens f at s = bind _ _ (h.sequence (with_in f) s) λ x c. bind _ _ (take _ c) λ t d. bind _ _ (in_case opens f h.fuel d) λ y k. done
 
-  default_clause : (f : Flags) (at : ℕ) (s : Input) → Local l (s6.default_clause i f at) (s6.default_clause j f at) s
+  default_clause : i.may_open ≡ true → (f : Flags) (at : ℕ) (s : Input) → Local l (s6.default_clause i f at) (s6.default_clause j f at) s
   unfolding s6.default_clause
-  default_clause f at s = bind _ _ (take _ s) λ t c. bind _ _ (in_case f h.fuel c) λ y d. done
+  default_clause opens f at s = bind _ _ (take _ s) λ t c. bind _ _ (in_case opens f h.fuel c) λ y d. done
 
-  cases : (f : Flags) (may : Bool) {n m : ℕ} (w : Turns l n m) (s : Input) → Local l (s6.cases i f may n) (s6.cases j f may m) s
+  cases : i.may_open ≡ true → (f : Flags) (may : Bool) {n m : ℕ} (w : Turns l n m) (s : Input) → Local l (s6.cases i f may n) (s6.cases j f may m) s
   unfolding s6.cases
-  cases f may over s = endless (λ m. s6.cases j f may m) l (λ c. refl) s
-  cases f may (turn {n = n} {m = m} w) s = begins (statements'.cases_from i f may (s6.cases i f may n) (s6.cases i f false n)) (statements'.cases_from j f may (s6.cases j f may m) (s6.cases j f false m)) s (λ place. next _ _ _ _ _ s (λ t c. done) (next _ _ _ _ _ s (λ t c. bind _ _ (case_clause f _ c) λ x d. bind _ _ (cases f may w d) λ y k. done) (either may _ _ _ _ s (next _ _ _ _ _ s (λ t c. bind _ _ (default_clause f _ c) λ x d. bind _ _ (cases f false w d) λ y k. done) (nowhere s)) (nowhere s))))
+  cases opens f may over s = endless (λ m. s6.cases j f may m) l (λ c. refl) s
+  cases opens f may (turn {n = n} {m = m} w) s = begins (statements'.cases_from i f may (s6.cases i f may n) (s6.cases i f false n)) (statements'.cases_from j f may (s6.cases j f may m) (s6.cases j f false m)) s (λ place. next _ _ _ _ _ s (λ t c. done) (next _ _ _ _ _ s (λ t c. bind _ _ (case_clause opens f _ c) λ x d. bind _ _ (cases opens f may w d) λ y k. done) (either may _ _ _ _ s (next _ _ _ _ _ s (λ t c. bind _ _ (default_clause opens f _ c) λ x d. bind _ _ (cases opens f false w d) λ y k. done) (nowhere s)) (nowhere s))))
 
   switch_statement : (f : Flags) (at : ℕ) (s : Input) → Local l (s6.switch_statement i f at) (s6.switch_statement j f at) s
   unfolding s6.switch_statement
-  switch_statement f at s = bind _ _ (parenthesized f s) λ x c. bind _ _ (group i j h.opens marks.LeftBrace _ _ _ _ c (λ d. cases f true h.fuel d) (nowhere c)) λ y d. done
+  switch_statement f at s = bind _ _ (parenthesized f s) λ x c. bind _ _ (group i j h.opens marks.LeftBrace _ _ _ _ c (λ d opens. cases opens f true h.fuel d) (nowhere c)) λ y d. done
 
   catch_parameter : (f : Flags) (s : Input) → Local l (s6.catch_parameter i f) (s6.catch_parameter j f) s
   unfolding s6.catch_parameter
@@ -190,7 +190,7 @@ module _ {l : ℕ} (i j : Inner) (h : Grown l i j) where
 
   handler : (f : Flags) (s : Input) → Local l (s6.handler i f) (s6.handler j f) s
   unfolding s6.handler
-  handler f s = begins (statements'.handler_from i f) (statements'.handler_from j f) s (λ place. bind _ _ (take _ s) λ t c. bind _ _ (group i j h.opens marks.LeftParenthesis _ _ _ _ c (λ d. catch_parameter f d) (nowhere c)) λ x d. bind _ _ (block i j h f d) λ b k. done)
+  handler f s = begins (statements'.handler_from i f) (statements'.handler_from j f) s (λ place. bind _ _ (take _ s) λ t c. bind _ _ (group i j h.opens marks.LeftParenthesis _ _ _ _ c (λ d opens. catch_parameter f d) (nowhere c)) λ x d. bind _ _ (block i j h f d) λ b k. done)
 
   after_handler : (f : Flags) (at : ℕ) (b : Block) (x : Catch) (s : Input) → Local l (s6.after_handler i f at b x) (s6.after_handler j f at b x) s
   unfolding s6.after_handler
@@ -214,7 +214,7 @@ module _ {l : ℕ} (i j : Inner) (h : Grown l i j) where
 
   labelled : (f : Flags) (at : ℕ) (n : Identifier) (s : Input) → Local l (s6.labelled i f at n) (s6.labelled j f at n) s
   unfolding s6.labelled
-  labelled f at n s = bind _ _ (h.statement f Labelled s) λ x c. done
+  labelled f at n s = bind _ _ (h.statement f Labelled under_label s) λ x c. done
 
   label_or_end : (f : Flags) (at : ℕ) (n : Option Identifier) (x : Expression) (s : Input) → Local l (s6.label_or_end i f at n x) (s6.label_or_end j f at n x) s
   label_or_end f at (Some n) x s = next _ _ _ _ _ s (λ t c. labelled f at n c) (expression_end at x s)
@@ -270,7 +270,7 @@ module _ {l : ℕ} (i j : Inner) (h : Grown l i j) where
 
   imported_names : (s : Input) → Local l (m6.imported_names i) (m6.imported_names j) s
   unfolding m6.imported_names
-  imported_names s = next _ _ _ _ _ s (λ t c. namespace c) (group i j h.opens marks.LeftBrace _ _ _ _ s (λ c. bind _ _ (imports h.fuel c) λ x d. done) (nowhere s))
+  imported_names s = next _ _ _ _ _ s (λ t c. namespace c) (group i j h.opens marks.LeftBrace _ _ _ _ s (λ c opens. bind _ _ (imports h.fuel c) λ x d. done) (nowhere s))
 
   rest_of_import : (at : ℕ) (n : Option Identifier) (names : ImportedNames) (s : Input) → Local l (m6.rest_of_import i at n names) (m6.rest_of_import j at n names) s
   unfolding m6.rest_of_import
@@ -294,7 +294,7 @@ module _ {l : ℕ} (i j : Inner) (h : Grown l i j) where
 
   export_names : (at : ℕ) (s : Input) → Local l (m6.export_names i at) (m6.export_names j at) s
   unfolding m6.export_names
-  export_names at s = bind _ _ (group i j h.opens marks.LeftBrace _ _ _ _ s (λ c. exports h.fuel c) (nowhere s)) λ ns c. looks _ _ _ _ _ c (bind _ _ (from_clause c) λ x d. done) (own_names at ns c)
+  export_names at s = bind _ _ (group i j h.opens marks.LeftBrace _ _ _ _ s (λ c opens. exports h.fuel c) (nowhere s)) λ ns c. looks _ _ _ _ _ c (bind _ _ (from_clause c) λ x d. done) (own_names at ns c)
 
   export_all : (at : ℕ) (s : Input) → Local l (m6.export_all i at) (m6.export_all j at) s
   unfolding m6.export_all

@@ -42,7 +42,7 @@ behind front e h (too_deep m) = too_deep m
 behind front e h (too_long m) = too_long m
 
 -- where both runs are the same
-relay : {A : Type 0} {l : ℕ} {run run' : List Filled → Outcome A} {ts : List Filled} {o : Outcome A} → ((us : List Filled) → SameHead ts us → run' us ≡ run us) → LocalOf l run ts o → LocalOf l run' ts o
+pub relay : {A : Type 0} {l : ℕ} {run run' : List Filled → Outcome A} {ts : List Filled} {o : Outcome A} → ((us : List Filled) → SameHead ts us → run' us ≡ run us) → LocalOf l run ts o → LocalOf l run' ts o
 relay h r = behind [] refl h r
 
 pub bind : {A B : Type 0} {l : ℕ} {ts : List Filled} {o : Outcome A} {run : List Filled → Outcome A} (q q' : A → Parser B)
@@ -83,7 +83,7 @@ pub either : {A : Type 0} {l : ℕ} (b : Bool) (p p' q q' : Parser A) (s : Input
 either true p p' q q' s f g = f
 either false p p' q q' s f g = g
 
-same-next : (test : Filled → Bool) {ts us : List Filled} → SameHead ts us → next_is test us ≡ next_is test ts
+pub same-next : (test : Filled → Bool) {ts us : List Filled} → SameHead ts us → next_is test us ≡ next_is test ts
 same-next test nothing = refl
 same-next test same = refl
 
@@ -136,13 +136,13 @@ pub data Opens (l : ℕ) : Bool → Bool → Type 0 where
   opens_now : Slack l → Opens l false true
 
 -- what is read inside a construct that may open
-pub opened : {A : Type 0} {l : ℕ} {b b' : Bool} (p p' : Parser A) (s : Input) → Opens l b b' → Local l p p' s → Local l (choose b p (fails Depth)) (choose b' p' (fails Depth)) s
-opened {b = true} p p' s alike f = f
+pub opened : {A : Type 0} {l : ℕ} {b b' : Bool} (p p' : Parser A) (s : Input) → Opens l b b' → (b ≡ true → Local l p p' s) → Local l (choose b p (fails Depth)) (choose b' p' (fails Depth)) s
+opened {b = true} p p' s alike f = f refl
 opened {b = false} p p' s alike f = stops
 opened p p' s (opens_now m) f = too_deep m
 
-pub group : {A : Type 0} {l : ℕ} (i j : Inner) → Opens l i.may_open j.may_open → (m : Mark) (p p' q q' : Parser A) (s : Input) → ((c : Input) → Local l p p' c) → Local l q q' s → Local l (on_group i m p q) (on_group j m p' q') s
-group i j o m p p' q q' s f g = looks (next_mark m) _ _ q q' s (opened _ _ s o (next (mark m) (λ t. p) (λ t. p') q q' s (λ t c. f c) g)) g
+pub group : {A : Type 0} {l : ℕ} (i j : Inner) → Opens l i.may_open j.may_open → (m : Mark) (p p' q q' : Parser A) (s : Input) → ((c : Input) → i.may_open ≡ true → Local l p p' c) → Local l q q' s → Local l (on_group i m p q) (on_group j m p' q') s
+group i j o m p p' q q' s f g = looks (next_mark m) _ _ q q' s (opened _ _ s o (λ e. next (mark m) (λ t. p) (λ t. p') q q' s (λ t c. f c e) g)) g
 
 -- ## More turns of loops
 
