@@ -101,3 +101,4 @@ pub mod Locality
 pub mod LocalExpressions
 pub mod LocalModules
 pub mod LocalLimits
+pub mod LocalReaders

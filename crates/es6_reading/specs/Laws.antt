@@ -1,5 +1,5 @@
 -- What is proved of the model, in the grammar's terms.
-use Rattle.std.specs.Prelude.{◌≡◌, ℕ, ◌+◌, ◌<◌, ◌≤◌, ◌⊎◌, false, List, [], ◌∷◌, ◌++◌, length, map, take, codes}
+use Rattle.std.specs.Prelude.{◌≡◌, ℕ, ◌+◌, ◌<◌, ◌≤◌, ◌⊎◌, Bool, false, List, [], ◌∷◌, ◌++◌, length, map, take, codes}
 use Rattle.es6_lexer.specs.declared.token.Token.{Token}
 use Rattle.es6_lexer.specs.declared.token.TokenKind.TheVariants as kinds
 use Rattle.es6_lexer.specs.declared.token.NumberToken.TheVariants.{TooLarge, Marked}
@@ -103,3 +103,39 @@ IsLink x = ⊥
 abbrev pub LinksAreRead : Type 0
 LinksAreRead = (tokens us : List Filled) (x : Item) → IsItem tokens x us → IsLink x
     → (bound : ℕ) × ((fuel room last : ℕ) → bound ≤ fuel → bound ≤ room → (end : ℕ) × (one_item (readers false fuel room) (record { tokens = tokens; last = last }) ≡ Took x (record { tokens = us; last = end })))
+
+-- the tokens begin with the same one, or both have none
+abbrev pub BeginAlike : List Filled → List Filled → Type 0
+BeginAlike [] us = us ≡ []
+BeginAlike (t ∷ ts) us = (rest : List Filled) × (us ≡ t ∷ rest)
+
+-- A fault rests on the tokens up to the one that it stands at, and on none behind it: it stands there whatever follows.
+abbrev pub FaultsAreLocal : Type 0
+FaultsAreLocal = (inserting : Bool) (fuel room : ℕ) (tokens : List Filled) (last : ℕ) (stop : Stop) (rest : List Filled)
+    → whole_module (readers inserting fuel room) (record { tokens = tokens; last = last }) ≡ Fault stop rest
+    → (front : List Filled) × (tokens ≡ front ++ rest) × ((others : List Filled) → BeginAlike rest others → whole_module (readers inserting fuel room) (record { tokens = front ++ others; last = last }) ≡ Fault stop others)
+
+-- a fault that isn't for want of constructs that may open, or of turns of a loop
+abbrev pub IsFinal : Stop → Type 0
+IsFinal Depth = ⊥
+IsFinal Endless = ⊥
+IsFinal stop = Unit {0}
+
+-- Such a fault stays where more constructs may open and loops have more turns.
+abbrev pub FaultsStay : Type 0
+FaultsStay = (inserting : Bool) (fuel room more : ℕ) (tokens : List Filled) (last : ℕ) (stop : Stop) (rest : List Filled)
+    → whole_module (readers inserting fuel room) (record { tokens = tokens; last = last }) ≡ Fault stop rest → IsFinal stop
+    → whole_module (readers inserting (fuel + more) (room + more)) (record { tokens = tokens; last = last }) ≡ Fault stop rest
+
+-- What is read is read so where more constructs may open and loops have more turns.
+abbrev pub ReadingsStay : Type 0
+ReadingsStay = (inserting : Bool) (fuel room more : ℕ) (tokens : List Filled) (last : ℕ) (m : Module) (after : Input)
+    → whole_module (readers inserting fuel room) (record { tokens = tokens; last = last }) ≡ Took m after
+    → whole_module (readers inserting (fuel + more) (room + more)) (record { tokens = tokens; last = last }) ≡ Took m after
+
+-- Without inserted semicolons: such a fault stands at a token with which no module goes on after the tokens before it, or at the end
+-- of tokens that are no module.
+abbrev pub FaultsAreDead : Type 0
+FaultsAreDead = (fuel room : ℕ) (tokens : List Filled) (last : ℕ) (stop : Stop) (rest : List Filled)
+    → whole_module (readers false fuel room) (record { tokens = tokens; last = last }) ≡ Fault stop rest → IsFinal stop
+    → (front : List Filled) × (tokens ≡ front ++ rest) × ((others : List Filled) (m : Module) → BeginAlike rest others → IsModule (front ++ others) m → ⊥)

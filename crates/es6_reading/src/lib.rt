@@ -5,7 +5,7 @@
 #![tactic(auto)]
 
 ghost use Rattle.es6_reading.specs.Examples.{AreRead, AreStopped, IsDeepest};
-ghost use Rattle.es6_reading.specs.Laws.{AreShallow, AreSpelled, FaultsAreInside, FaultsSayWhatStandsThere, IsComplete, IsInserted, IsSound, IsUnambiguous, IsUnique, LinksAreRead, StandInOrder};
+ghost use Rattle.es6_reading.specs.Laws.{AreShallow, AreSpelled, FaultsAreDead, FaultsAreInside, FaultsAreLocal, FaultsSayWhatStandsThere, FaultsStay, IsComplete, IsInserted, IsSound, IsUnambiguous, IsUnique, LinksAreRead, ReadingsStay, StandInOrder};
 ghost use Rattle.es6_reading.specs.Program.{IsProgramRead};
 ghost use Rattle.es6_reading.specs.Refinements.{AreRefined, ComeFromExpressions};
 
@@ -62,6 +62,27 @@ pub fn faults_stand_at_tokens()
 /// rule speaks of.
 pub fn faults_say_what_stands_there()
     ensures { FaultsSayWhatStandsThere }
+{}
+
+/// A fault rests on the tokens up to the one that it stands at, whatever follows.
+pub fn faults_rest_on_no_later_token()
+    ensures { FaultsAreLocal }
+{}
+
+/// A fault stays where more constructs may open and loops have more turns, unless it is for want of these.
+pub fn faults_stay_with_more_room()
+    ensures { FaultsStay }
+{}
+
+/// What is read is read so where more constructs may open and loops have more turns.
+pub fn readings_stay_with_more_room()
+    ensures { ReadingsStay }
+{}
+
+/// Without inserted semicolons a fault stands at a token with which no module goes on after the tokens before it, unless it is for
+/// want of constructs that may open, or of turns.
+pub fn faults_stand_where_no_module_goes_on()
+    ensures { FaultsAreDead }
 {}
 
 /// Small modules are read to their end.
