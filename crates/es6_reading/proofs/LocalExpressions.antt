@@ -1,5 +1,5 @@
 -- Readers of expressions look at no token past the first one that they don't take, and read the same with more turns and room.
-use Rattle.std.proofs.Common.{◌≡◌, ℕ, zero, suc, Bool, true, false, List, ◌∷◌, Option, Some, None, refl, ap, subst}
+use Rattle.std.proofs.Common.{◌≡◌, ℕ, zero, suc, Bool, true, false, List, ◌∷◌, Option, Some, None, refl, subst}
 use Rattle.es6_lexer.specs.declared.token.Punctuator.TheVariants as marks
 use Rattle.es6_ast.specs.declared.operators.AssignOperator.{AssignOperator}
 use Rattle.es6_ast.specs.declared.operators.MethodKind.{MethodKind}

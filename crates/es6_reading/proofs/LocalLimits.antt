@@ -1,23 +1,22 @@
 -- Where the next token begins no expression, or no statement, the readers of them stop at it, as they do where no construct may
 -- open any more.
 use Rattle.std.specs.Prelude.{codes, is_some, not}
-use Rattle.std.proofs.Common.{◌≡◌, ◌∙◌, ℕ, zero, suc, ◌+◌, Bool, true, false, ◌||◌, ◌&&◌, List, [], ◌∷◌, Option, Some, None, refl, sym, ap, subst}
+use Rattle.std.proofs.Common.{◌≡◌, ◌∙◌, ℕ, zero, suc, ◌+◌, Bool, true, false, ◌||◌, ◌&&◌, List, [], ◌∷◌, Option, Some, None, refl, sym, ap}
 use Rattle.std.proofs.lemmas.Bool.{false≢true, or_parts}
 use Rattle.es_text.specs.declared.Span.{Span}
 use Rattle.es_outside.specs.HostNames.{reserved_words}
 use Rattle.es6_lexer.specs.declared.token.TokenKind.TheVariants as kinds
-use Rattle.es6_lexer.specs.declared.token.Punctuator.{Punctuator as Mark}
 use Rattle.es6_lexer.specs.declared.token.Punctuator.TheVariants as marks
 use Rattle.es6_ast.specs.Tokens.{Filling, Read, Filled, is_word}
 use Rattle.es6_ast.specs.Grammar.{Flags}
 use Rattle.es6_ast.specs.declared.tree.Statement.{Statement}
-use Rattle.es6_reading.specs.Parser.{Input, Stop, Syntax, Outside, Depth, Outcome, Fault, Parser, fails, after, stop_at, expression_stop_in, number_stop_in, choose, next_is, on, if_next, is_mark, next_mark, mark, word, next_word, no_expression, no_number, Reading, Stand, Listed, Under, Labelled, Inner}
+use Rattle.es6_reading.specs.Parser.{Input, Stop, Syntax, Outside, Depth, Outcome, Fault, Parser, fails, after, expression_stop_in, number_stop_in, choose, next_is, on, if_next, is_mark, next_mark, mark, word, next_word, no_expression, no_number, Stand, Listed, Under, Labelled, Inner}
 use Rattle.es6_reading.specs.Words.{free_name, literal_at, stretch_in, stretch_at, unary_at, before_at, is_any_word, is_template_head, operand_words, begins_operand, begins_unary, begins_expression}
 use Rattle.es6_reading.specs.Expressions as e
 use Rattle.es6_reading.specs.Expressions.{Role, Leading, Among, Heritage, Callee}
 use Rattle.es6_reading.specs.Statements as s6
 use Rattle.es6_reading.specs.Statements.{begins_declaration, begins_statement, statement_words, may_declare}
-use Rattle.es6_reading.proofs.CompleteTokens.{no-word, is-false, mark-miss, word-miss}
+use Rattle.es6_reading.proofs.CompleteTokens.{no-word, mark-miss, word-miss}
 use Rattle.es6_reading.proofs.Meanings.{word-is}
 use Rattle.es6_reading.proofs.Reading.{on-miss-is}
 use Rattle.es6_reading.proofs.Locality.{Slack, Local, LocalOf, too_deep, relay, same-next}

@@ -1,13 +1,13 @@
 -- The readers tied into one another look at no token past the first one that they don't take, and read the same where more may open
 -- and loops have more turns. So a fault stands at a token with which no module goes on.
-use Rattle.std.proofs.Common.{◌≡◌, ◌∙◌, ℕ, zero, suc, ◌+◌, ◌≤◌, arith, Bool, true, false, List, [], ◌∷◌, ◌++◌, refl, sym, ap, subst}
+use Rattle.std.proofs.Common.{◌≡◌, ◌∙◌, ℕ, zero, suc, ◌+◌, ◌≤◌, arith, Bool, false, List, [], ◌∷◌, ◌++◌, refl, sym, ap, subst}
 use Rattle.std.proofs.lemmas.Bool.{false≢true}
 use Rattle.std.proofs.lemmas.List.{append_cancel_right}
 use Rattle.es6_ast.specs.declared.module.Module.{Module}
 use Rattle.es6_ast.specs.Tokens.{Filled}
 use Rattle.es6_ast.specs.Grammar.{Flags}
 use Rattle.es6_ast.specs.Modules.{IsModule}
-use Rattle.es6_reading.specs.Parser.{Input, Stop, Syntax, Lexical, Outside, Depth, Endless, Outcome, Took, Fault, fails, next_word, no_expression, no_number, Stand, Listed, Under, Labelled, Inner}
+use Rattle.es6_reading.specs.Parser.{Input, Stop, Depth, Endless, Outcome, Took, Fault, no_expression, no_number, Stand, Listed, Inner}
 use Rattle.es6_reading.specs.Words.{begins_operand, begins_unary, begins_expression}
 use Rattle.es6_reading.specs.Expressions.{Among, Heritage, Callee, chain, unary, power, assignment, sequence, expression_at_limit, operand_at_limit}
 use Rattle.es6_reading.specs.Statements.{begins_statement, statement_at_limit}
@@ -191,10 +191,13 @@ no-slack m = by m refl
 
 pub local-faults : FaultsAreLocal
 local-faults mode fuel room tokens last stop rest h =
-    let r = fault-of (whole mode fuel room zero (record { tokens = tokens; last = last })) h (λ e m. no-slack m) (λ e m. no-slack m) in
-    (r.front, r.splits, λ others k.
-        ap (λ n. whole_module (readers mode n room) (record { tokens = r.front ++ others; last = last })) (sym (plus-zero fuel))
-        ∙ ap (λ n. whole_module (readers mode (plus fuel zero) n) (record { tokens = r.front ++ others; last = last })) (sym (plus-zero room)) ∙ r.stays others (alike-head rest others k))
+    let r = fault-of (whole mode fuel room zero (record { tokens = tokens; last = last })) h (λ e m. no-slack m) (λ e m. no-slack m) in (
+      r.front,
+      r.splits,
+      λ others k.
+          ap (λ n. whole_module (readers mode n room) (record { tokens = r.front ++ others; last = last })) (sym (plus-zero fuel))
+          ∙ ap (λ n. whole_module (readers mode (plus fuel zero) n) (record { tokens = r.front ++ others; last = last })) (sym (plus-zero room)) ∙ r.stays others (alike-head rest others k),
+    )
 
 -- ## More turns and constructs
 
@@ -215,11 +218,19 @@ same-refl : (ts : List Filled) → SameHead ts ts
 same-refl [] = nothing
 same-refl (t ∷ ts) = same
 
+-- a fault of a reader, with the one of the reader with more on other tokens
+stays-with : (mode : Bool) (fuel room l : ℕ) (tokens front rest : List Filled) (last : ℕ) (stop : Stop) → tokens ≡ front ++ rest → whole_module (readers mode fuel room) (record { tokens = tokens; last = last }) ≡ Fault stop rest → IsFinal stop
+    → (others : List Filled) → SameHead rest others → whole_module (readers mode (fuel + l) (room + l)) (record { tokens = front ++ others; last = last }) ≡ Fault stop others
+stays-with mode fuel room l tokens front rest last stop e h k others a =
+    let r = final-fault l _ tokens stop rest _ (whole mode fuel room l (record { tokens = tokens; last = last })) h k in
+    with-more mode fuel room l (record { tokens = front ++ others; last = last })
+    ∙ ap (λ ts. whole_module (readers mode (plus fuel l) (plus room l)) (record { tokens = ts ++ others; last = last })) (append_cancel_right front r.front rest (sym e ∙ r.splits))
+    ∙ r.stays others a
+
 pub faults-stay : FaultsStay
-faults-stay mode fuel room l tokens last stop rest h k =
-    let s : Input = record { tokens = tokens; last = last } in
-    let r = final-fault l _ tokens stop rest _ (whole mode fuel room l s) h k in
-    with-more mode fuel room l s ∙ ap (λ ts. whole_module (readers mode (plus fuel l) (plus room l)) (record { tokens = ts; last = last })) r.splits ∙ r.stays rest (same-refl rest)
+faults-stay mode fuel room tokens last stop rest h k =
+    let f = local-faults mode fuel room tokens last stop rest h in
+    (f.0, f.1, λ l others a. stays-with mode fuel room l tokens f.0 rest last stop f.1 h k others (alike-head rest others a))
 
 took-of : {l : ℕ} {run : List Filled → Outcome Module} {ts : List Filled} {o : Outcome Module} (m : Module) (after : Input) → LocalOf l run ts o → o ≡ Took m after → run ts ≡ Took m after
 took-of {run = run} m after (took_so {x = x} {c = c} front e r) h = ap run e ∙ r c.tokens (same-refl c.tokens) ∙ h
@@ -241,20 +252,12 @@ low : (n l : ℕ) → l ≤ n + l
 low n l = omega arith
 
 pub dead-faults : IsComplete → FaultsAreDead
-dead-faults complete fuel room tokens last stop rest h k = (split.front, split.splits, λ others m a d. dead others m (alike-head rest others a) d)
+dead-faults complete fuel room tokens last stop rest h k =
+    let f = faults-stay false fuel room tokens last stop rest h k in
+    (f.0, f.1, λ others m a d. dead f.0 f.2 others m a d)
   where
-    s : Input
-    s = record { tokens = tokens; last = last }
-
-    split : FaultOf zero (λ us. whole_module (readers false (plus fuel zero) (plus room zero)) (record { tokens = us; last = last })) tokens stop rest
-    split = final-fault zero _ tokens stop rest _ (whole false fuel room zero s) h k
-
-    dead : (others : List Filled) (m : Module) → SameHead rest others → IsModule (split.front ++ others) m → ⊥
-    dead others m a d =
-        let c = complete (split.front ++ others) m d in
-        let read = c.1 (fuel + c.0) (room + c.0) last (low fuel c.0) (low room c.0) in
-        let r = final-fault c.0 _ (split.front ++ rest) stop rest _ (whole false fuel room c.0 (record { tokens = split.front ++ rest; last = last }))
-            (ap (λ ts. whole_module (readers false fuel room) (record { tokens = ts; last = last })) (sym split.splits) ∙ h) k in
-        never-both read.1 (with-more false fuel room c.0 (record { tokens = split.front ++ others; last = last })
-            ∙ ap (λ front. whole_module (readers false (plus fuel c.0) (plus room c.0)) (record { tokens = front ++ others; last = last })) (append_cancel_right split.front r.front rest r.splits)
-            ∙ r.stays others a)
+    dead : (front : List Filled) → ((more : ℕ) (others : List Filled) → BeginAlike rest others → whole_module (readers false (fuel + more) (room + more)) (record { tokens = front ++ others; last = last }) ≡ Fault stop others)
+        → (others : List Filled) (m : Module) → BeginAlike rest others → IsModule (front ++ others) m → ⊥
+    dead front stays others m a d =
+        let c = complete (front ++ others) m d in
+        never-both (c.1 (fuel + c.0) (room + c.0) last (low fuel c.0) (low room c.0)).1 (stays c.0 others a)

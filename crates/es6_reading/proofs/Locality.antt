@@ -5,7 +5,7 @@ use Rattle.std.proofs.Common.{◌≡◌, ◌∙◌, ℕ, zero, suc, Bool, true, 
 use Rattle.es6_lexer.specs.declared.token.Punctuator.{Punctuator as Mark}
 use Rattle.es6_ast.specs.Tokens.{Filling, Filled, begin_of}
 use Rattle.es6_reading.specs.Parser.{Input, Stop, Depth, Endless, Outcome, Took, Fault, Parser, fails, after, stop_in, number_stop_in, expression_stop_in, stop_at, on, on_taken, choose, next_is, if_next, from, take_as, mark, next_mark, refused, no_number, no_expression, Inner, on_group, is_insertable}
-use Rattle.es6_reading.specs.Refine.{Refined, Fits, Misfit, TooNested}
+use Rattle.es6_reading.specs.Refine.{Refined, TooNested}
 use Rattle.es6_reading.proofs.Follows.{plus, SameHead, nothing, same}
 use Rattle.es6_reading.proofs.RefineMore.{Kept, as_it_was, was_too_nested}
 

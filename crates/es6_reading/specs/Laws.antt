@@ -121,11 +121,12 @@ IsFinal Depth = ⊥
 IsFinal Endless = ⊥
 IsFinal stop = Unit {0}
 
--- Such a fault stays where more constructs may open and loops have more turns.
+-- Such a fault stays where more constructs may open and loops have more turns, whatever follows the token that it stands at: no
+-- tokens that begin so are read.
 abbrev pub FaultsStay : Type 0
-FaultsStay = (inserting : Bool) (fuel room more : ℕ) (tokens : List Filled) (last : ℕ) (stop : Stop) (rest : List Filled)
+FaultsStay = (inserting : Bool) (fuel room : ℕ) (tokens : List Filled) (last : ℕ) (stop : Stop) (rest : List Filled)
     → whole_module (readers inserting fuel room) (record { tokens = tokens; last = last }) ≡ Fault stop rest → IsFinal stop
-    → whole_module (readers inserting (fuel + more) (room + more)) (record { tokens = tokens; last = last }) ≡ Fault stop rest
+    → (front : List Filled) × (tokens ≡ front ++ rest) × ((more : ℕ) (others : List Filled) → BeginAlike rest others → whole_module (readers inserting (fuel + more) (room + more)) (record { tokens = front ++ others; last = last }) ≡ Fault stop others)
 
 -- What is read is read so where more constructs may open and loops have more turns.
 abbrev pub ReadingsStay : Type 0

@@ -69,7 +69,8 @@ pub fn faults_rest_on_no_later_token()
     ensures { FaultsAreLocal }
 {}
 
-/// A fault stays where more constructs may open and loops have more turns, unless it is for want of these.
+/// A fault stays where more constructs may open and loops have more turns, whatever follows the token that it stands at, unless it
+/// is for want of these: no tokens that begin so are read.
 pub fn faults_stay_with_more_room()
     ensures { FaultsStay }
 {}
