@@ -1,0 +1,4 @@
+pub mod Late
+mod Layers
+pub mod Order
+mod Stacks

@@ -1,0 +1,5 @@
+pub mod Parts
+pub mod Places
+pub mod Rules
+pub mod Tasks
+pub mod Works

@@ -1,0 +1,6 @@
+pub mod First
+pub mod ArgumentNames
+pub mod Entered
+pub mod Outcomes
+pub mod Splits
+pub mod Weights

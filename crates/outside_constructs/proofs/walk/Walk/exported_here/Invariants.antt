@@ -1,0 +1,14 @@
+use Rattle.std.proofs.Common.{◌≡◌, ◌++◌, drop}
+use Rattle.early_findings.specs.Pairs.{least_with}
+use Rattle.es6_ast.specs.Findings.{joined}
+use Rattle.es6_ast.specs.Outside.{host_pairs, named}
+use Rattle.outside_constructs.proofs.walk.Walk.exported_here.Given as goal
+
+abbrev pub invariant-loop-name : goal.invariant-loop-name
+invariant-loop-name l =
+    let scope = l.initial.self.environment in
+    record {
+      least : least_with l.self.finder (joined (λ n. named n.local ++ named n.exported ++ host_pairs n.local.name n.local.span.begin scope) (drop l.name-index l.names)) ≡ least_with l.initial.self.finder (joined (λ n. named n.local ++ named n.exported ++ host_pairs n.local.name n.local.span.begin scope) l.names);
+      environment : l.self.environment ≡ scope;
+      stack : l.self.stack ≡ l.initial.self.stack;
+    }
