@@ -1,7 +1,7 @@
 -- Accesses, calls, `super` and `new` that are derived are read exactly so, if their parts are.
 use Rattle.std.proofs.Common.{◌≡◌, ℕ, ◌≤◌, Bool, true, false, List, [], ◌∷◌, refl, sym, ap, subst, ◌∙◌, arith}
 use Rattle.std.proofs.lemmas.Bool.{false≢true}
-use Rattle.std.specs.Prelude.{codes}
+use Rattle.std.specs.Prelude.{codes, is_some}
 use Rattle.es_outside.specs.HostNames.{reserved_words}
 use Rattle.es6_lexer.specs.declared.token.Punctuator.TheVariants as marks
 use Rattle.es6_ast.specs.declared.tree.Identifier.{Identifier}
@@ -21,10 +21,10 @@ use Rattle.es6_reading.proofs.Meanings.{is-mark-true}
 use Rattle.es6_reading.proofs.Spans.{Moves, ◌⟫◌, span-across}
 use Rattle.es6_reading.proofs.Derived.{one}
 use Rattle.es6_reading.proofs.Reading.{Eventually, always, then_, both, pair, turn, begin}
-use Rattle.es6_reading.proofs.Exactly.{ReadsOnward, onward-of, nothing-taken, done, and_then, and_on, later, hit, miss, take, chosen, group-in, group-out, mark-hit, word-hit}
+use Rattle.es6_reading.proofs.Exactly.{ReadsOnward, onward-of, nothing-taken, done, and_then, and_on, later, hit, miss, take, if-no, chosen, group-in, group-out, mark-hit, word-hit}
 use Rattle.es6_reading.proofs.CompleteTokens.{at-kind, no-mark, mark-miss, new-begins, super-begins, closes-square, square-ends-yield, ends-yield}
 use Rattle.es6_reading.proofs.CompleteImports.{R, readers-fuel, opened, mark-no-mark, word-no-word, any-exact}
-use Rattle.es6_reading.proofs.CompleteLevels.{reading, Stops, stretch-missed, links-none, HeadReads, ChainReads, head-chain}
+use Rattle.es6_reading.proofs.CompleteLevels.{reading, Stops, stretch-missed, stretch-unopened, links-none, HeadReads, ChainReads, head-chain}
 use Rattle.es6_reading.proofs.CompleteClaims.{Claim, claim-primary, claim-left, open-sequence, open-callee}
 use Rattle.es6_reading.proofs.CompleteLists.{ArgumentsRead, TemplateClaim, whole_claim, parted_claim, template-reads}
 
@@ -174,7 +174,7 @@ unfolding links call_link
 links-call f {o = o} {ts = ts} {as_ = as_} p d e rest = record {
   reads = λ b need s. turn (pair opened (pair d (rest.reads b (λ h. need refl) s))) (λ t k r y last. onward-of (
       miss (mark marks.Dot) _ _ (o ∷ ts) last (mark-no-mark marks.Dot marks.LeftParenthesis o p refl) (group-out (R k r) marks.LeftBracket _ _ (o ∷ ts) last (paren-stops ts o p).bracket
-      (miss (stretch_at true true) _ _ (o ∷ ts) last (stretch-missed true (o ∷ ts) (paren-stops ts o p).template) (miss (stretch_at true false) _ _ (o ∷ ts) last (stretch-missed false (o ∷ ts) (paren-stops ts o p).template)
+      (miss (stretch_at true true) _ _ (o ∷ ts) last (stretch-missed true (o ∷ ts) (paren-stops ts o p).template) (if-no (λ u. is_some (stretch_at true false u)) _ _ (o ∷ ts) last (stretch-unopened (o ∷ ts) (paren-stops ts o p).template)
       (chosen b _ _ _ (need refl) (group-in (R k r) marks.LeftParenthesis _ _ o ts last (is-mark-true marks.LeftParenthesis o p) y.0
       (and_then _ (and_then _ (later one (y.1.0 o.span.end)) (λ end mv. done (ap (λ z. link.Call z as_) (span-across mv) ∙ sym e) mv)) (λ end mv. and_on _ mv (y.1.1 end) (λ end' mv'. done refl mv'))))))))));
 }

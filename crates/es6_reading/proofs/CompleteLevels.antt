@@ -1,6 +1,6 @@
 -- An expression that is read at its own level is read at each lower one, if the next token goes on with nothing there.
 use Rattle.std.proofs.Common.{◌≡◌, ℕ, zero, suc, ◌+◌, ◌≤◌, Bool, true, false, ◌&&◌, List, [], ◌∷◌, None, refl, sym, ap, subst, ◌∙◌, arith}
-use Rattle.std.specs.Prelude.{codes}
+use Rattle.std.specs.Prelude.{codes, is_some}
 use Rattle.es6_lexer.specs.declared.token.TokenKind.TheVariants as kinds
 use Rattle.es6_lexer.specs.declared.token.Punctuator.{Punctuator as Mark}
 use Rattle.es6_lexer.specs.declared.token.Punctuator.TheVariants as marks
@@ -41,6 +41,10 @@ pub stretch-missed : (last : Bool) (ts : List Filled) → next_is (λ t. is_temp
 stretch-missed last [] h = tt
 stretch-missed last (t ∷ ts) h = stretch-none last t t.kind h
 
+pub stretch-unopened : (ts : List Filled) → next_is (λ t. is_template_head t.kind) ts ≡ false → next_is (λ t. is_some (stretch_at true false t)) ts ≡ false
+stretch-unopened [] h = refl
+stretch-unopened (t ∷ ts) h = ap (λ o. is_some o) (stretch-none false t t.kind h)
+
 choose-same : {A : Type 0} (b : Bool) (p q : Parser A) (c : Input) → (b ≡ true → p c ≡ q c) → choose b p q c ≡ q c
 choose-same true p q c h = h refl
 choose-same false p q c h = refl
@@ -52,7 +56,7 @@ pub links-none : (f : Flags) (calls : Bool) (us : List Filled) → Stops calls u
 unfolding links
 links-none f calls us s = turn (always {P = λ t k r. Unit {0}} (λ t k r. tt)) (λ t k r _ last.
     on-miss-is (mark marks.Dot) _ _ us last (mark-missed marks.Dot us s.dot) ∙ if-is (next_mark marks.LeftBracket) _ _ us last s.bracket
-    ∙ on-miss-is (stretch_at true true) _ _ us last (stretch-missed true us s.template) ∙ on-miss-is (stretch_at true false) _ _ us last (stretch-missed false us s.template)
+    ∙ on-miss-is (stretch_at true true) _ _ us last (stretch-missed true us s.template) ∙ if-is (λ u. is_some (stretch_at true false u)) _ _ us last (stretch-unopened us s.template)
     ∙ choose-same calls _ (returns []) (record { tokens = us; last = last }) (λ c. if-is (next_mark marks.LeftParenthesis) _ _ us last (s.paren c)))
 
 abbrev pub HeadReads : Flags → Role → Reading → List Filled → List Filled → Type 0

@@ -1,5 +1,6 @@
 -- Elements, arguments and templates that are derived are read exactly so, if their parts are.
 use Rattle.std.proofs.Common.{◌≡◌, ℕ, Bool, true, false, List, [], ◌∷◌, None, refl, sym, ap, subst, ◌∙◌, arith}
+use Rattle.std.specs.Prelude.{is_some}
 use Rattle.es6_lexer.specs.declared.token.TokenKind.TheVariants as kinds
 use Rattle.es6_lexer.specs.declared.token.Punctuator.TheVariants as marks
 use Rattle.es6_ast.specs.declared.tree.Expression.{Expression}
@@ -19,7 +20,7 @@ use Rattle.es6_reading.proofs.Posts.{Misses}
 use Rattle.es6_reading.proofs.Spans.{Moves, ◌⟫◌, span-across}
 use Rattle.es6_reading.proofs.Derived.{one}
 use Rattle.es6_reading.proofs.Reading.{Eventually, always, then_, both, pair, turn, begin}
-use Rattle.es6_reading.proofs.Exactly.{Exactly, ReadsExactly, done, and_then, later, hit, miss, take, chosen, mark-hit}
+use Rattle.es6_reading.proofs.Exactly.{Exactly, ReadsExactly, done, and_then, later, hit, miss, take, if-yes, chosen, mark-hit}
 use Rattle.es6_reading.proofs.CompleteTokens.{Closes, EndsYield, closes-comma, closes-close, closes-square, closes-stretch, closes-up, comma-ends-yield, close-ends-yield, square-ends-yield, stretch-ends-yield, ends-yield}
 use Rattle.es6_reading.proofs.CompleteImports.{R, at-fuel, opened, mark-no-mark}
 use Rattle.es6_reading.proofs.CompleteClaims.{Claim, begins-no-close, begins-no-square, begins-no-comma, begins-no-ellipsis, open-assignment, open-sequence}
@@ -170,5 +171,5 @@ pub template-reads : {A : Type 0} {f : Flags} {ts us vs : List Filled} {m : Temp
 unfolding parted_template
 template-reads x (whole_claim {t = t} {ts = ts} cooked raw h e) = always (λ n k r p q last go. hit (stretch_at true true) _ _ t _ ts last (stretch-hit true true cooked raw t h) (as-value p (sym e) (go t.span.end one)))
 template-reads {f = f} x (parted_claim {t = t} {ts = ts} {us = us} {ms = ms} cooked raw h e rest) = both opened (begin rest (λ n k r y. at-fuel (λ j. template_parts (R k r) f j) ms ts us k r y)) (λ n k r o y p q last go.
-    miss (stretch_at true true) _ _ (t ∷ ts) last (ap (λ j. stretch_in true true t.span j) h) (hit (stretch_at true false) _ _ t _ ts last (stretch-hit true false cooked raw t h)
-    (chosen (R k r).may_open _ _ _ o (and_then _ (and_then _ (later one (y t.span.end)) (λ end mv. done (ap (λ z. roll-Template (record { span = z; first = record { span = t.span; cooked = cooked; raw = raw }; rest = ms })) (span-across mv) ∙ sym e) mv)) go))))
+    miss (stretch_at true true) _ _ (t ∷ ts) last (ap (λ j. stretch_in true true t.span j) h) (if-yes (λ u. is_some (stretch_at true false u)) _ _ (t ∷ ts) last (ap (λ j. is_some (stretch_in true false t.span j)) h)
+    (chosen (R k r).may_open _ _ _ o (hit (stretch_at true false) _ _ t _ ts last (stretch-hit true false cooked raw t h) (and_then _ (and_then _ (later one (y t.span.end)) (λ end mv. done (ap (λ z. roll-Template (record { span = z; first = record { span = t.span; cooked = cooked; raw = raw }; rest = ms })) (span-across mv) ∙ sym e) mv)) go)))))

@@ -72,6 +72,7 @@ unfolding carrier.out carrier.shown carrier.hidden reserved_words block.shown-th
 is-deepest = record {
   allowed = refl;
   too_deep = refl;
+  template_too_deep = refl;
 }
 
 pub is-program-read : IsProgramRead

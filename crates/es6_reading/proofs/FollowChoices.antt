@@ -1,12 +1,14 @@
 -- The relation of a run that inserts semicolons to one over the filled tokens, at each choice.
-use Rattle.std.proofs.Common.{◌≡◌, ℕ, zero, Bool, true, false, List, [], ◌∷◌, ◌++◌, Option, None, refl, sym, ap, subst, ◌∙◌}
+use Rattle.std.proofs.Common.{◌≡◌, ℕ, zero, Bool, true, false, List, [], ◌∷◌, ◌++◌, Option, Some, None, refl, sym, ap, subst, ◌∙◌}
 use Rattle.std.proofs.lemmas.Bool.{false≢true}
+use Rattle.std.specs.Prelude.{is_some}
 use Rattle.es_text.specs.declared.Span.{Span}
 use Rattle.es6_lexer.specs.declared.token.Punctuator.{Punctuator as Mark}
 use Rattle.es6_lexer.specs.Punctuators.{spelling}
 use Rattle.es6_ast.specs.Tokens.{Filled, IsMark, begin_of, end_of}
 use Rattle.es6_reading.specs.Parser.{Input, Depth, Outcome, Took, Parser, after, ◌>>=◌, on, on_taken, choose, next_is, if_next, take_as, fails, returns, made, refused, is_mark, kept_if, mark, next_mark, from, Inner, on_group, group}
 use Rattle.es6_reading.specs.Words.{is_arrow}
+use Rattle.es6_reading.specs.Parts.{on_opening}
 use Rattle.es6_reading.proofs.Posts.{Holds, took, fault, of_took, bind, weaken, Taken, taken, Misses, on-holds, choose-holds, if-holds, take-holds, refused-holds}
 use Rattle.es6_reading.proofs.Derived.{Next, next, on-mark}
 use Rattle.es6_reading.proofs.Meanings.{bytes_eq-refl}
@@ -188,6 +190,27 @@ group-follows {A = A} i i' p inside inside' otherwise otherwise' s opens f g =
   where
     missed : next_is (next_mark p) s.tokens ≡ false → Holds (Followed (λ l. on_group (i' l) p (inside' l) (otherwise' l)) s) (otherwise s)
     missed m = weaken (g m) (λ y d r. same-followed _ _ s d y (λ l us n. group-skips (i' l) p (inside' l) (otherwise' l) us s.last (near-next (next_mark p) false (λ e at. refl) n m)) r)
+
+-- where it may be opened, the test before the token is taken changes nothing
+opening-is : {A B : Type 0} (i : Inner) (test : Filled → Option B) (inside : B → Parser A) (otherwise : Parser A) (ts : List Filled) (last : ℕ) → i.may_open ≡ true
+    → on_opening i test inside otherwise (record { tokens = ts; last = last }) ≡ on test inside otherwise (record { tokens = ts; last = last })
+opening-is i test inside otherwise [] last m = refl
+opening-is {A = A} {B = B} i test inside otherwise (t ∷ ts) last m = at (test t) refl
+  where
+    c : Input
+    c = record { tokens = t ∷ ts; last = last }
+
+    at : (o : Option B) → test t ≡ o → on_opening i test inside otherwise c ≡ on test inside otherwise c
+    at (Some x) e = ap (λ o. choose (is_some o) (choose i.may_open (on test inside otherwise) (fails Depth)) otherwise c) e ∙ ap (λ v. choose v (on test inside otherwise) (fails Depth) c) m
+    at None e = ap (λ o. choose (is_some o) (choose i.may_open (on test inside otherwise) (fails Depth)) otherwise c) e ∙ sym (ap (λ o. on_taken o t ts inside otherwise c) e)
+
+-- a token that no semicolon is and that opens a construct
+pub opening-follows : {A B : Type 0} (i : Inner) (i' : ℕ → Inner) (test : Filled → Option B) (semi-misses : (d : Bool) (at : ℕ) → test (semi d at) ≡ None) (inside : B → Parser A) (inside' : ℕ → B → Parser A) (otherwise : Parser A) (otherwise' : ℕ → Parser A) (s : Input)
+    → (i.may_open ≡ true → (l : ℕ) → (i' l).may_open ≡ true) → ((x : B) (c : Input) → Taken test s x c → Holds (Followed (λ l. inside' l x) c) (inside x c)) → Holds (Followed otherwise' s) (otherwise s)
+    → Holds (Followed (λ l. on_opening (i' l) test (inside' l) (otherwise' l)) s) (on_opening i test inside otherwise s)
+opening-follows i i' test sm inside inside' otherwise otherwise' s opens f g = if-holds _ _ _ s
+    (λ h. choose-holds _ _ i.may_open s (λ o. weaken (on-follows test sm inside inside' otherwise otherwise' s f (λ m. g)) (λ y d r. same-followed _ _ s d y (λ l us n. opening-is (i' l) test (inside' l) (otherwise' l) us s.last (opens o l)) r)) (λ o. fault))
+    (λ h. weaken g (λ y d r. same-followed _ _ s d y (λ l us n. if-value (λ t. is_some (test t)) _ (otherwise' l) false us s.last (near-next (λ t. is_some (test t)) false (λ e at. ap (λ o. is_some o) (sm e at)) n h)) r))
 
 -- a group and nothing else
 pub only-group-follows : {A : Type 0} (i : Inner) (i' : ℕ → Inner) (p : Mark) (inside : Parser A) (inside' : ℕ → Parser A) (s : Input) → (i.may_open ≡ true → (l : ℕ) → (i' l).may_open ≡ true)

@@ -22,12 +22,12 @@ use Rattle.es6_ast.specs.declared.tree.Stretch.{Stretch}
 use Rattle.es6_ast.specs.declared.tree.Template.{Template, roll-Template}
 use Rattle.es6_ast.specs.Tokens.{Filled, begin_of}
 use Rattle.es6_ast.specs.Grammar.{Flags, with_in, of_function, name_target, method_of}
-use Rattle.es6_reading.specs.Parser.{Input, Depth, Parser, returns, fails, ◌>>=◌, refused, no_number, on, choose, if_next, take_as, mark, word, next_mark, made, Listed, Inner, on_group, group}
+use Rattle.es6_reading.specs.Parser.{Input, Parser, returns, ◌>>=◌, refused, no_number, on, if_next, take_as, mark, word, next_mark, made, Listed, Inner, on_group, group}
 use Rattle.es6_reading.specs.Words.{any_name, free_name, key_at, accessor_at, accessor_name, stretch_at}
 use Rattle.es6_reading.specs.Parts.{identifier, name_of_any_kind, key_of, computed_key, key, rest_part, array_parts, object_parts, binding_pattern, binding, initialized, one_part, keyed_part, named_part, one_object_part, rest_parameter, more_parameters, parameters, statements, block, function_body, signature, star, rest_of_function, named_function, function_after_word, method_after_key, no_parameter, one_parameter, accessor_parameters, accessor_kind, accessor, generator_method, method_after_accessor_word, method, member_of, member_after_static, one_member, members, heritage, rest_of_class, named_class, begins_class_tail, class_after_word, template_parts, parted_template, on_template}
-use Rattle.es6_reading.proofs.Posts.{Holds, fault, choose-holds, no-number-holds}
+use Rattle.es6_reading.proofs.Posts.{Holds, fault, no-number-holds}
 use Rattle.es6_reading.proofs.Follows.{plus, semi, Followed, bind-follows}
-use Rattle.es6_reading.proofs.FollowChoices.{Runs, on-follows, take-follows, mark-follows, choose-follows, StopsAtSemi, stopped, if-follows, group-follows, only-group-follows, from-follows, made-follows, made-at-follows, returns-follows, spelled-follows}
+use Rattle.es6_reading.proofs.FollowChoices.{Runs, on-follows, take-follows, mark-follows, choose-follows, StopsAtSemi, stopped, if-follows, group-follows, opening-follows, only-group-follows, from-follows, made-follows, made-at-follows, returns-follows, spelled-follows}
 use Rattle.es6_reading.proofs.FollowEnds.{Follows}
 
 -- ## Names
@@ -350,8 +350,4 @@ module _ (i : Inner) (i' : ℕ → Inner) (h : Follows i i') where
   pub template-follows : {A : Type 0} (f : Flags) (at : ℕ) (p : Template → Parser A) (p' : ℕ → Template → Parser A) (q : Parser A) (q' : ℕ → Parser A) (s : Input) → ((m : Template) (c : Input) → Holds (Followed (λ l. p' l m) c) (p m c)) → Holds (Followed q' s) (q s)
       → Holds (Followed (λ l. on_template (i' l) f at (p' l) (q' l)) s) (on_template i f at p q s)
   template-follows f at p p' q q' s k g = on-follows (stretch_at true true) (λ d at. refl) _ _ _ _ s (λ r c n. bind-follows _ _ p p' c (made-at-follows at (λ span. roll-Template (record { span = span; first = r; rest = [] })) c) (λ m d. k m d)) (λ m.
-      on-follows (stretch_at true false) (λ d at. refl) _ _ _ _ s
-      (λ r c n. choose-holds _ _ i.may_open c
-      (λ o. spelled-follows _ (λ l. ◌>>=◌ (parted_template (i' l) f at r) (p' l)) c (λ l. ap (λ v. choose v (◌>>=◌ (parted_template (i' l) f at r) (p' l)) (fails Depth)) (h.opens o l)) (bind-follows _ _ _ _ c (follow-parted f at r c) (λ m d. k m d)))
-      (λ o. fault))
-      (λ m. g))
+      opening-follows i i' (stretch_at true false) (λ d at. refl) _ (λ l r. ◌>>=◌ (parted_template (i' l) f at r) (p' l)) q q' s h.opens (λ r c n. bind-follows _ _ _ _ c (follow-parted f at r c) (λ m d. k m d)) g)

@@ -373,7 +373,7 @@ module _ (i : Inner) (h : Paired i) where
   parted f at r s = bind _ (template_parts f i.fuel s) λ ms c. done
 
   on_template : {A : Type 0} (f : Flags) (at : ℕ) (p : Template → Parser A) (q : Parser A) (s : Input) → ((m : Template) (c : Input) → Twin (p m) c) → Twin q s → Twin (t6.on_template i f at p q) s
-  on_template f at p q s k g = next _ _ _ (λ d at. refl) s (λ r c. k _ c) (next _ _ _ (λ d at. refl) s (λ r c. either i.may_open _ _ c (bind _ (parted f at r c) λ m d. k m d) (stopped _)) g)
+  on_template f at p q s k g = next _ _ _ (λ d at. refl) s (λ r c. k _ c) (looks _ _ q (λ at. refl) s (either i.may_open _ _ s (next _ _ q (λ d at. refl) s (λ r c. bind _ (parted f at r c) λ m d. k m d) g) (stopped _)) g)
 
   argument : (f : Flags) (s : Input) → Twin (e.argument i f) s
   unfolding e.argument

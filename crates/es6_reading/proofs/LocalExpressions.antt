@@ -259,7 +259,7 @@ module _ {l : ℕ} (i j : Inner) (h : Grown l i j) where
   parted f at r s = bind _ _ (template_parts f h.fuel s) λ ms c. done
 
   on_template : {A : Type 0} (f : Flags) (at : ℕ) (p p' : Template → Parser A) (q q' : Parser A) (s : Input) → ((m : Template) (c : Input) → Local l (p m) (p' m) c) → Local l q q' s → Local l (t6.on_template i f at p q) (t6.on_template j f at p' q') s
-  on_template f at p p' q q' s k g = next _ _ _ _ _ s (λ r c. k _ c) (next _ _ _ _ _ s (λ r c. opened _ _ c h.opens (λ opens. bind _ _ (parted f at r c) λ m d. k m d)) g)
+  on_template f at p p' q q' s k g = next _ _ _ _ _ s (λ r c. k _ c) (looks _ _ _ _ _ s (opened _ _ s h.opens (λ opens. next _ _ _ _ _ s (λ r c. bind _ _ (parted f at r c) λ m d. k m d) g)) g)
 
   argument : (f : Flags) (s : Input) → Local l (e.argument i f) (e.argument j f) s
   unfolding e.argument

@@ -111,7 +111,7 @@ module _ (i : Inner) (t : Filled) (ts : List Filled) (h : NoOperand t) where
       ∙ on-miss-is (word (codes "function")) _ _ (t ∷ ts) last (word-miss (codes "function") t h.function)
       ∙ on-miss-is (word (codes "class")) _ _ (t ∷ ts) last (word-miss (codes "class") t h.class)
       ∙ on-miss-is (stretch_at true true) _ _ (t ∷ ts) last h.whole
-      ∙ on-miss-is (stretch_at true false) _ _ (t ∷ ts) last h.opening
+      ∙ if-missed (λ u. is_some (stretch_at true false u)) _ _ t ts last (ap (λ o. is_some o) h.opening)
       ∙ if-missed (next_mark marks.LeftParenthesis) _ _ t ts last h.parenthesis
       ∙ if-missed (next_mark marks.LeftBracket) _ _ t ts last h.bracket
       ∙ if-missed (next_mark marks.LeftBrace) _ _ t ts last h.brace

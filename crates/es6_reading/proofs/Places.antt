@@ -354,7 +354,7 @@ module _ (i : Inner) (h : Placed i) where
   parted f at r s = bind (template_parts f i.fuel s) λ ms c. done
 
   on_template : {A : Type 0} (f : Flags) (at : ℕ) (p : Template → Parser A) (q : Parser A) (s : Input) → ((m : Template) (c : Input) → Leaves c.tokens (p m c)) → Leaves s.tokens (q s) → Leaves s.tokens (t6.on_template i f at p q s)
-  on_template f at p q s k g = next _ _ _ s (λ r c. k _ c) (next _ _ _ s (λ r c. either i.may_open _ _ c (bind (parted f at r c) λ m d. k m d) deep) g)
+  on_template f at p q s k g = next _ _ _ s (λ r c. k _ c) (looks _ _ q s (either i.may_open _ _ s (next _ _ q s (λ r c. bind (parted f at r c) λ m d. k m d) g) deep) g)
 
   argument : (f : Flags) (s : Input) → Leaves s.tokens (e.argument i f s)
   unfolding e.argument

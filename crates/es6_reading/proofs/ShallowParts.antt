@@ -260,4 +260,4 @@ module _ (i : Inner) (room : ℕ) (h : Shallow i room) where
   pub on_template : {A : Type 0} {Q : A → Input → Type 0} {p : Template → Parser A} (f : Flags) (q : Parser A) (s : Input) → Ready room 0 s → ((x : Template) (c : Input) → At room s 0 0 c (in_template x) × Within s c (spans_template x).span → Holds Q (p x c)) → Holds Q (q s)
       → Holds Q (t6.on_template i f (begin_of s.tokens) p q s)
   on_template f q s r k g = next whole-template _ (begin s r) (λ t c e a. k _ c (finish a (in-template _ _ _) (λ at. omega arith), within (span-template _ _ _)))
-      (on-holds _ _ _ _ (λ t c e. choose-holds _ _ i.may_open c (λ o. bind (parted f t c (entered template-head (h.opens o) (begin s r) e)) λ m d b. k m d b) (λ o. fault)) (λ m. g))
+      (looks _ _ q s (choose-holds _ _ i.may_open s (λ o. on-holds _ _ _ s (λ t c e. bind (parted f t c (entered template-head (h.opens o) (begin s r) e)) λ m d b. k m d b) (λ m. g)) (λ o. fault)) g)

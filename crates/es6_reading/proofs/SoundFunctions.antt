@@ -1,6 +1,7 @@
 -- What the readers of functions, methods, classes and templates give is derived, if the readers for one construct deeper are sound.
 use Rattle.std.proofs.Common.{◌≡◌, ℕ, zero, suc, Bool, true, false, List, [], ◌∷◌, Option, Some, None, refl, ap, ◌∙◌}
-use Rattle.std.specs.Prelude.{codes}
+use Rattle.std.proofs.lemmas.Bool.{true≢false}
+use Rattle.std.specs.Prelude.{codes, is_some}
 use Rattle.es_text.specs.declared.Span.{Span}
 use Rattle.es6_lexer.specs.declared.token.TokenKind.TheVariants as kinds
 use Rattle.es6_lexer.specs.declared.token.Punctuator.TheVariants as marks
@@ -342,10 +343,19 @@ no-template : (ts : List Filled) → Misses (stretch_at true true) ts → Misses
 no-template [] h k = refl
 no-template (t ∷ ts) h k = no-head t.kind t.span h k
 
+none-of : {B : Type 0} (o : Option B) → is_some o ≡ false → o ≡ None
+none-of None h = refl
+none-of (Some x) h = absurd (true≢false h)
+
+none-missed : {B : Type 0} (test : Filled → Option B) (ts : List Filled) → next_is (λ t. is_some (test t)) ts ≡ false → Misses test ts
+none-missed test [] h = tt
+none-missed test (t ∷ ts) h = none-of (test t) h
+
 pub template-holds : {A : Type 0} {Q : A → Input → Type 0} (i : Inner) (sound : Sound i) (f : Flags) (p : Template → Parser A) (q : Parser A) (s : Input)
     → ((m : Template) (c : Input) → TemplateIn f s m c → Holds Q (p m c)) → (NoTemplate s.tokens → Holds Q (q s)) → Holds Q (on_template i f (begin_of s.tokens) p q s)
 template-holds i sound f p q s here there = on-means (stretch_at true true) (IsStretch true true) (stretch-means true true) _ _ s
     (λ r c h. here _ c (whole-rule f r h))
-    (λ w. on-means (stretch_at true false) (IsStretch true false) (stretch-means true false) _ _ s
-    (λ r a h. choose-holds _ _ i.may_open a (λ o. bind (sound-parted i sound f r s a h) λ m c d. here m c d) (λ o. fault))
-    (λ v. there (no-template s.tokens w v)))
+    (λ w. if-holds _ _ _ s (λ h. choose-holds _ _ i.may_open s (λ o. on-means (stretch_at true false) (IsStretch true false) (stretch-means true false) _ _ s
+    (λ r a h. bind (sound-parted i sound f r s a h) λ m c d. here m c d)
+    (λ v. there (no-template s.tokens w v))) (λ o. fault))
+    (λ h. there (no-template s.tokens w (none-missed (stretch_at true false) s.tokens h))))

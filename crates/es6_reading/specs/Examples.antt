@@ -1,5 +1,5 @@
 -- Small modules, by their tokens with a space between any two, what is read of them, and where others stop.
-use Rattle.std.specs.Prelude.{◌≡◌, ℕ, ◌+◌, Bool, true, false, pos, List, [], ◌∷◌, length, map, cond, replicate, codes, Option, Some, None}
+use Rattle.std.specs.Prelude.{◌≡◌, ℕ, ◌+◌, Bool, true, false, pos, List, [], ◌∷◌, ◌++◌, length, map, cond, replicate, codes, Option, Some, None}
 use Rattle.es6_lexer.specs.declared.token.Token.{Token}
 use Rattle.es6_lexer.specs.declared.token.TokenKind.{TokenKind}
 use Rattle.es6_lexer.specs.declared.token.TokenKind.TheVariants as kinds
@@ -325,7 +325,14 @@ pub record AreStopped : Type 0 where
   pub of_two_statements : Stops Syntax 2 two_statements
   pub of_a_throw_on_a_new_line : Stops Syntax 6 a_throw_on_a_new_line
 
--- Of 256 open parentheses the text ends too early, and the 257th opens one construct too many.
+-- `a${b}c`
+abbrev pub a_template_with_a_value : List Piece
+a_template_with_a_value =
+    stretch (codes "a") true false ∷ w (codes "b") ∷ stretch (codes "c") false true ∷ []
+
+-- Of 256 open parentheses the text ends too early, and the 257th opens one construct too many. So does a template with a value
+-- there, at its first token.
 pub record IsDeepest : Type 0 where
   pub allowed : Stops Syntax 511 (parentheses 256)
   pub too_deep : Stops Depth 512 (parentheses 257)
+  pub template_too_deep : Stops Depth 512 (parentheses 256 ++ a_template_with_a_value)

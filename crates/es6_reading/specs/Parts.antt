@@ -1,6 +1,6 @@
 -- The readers of names, keys, patterns that bind, parameters, functions, methods, classes and templates (ECMA-262, 6th edition,
 -- 12.2.6, 12.2.9, 13.3.3, 14).
-use Rattle.std.specs.Prelude.{ℕ, zero, suc, Bool, true, false, ◌||◌, List, [], ◌∷◌, Option, Some, None, codes}
+use Rattle.std.specs.Prelude.{ℕ, zero, suc, Bool, true, false, ◌||◌, List, [], ◌∷◌, Option, Some, None, codes, is_some}
 use Rattle.es_text.specs.declared.Span.{Span}
 use Rattle.es6_lexer.specs.declared.token.Punctuator.TheVariants as marks
 use Rattle.es6_ast.specs.declared.operators.MethodKind.{MethodKind}
@@ -337,10 +337,15 @@ parted_template i f at s = do
   ms ← template_parts i f i.fuel
   made at (λ span. roll-Template (record { span = span; first = s; rest = ms }))
 
--- a template and what goes on from it, or what is read where none begins
+-- takes a token that the test knows and goes on inside the construct that it opens
+abbrev pub on_opening : {A B : Type 0} → Inner → (Filled → Option B) → (B → Parser A) → Parser A → Parser A
+on_opening i test inside otherwise = if_next (λ t. is_some (test t)) (choose i.may_open (on test inside otherwise) (fails Depth)) otherwise
+
+-- A template and what goes on from it, or what is read where none begins. One with values is a construct, which its first stretch
+-- opens.
 abbrev pub on_template : {A : Type 0} → Inner → Flags → ℕ → (Template → Parser A) → Parser A → Parser A
 on_template i f at p q = on (stretch_at true true) (λ s. do
   m ← made at (λ span. roll-Template (record { span = span; first = s; rest = [] }))
-  p m) (on (stretch_at true false) (λ s. choose i.may_open (do
+  p m) (on_opening i (stretch_at true false) (λ s. do
     m ← parted_template i f at s
-    p m) (fails Depth)) q)
+    p m) q)
