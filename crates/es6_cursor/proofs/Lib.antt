@@ -4,4 +4,5 @@ pub mod Tables
 pub mod Rooms
 pub mod Loops
 pub mod Groups
+pub mod Openings
 pub mod Rules

@@ -1,10 +1,10 @@
 //! Tests of the next token, which is not taken.
 
-ghost use Rattle.std.specs.Prelude.{◌≡◌, ◌||◌, is_some, not, true};
+ghost use Rattle.std.specs.Prelude.{◌≡◌, ◌||◌, false, is_some, not, true};
 ghost use Rattle.es6_lexer.specs.declared.token.Punctuator.TheVariants as marks;
 ghost use Rattle.es6_ast.specs.Tokens.{Read, read};
 ghost use Rattle.es6_reading.specs.Parser.{is_insertable, next_is, next_mark};
-ghost use Rattle.es6_reading.specs.Words.{begins_expression, begins_operand, begins_unary, is_arrow, text_at};
+ghost use Rattle.es6_reading.specs.Words.{begins_expression, begins_operand, begins_unary, is_arrow, stretch_at, text_at};
 ghost use Rattle.es6_reading.specs.Parts.{begins_class_tail};
 ghost use Rattle.es6_reading.specs.Expressions.{ends_name, ends_value, ends_yield};
 ghost use Rattle.es6_reading.specs.Statements.{begins_declaration, begins_line, ends_case, goes_on};
@@ -18,6 +18,16 @@ use crate::cursor::Cursor;
 use crate::flags::Flags;
 use crate::halt::Halt;
 use es6_lexer::{Punctuator, Token, TokenKind};
+
+/// The first stretch of a template with values (11.8.6).
+fn opens_template(token: &Token) -> bool
+    ensures { result ≡ is_some (stretch_at true false (read token.now)) }
+{
+    match &token.kind {
+        TokenKind::Template { first, last, .. } => *first & !*last,
+        _ => false,
+    }
+}
 
 /// What follows the name of a property, and no `get` or `set` before another name (12.2.6).
 fn ends_name(token: &Token) -> bool
@@ -98,6 +108,16 @@ impl<'a> Cursor<'a> {
     {
         match self.rest().first() {
             Some(token) => is_text(&token.kind),
+            None => false,
+        }
+    }
+
+    /// Whether the next token begins a template with values (11.8.6).
+    pub fn next_opens_template(&self) -> bool
+        ensures { result ≡ next_is (λ t. is_some (stretch_at true false t)) self.now.tokens }
+    {
+        match self.rest().first() {
+            Some(token) => opens_template(token),
             None => false,
         }
     }

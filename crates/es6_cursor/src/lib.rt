@@ -23,7 +23,7 @@ mod words;
 pub use classes::{is_mark, is_word};
 pub use cursor::Cursor;
 pub use flags::{Flags, Role, Stand};
-pub use group::{enter, open};
+pub use group::{enter, open, open_template};
 pub use halt::{Halt, Stop};
 pub use reading::{Reading, Shape};
 pub use turns::TURNS;
