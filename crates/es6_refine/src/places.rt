@@ -1,0 +1,105 @@
+//! Where an expression stands, and whether it is a target by itself.
+
+ghost use Rattle.std.specs.Prelude.{◌≡◌, map};
+ghost use Rattle.es6_ast.specs.Targets.{ends_in_access};
+ghost use Rattle.es6_reading.specs.Refine.{alone, bound, is_access, simple, span_of};
+ghost use Rattle.es6_refine.specs.Fitting.{fit_of};
+
+use crate::fit::Fit;
+use es_text::Span;
+use es6_ast::{Expression, Link};
+
+pub fn span_of(expression: &Expression) -> Span
+    ensures { result ≡ span_of expression.now }
+{
+    match expression {
+        Expression::This { span }
+        | Expression::Name { span, .. }
+        | Expression::Literal { span, .. }
+        | Expression::ArrayList { span, .. }
+        | Expression::ObjectList { span, .. }
+        | Expression::Chain { span, .. }
+        | Expression::SuperMember { span, .. }
+        | Expression::SuperIndex { span, .. }
+        | Expression::SuperCall { span, .. }
+        | Expression::NewTarget { span }
+        | Expression::New { span, .. }
+        | Expression::Update { span, .. }
+        | Expression::Unary { span, .. }
+        | Expression::Power { span, .. }
+        | Expression::Binary { span, .. }
+        | Expression::Conditional { span, .. }
+        | Expression::Assign { span, .. }
+        | Expression::Sequence { span, .. }
+        | Expression::Yield { span, .. }
+        | Expression::Delegate { span, .. }
+        | Expression::Group { span, .. }
+        | Expression::Cover { span, .. } => *span,
+        Expression::Template(template) => template.span,
+        Expression::Function(function) => function.get().span,
+        Expression::Arrow(arrow) => arrow.get().span,
+        Expression::Class(class) => class.get().span,
+    }
+}
+
+/// A name, where names are bound (13.3.3).
+pub fn bound_fit(expression: &Expression) -> Fit
+    ensures { result ≡ fit_of (bound expression.now) }
+{
+    match expression {
+        Expression::Name { .. } => Fit::Fits,
+        _ => Fit::Misfit {
+            at: span_of(expression).begin,
+        },
+    }
+}
+
+fn is_access(link: &Link) -> bool
+    ensures { result ≡ is_access link.now }
+{
+    match link {
+        Link::Member { .. } | Link::Index { .. } => true,
+        Link::Call { .. } | Link::Tagged(_) => false,
+    }
+}
+
+fn ends_in_access(links: &[Link]) -> bool
+    ensures { result ≡ ends_in_access (map is_access links.now) }
+{
+    match links.last() {
+        None => false,
+        Some(link) => is_access(link),
+    }
+}
+
+/// A simple target, where something is assigned (12.14.1), with groups in one another down to the depth.
+pub fn simple_fit(depth: u32, expression: &Expression) -> Fit
+    ensures { result ≡ fit_of (simple depth expression.now) }
+{
+    if depth == 0 {
+        return Fit::TooNested;
+    }
+    match expression {
+        Expression::Name { .. } | Expression::SuperMember { .. } | Expression::SuperIndex { .. } =>
+            Fit::Fits,
+        Expression::Chain { span, links, .. } => Fit::fits_if(
+            ends_in_access(links.as_slice()),
+            span.begin,
+        ),
+        Expression::Group { span, held } => simple_fit(depth - 1, held.get()).held_at(span.begin),
+        _ => Fit::Misfit {
+            at: span_of(expression).begin,
+        },
+    }
+}
+
+/// The expression by itself, as a target.
+pub fn alone_fit(binds: bool, depth: u32, expression: &Expression) -> Fit
+    ensures { result ≡ fit_of (alone binds depth expression.now) }
+{
+    if binds {
+        bound_fit(expression)
+    } else {
+        simple_fit(depth, expression)
+    }
+}
