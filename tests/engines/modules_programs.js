@@ -1,5 +1,5 @@
 // Programs of modules: graphs of several modules, and what loops, patterns, iterators, generators, classes, templates and closures
-// do at run time. Each is read as far as any of its tokens, and with any one token left out, doubled or swapped.
+// do at run time.
 'use strict';
 
 const programs = [
