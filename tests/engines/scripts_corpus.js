@@ -2,16 +2,7 @@
 // swap and prefix of the tokens of a part of them. A text is a list of tokens; the seed says where lines end between them.
 'use strict';
 
-// A generator of whole numbers below a bound, by a fixed seed (xorshift).
-function numbers(seed) {
-  let state = seed >>> 0 || 1;
-  return (bound) => {
-    state ^= state << 13; state >>>= 0;
-    state ^= state >>> 17;
-    state ^= state << 5; state >>>= 0;
-    return state % bound;
-  };
-}
+const { numbers } = require('./numbers.js');
 
 // Productions by what they give. A capital stands for a hole: E an expression, A one without a comma, L a left-hand side,
 // S a statement; a production with `return` or `this` stands in a function.
