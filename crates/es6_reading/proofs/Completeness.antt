@@ -348,6 +348,12 @@ mutual
   catchC : {f : Flags} {ts us : List Filled} {c : Catch} → IsCatch f ts c us → CatchClaim f ts us c
   catchC (g.handler {f = f} y b c w p d q s e) = catch-claim f w p (form.bound-read (with_in f) (with_in f) refl (targetC d)) q (blockC s) e
 
+pub expression-read : {f : Flags} {least : ℕ} {ts us : List Filled} {x : Expression} → IsExpression f least ts x us → Claim f least ts us x
+expression-read d = (expressionC d).claim
+
+pub listed-read : {f : Flags} {ts us : List Filled} {x : Statement} → IsListed f ts x us → StatementClaim f Listed ts us x
+listed-read d = listedC d
+
 parts-are-read : PartsAreRead
 parts-are-read = record {
   expression = λ ts us x d. (expressionC d).claim;
