@@ -1,0 +1,6 @@
+pub mod ArgumentLists
+pub mod Inside
+pub mod PartLists
+pub mod PatternLists
+pub mod PlacedKeys
+pub mod Stars
