@@ -1,0 +1,12 @@
+pub mod Arrows
+pub mod Branches
+pub mod Elements
+pub mod Fitting
+pub mod Follows
+pub mod HeldParts
+pub mod Inside
+pub mod Levels
+pub mod Links
+pub mod ListTurns
+pub mod Shorthands
+pub mod TemplateLists
