@@ -1,0 +1,5 @@
+pub mod Inside
+pub mod LastToken
+pub mod Reached
+pub mod Spelled
+pub mod StatementBegins

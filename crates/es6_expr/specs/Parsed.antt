@@ -1,0 +1,57 @@
+-- What is answered for tokens, by what the model reads of them.
+use Rattle.std.specs.Prelude.{◌≡◌, ℕ, ◌-◌, ◌≤◌, not, List, ◌++◌, drop, length, map, Result, Ok, Err}
+use Rattle.es6_lexer.specs.declared.token.Token.{Token}
+use Rattle.es6_ast.specs.declared.tree.Expression.{Expression}
+use Rattle.es6_ast.specs.declared.tree.Statement.{Statement}
+use Rattle.es6_ast.specs.Tokens.{Filled, read}
+use Rattle.es6_ast.specs.Grammar.{Flags, level_sequence}
+use Rattle.es6_ast.specs.Semicolons.{SpellsExpression, SpellsStatement}
+use Rattle.es6_reading.specs.Parser as p
+use Rattle.es6_reading.specs.Parser.{Input, Outcome, Took, Fault, Stop}
+use Rattle.es6_reading.specs.Laws.{Says}
+use Rattle.es6_expr.specs.declared.fault.ParseFault.{ParseFault}
+use Rattle.es6_expr.specs.declared.fault.ParseFault.TheVariants.{Syntax, Lexical, Outside, Depth, OutOfMemory}
+use Rattle.es6_expr.specs.declared.parse.Context.{Context}
+use Rattle.es6_expr.specs.Faults.{fault_of, place_of}
+
+abbrev pub flags_in : Context → Flags
+flags_in context = record { has_in = not context.no_in; has_yield = context.in_generator; has_return = context.in_function }
+
+-- the tokens from the number on
+abbrev pub input_at : List Token → ℕ → Input
+input_at tokens from = record { tokens = map read (drop from tokens); last = 0 }
+
+-- the model takes what the value is made of, and as many tokens are left behind it
+pub data Gives {A B : Type 0} (made : A → B) (tokens : List Token) (outcome : Outcome A) (x : B) (at : ℕ) : Type 0 where
+  took : (y : A) (c : Input) → outcome ≡ Took y c → x ≡ made y → at ≡ length tokens - length c.tokens → Gives made tokens outcome x at
+
+-- Memory that runs out says nothing.
+pub data Refuses {A : Type 0} (tokens : List Token) (outcome : Outcome A) (fault : ParseFault) : Type 0 where
+  out_of_memory : fault ≡ OutOfMemory → Refuses tokens outcome fault
+  stopped : (stop : Stop) (rest : List Filled) → outcome ≡ Fault stop rest → fault ≡ fault_of stop (place_of (map read tokens) rest) → Refuses tokens outcome fault
+
+abbrev pub Answers : {A B : Type 0} → (A → B) → List Token → Outcome A → Result (B × ℕ) ParseFault → Type 0
+Answers made tokens outcome (Ok r) = Gives made tokens outcome r.0 r.1
+Answers made tokens outcome (Err fault) = Refuses tokens outcome fault
+
+-- The tokens from the one number on, up to the other, are exactly those that spell it.
+abbrev pub IsExpressionIn : Flags → List Token → ℕ → Expression × ℕ → Type 0
+IsExpressionIn f tokens from r = (r.1 ≤ length tokens) × SpellsExpression f level_sequence (drop from tokens) r.0 (drop r.1 tokens)
+
+abbrev pub IsStatementIn : Flags → List Token → ℕ → Statement × ℕ → Type 0
+IsStatementIn f tokens from r = (r.1 ≤ length tokens) × SpellsStatement f (drop from tokens) r.0 (drop r.1 tokens)
+
+-- The place is the begin of a token from the number on, or the end of all, and what is said of the tokens from there is so.
+pub record Stands (tokens : List Token) (from : ℕ) (stop : Stop) (at : ℕ) : Type 0 where
+  pub front : List Filled
+  pub rest : List Filled
+  pub parts : map read (drop from tokens) ≡ front ++ rest
+  pub place : at ≡ place_of (map read tokens) rest
+  pub says : Says stop rest
+
+abbrev pub IsFaultIn : List Token → ℕ → ParseFault → Type 0
+IsFaultIn tokens from (Syntax at) = Stands tokens from p.Syntax at
+IsFaultIn tokens from (Lexical at kind) = Stands tokens from (p.Lexical kind) at
+IsFaultIn tokens from (Outside rule at) = Stands tokens from (p.Outside rule) at
+IsFaultIn tokens from (Depth at) = Stands tokens from p.Depth at
+IsFaultIn tokens from OutOfMemory = Unit {0}

@@ -1,0 +1,16 @@
+//! Reads the expressions and statements of modules (ECMA-262, 6th edition, 12 to 14, and for `**` the 7th edition, 12.6).
+#![tactic(auto)]
+
+mod fault;
+mod inner;
+mod limits;
+mod parse;
+mod readers;
+mod statement_limit;
+
+pub use fault::{ParseFault, fault_of, place_of};
+pub use parse::{Context, parse_expression, parse_statement};
+pub use readers::{
+    assignment, class_after_word, class_declaration, function_after_word, function_declaration,
+    statement, variables_statement,
+};

@@ -1,0 +1,106 @@
+//! An expression or a statement by itself.
+
+ghost use Rattle.std.specs.Prelude.{◌≡◌, ◌≤◌, ◌<◌, ◌-◌, length, map, IfOk, IfErr};
+ghost use Rattle.es6_ast.specs.Tokens.{read};
+ghost use Rattle.es6_reading.specs.Expressions.{sequence};
+ghost use Rattle.es6_reading.specs.Parser.{Listed, Reading as Seen};
+ghost use Rattle.es6_reading.specs.Statements.{statement};
+ghost use Rattle.es6_cursor.specs.Readers.{inner};
+ghost use Rattle.es6_cursor.specs.Settings.{flags_of};
+ghost use Rattle.es6_expr.specs.Parsed.{Answers, IsExpressionIn, IsFaultIn, IsStatementIn, flags_in, input_at};
+
+use crate::fault::{ParseFault, fault_of, place_of};
+use crate::inner::{inner_statement, nested_expression};
+use crate::readers::statement;
+use es6_ast::{Expression, Statement};
+use es6_cursor::{Cursor, Flags, Halt, Stand};
+use es6_expressions::sequence;
+use es6_lexer::Token;
+use std::alloc::Global;
+
+/// Where an expression or a statement stands: whether `in` is no operator there, whether it is inside a generator, inside a
+/// function, and how many constructs are open.
+#[derive(Clone, Copy, Debug, PartialEq, Eq)]
+pub struct Context {
+    pub no_in: bool,
+    pub in_generator: bool,
+    pub in_function: bool,
+    pub depth: u32,
+}
+
+impl Context {
+    fn flags(self) -> Flags
+        ensures { flags_of result ≡ flags_in self }
+    {
+        Flags {
+            has_in: !self.no_in,
+            has_yield: self.in_generator,
+            has_return: self.in_function,
+        }
+    }
+
+    /// How many constructs may still open. At most 256 may be open at one token.
+    fn room(self) -> u16
+        requires { self.depth ≤ 256 }
+        ensures { result ≡ 256 - self.depth }
+    {
+        256 - self.depth as u16
+    }
+}
+
+/// The expression that the tokens from the number on begin with, and the number of the token behind it (ECMA-262, 6th
+/// edition, 12.15).
+pub fn parse_expression(
+    alloc: Global,
+    tokens: &[Token],
+    from: usize,
+    context: Context,
+) -> Result<(Expression, usize), ParseFault>
+    requires within { from < length tokens.now }
+    requires depth { context.depth ≤ 256 }
+    ensures read { Answers (λ (r : Seen). r.value) tokens.now (sequence (inner (256 - context.depth)) (flags_in context) (input_at tokens.now from)) result }
+    ensures spelled { IfOk result (λ r. IsExpressionIn (flags_in context) tokens.now from r) }
+    ensures fault { IfErr result (λ fault. IsFaultIn tokens.now from fault) }
+{
+    let mut cursor = Cursor::new(alloc, &tokens[from..]);
+    match sequence(
+        &mut cursor,
+        context.room(),
+        context.flags(),
+        &nested_expression,
+        &inner_statement,
+    ) {
+        Ok(reading) => Ok((reading.into_value(), taken(tokens, cursor.rest()))),
+        Err(Halt::Stopped(stop)) => Err(fault_of(stop, place_of(tokens, cursor.rest()))),
+        Err(Halt::OutOfMemory) => Err(ParseFault::OutOfMemory),
+    }
+}
+
+/// The statement or declaration that the tokens from the number on begin with, with its semicolon or none where one is
+/// inserted, and the number of the token behind it (13).
+pub fn parse_statement(
+    alloc: Global,
+    tokens: &[Token],
+    from: usize,
+    context: Context,
+) -> Result<(Statement, usize), ParseFault>
+    requires within { from < length tokens.now }
+    requires depth { context.depth ≤ 256 }
+    ensures read { Answers (λ s. s) tokens.now (statement (inner (256 - context.depth)) (flags_in context) Listed (input_at tokens.now from)) result }
+    ensures spelled { IfOk result (λ r. IsStatementIn (flags_in context) tokens.now from r) }
+    ensures fault { IfErr result (λ fault. IsFaultIn tokens.now from fault) }
+{
+    let mut cursor = Cursor::new(alloc, &tokens[from..]);
+    match statement(&mut cursor, context.room(), context.flags(), Stand::Listed) {
+        Ok(statement) => Ok((statement, taken(tokens, cursor.rest()))),
+        Err(Halt::Stopped(stop)) => Err(fault_of(stop, place_of(tokens, cursor.rest()))),
+        Err(Halt::OutOfMemory) => Err(ParseFault::OutOfMemory),
+    }
+}
+
+/// How many of the tokens stand before those that are left.
+fn taken(tokens: &[Token], rest: &[Token]) -> usize
+    ensures { result ≡ length tokens.now - length (map read rest.now) }
+{
+    tokens.len().saturating_sub(rest.len())
+}
