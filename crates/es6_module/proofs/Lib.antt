@@ -1,0 +1,4 @@
+pub mod ItemLists
+pub mod Names
+pub mod Parsed
+pub mod Refused
