@@ -1,0 +1,457 @@
+//! Expressions and their parts.
+
+use crate::list::List;
+use crate::show::{Show, Stack, node, node_named, node_of_units, node_with};
+use es_text::Span;
+use es6_ast::{
+    Argument, ArrowBody, AssignOperator, BinaryOperator, Element, Expression, Key, Link, Literal,
+    Operand, Property, Template, TemplatePart, UnaryOperator, UpdateOperator,
+};
+use std::io::{self, Write};
+
+fn literal<W: Write>(out: &mut W, span: Span, literal: &Literal) -> io::Result<()> {
+    match literal {
+        Literal::Null => node_with(out, "Literal", span, "null"),
+        Literal::Truth(true) => node_with(out, "Literal", span, "true"),
+        Literal::Truth(false) => node_with(out, "Literal", span, "false"),
+        Literal::Integer(value) => {
+            let begin = span.begin;
+            let end = span.end;
+            writeln!(out, "Literal {begin} {end} {value}")
+        }
+        Literal::Text(text) => {
+            let begin = span.begin;
+            let end = span.end;
+            write!(out, "Literal {begin} {end} text ")?;
+            crate::show::write_units(out, text.units())?;
+            writeln!(out, "")
+        }
+    }
+}
+
+fn unary_word(operator: UnaryOperator) -> &'static str {
+    match operator {
+        UnaryOperator::Delete => "delete",
+        UnaryOperator::Void => "void",
+        UnaryOperator::Typeof => "typeof",
+        UnaryOperator::Plus => "+",
+        UnaryOperator::Minus => "-",
+        UnaryOperator::BitNot => "~",
+        UnaryOperator::Not => "!",
+    }
+}
+
+fn update_word(operator: UpdateOperator) -> &'static str {
+    match operator {
+        UpdateOperator::IncrementBefore => "++x",
+        UpdateOperator::DecrementBefore => "--x",
+        UpdateOperator::IncrementAfter => "x++",
+        UpdateOperator::DecrementAfter => "x--",
+    }
+}
+
+fn binary_word(operator: BinaryOperator) -> &'static str {
+    match operator {
+        BinaryOperator::Or => "||",
+        BinaryOperator::And => "&&",
+        BinaryOperator::BitOr => "|",
+        BinaryOperator::BitXor => "^",
+        BinaryOperator::BitAnd => "&",
+        BinaryOperator::Equal => "==",
+        BinaryOperator::NotEqual => "!=",
+        BinaryOperator::Same => "===",
+        BinaryOperator::NotSame => "!==",
+        BinaryOperator::Less => "<",
+        BinaryOperator::Greater => ">",
+        BinaryOperator::AtMost => "<=",
+        BinaryOperator::AtLeast => ">=",
+        BinaryOperator::InstanceOf => "instanceof",
+        BinaryOperator::In => "in",
+        BinaryOperator::ShiftLeft => "<<",
+        BinaryOperator::ShiftRight => ">>",
+        BinaryOperator::ShiftRightUnsigned => ">>>",
+        BinaryOperator::Add => "+",
+        BinaryOperator::Subtract => "-",
+        BinaryOperator::Multiply => "*",
+        BinaryOperator::Divide => "/",
+        BinaryOperator::Remainder => "%",
+    }
+}
+
+fn assign_word(operator: AssignOperator) -> &'static str {
+    match operator {
+        AssignOperator::Assign => "=",
+        AssignOperator::MultiplyAssign => "*=",
+        AssignOperator::DivideAssign => "/=",
+        AssignOperator::RemainderAssign => "%=",
+        AssignOperator::AddAssign => "+=",
+        AssignOperator::SubtractAssign => "-=",
+        AssignOperator::ShiftLeftAssign => "<<=",
+        AssignOperator::ShiftRightAssign => ">>=",
+        AssignOperator::ShiftRightUnsignedAssign => ">>>=",
+        AssignOperator::BitAndAssign => "&=",
+        AssignOperator::BitXorAssign => "^=",
+        AssignOperator::BitOrAssign => "|=",
+        AssignOperator::PowerAssign => "**=",
+    }
+}
+
+/// An expression without a part that is an expression by itself, and those with lists.
+pub fn expression<'a, W: Write>(
+    out: &mut W,
+    stack: &mut Stack<'a>,
+    expression: &'a Expression,
+) -> io::Result<()> {
+    match expression {
+        Expression::This { span } => node(out, "This", *span),
+        Expression::Name { span, name } => node_named(out, "Name", *span, name.bytes()),
+        Expression::Literal {
+            span,
+            literal: value,
+        } => literal(out, *span, value),
+        Expression::NewTarget { span } => node(out, "NewTarget", *span),
+        Expression::Template(whole) => template(out, stack, whole),
+        Expression::ArrayList {
+            span,
+            elements,
+            ends_in_comma,
+        } => {
+            let word = if *ends_in_comma { "comma" } else { "plain" };
+            node_with(out, "ArrayList", *span, word)?;
+            leave(stack, Show::Elements(List::of(&elements)))
+        }
+        Expression::ObjectList { span, properties } => {
+            node(out, "ObjectList", *span)?;
+            leave(stack, Show::Properties(List::of(&properties)))
+        }
+        Expression::Function(function) => leave(stack, Show::Function(function.get())),
+        Expression::Class(class) => leave(stack, Show::Class(class.get())),
+        Expression::Arrow(arrow) => {
+            let arrow = arrow.get();
+            node(out, "Arrow", arrow.span)?;
+            let body = match &arrow.body {
+                ArrowBody::ValueBody(value) => Show::Expression(value.get()),
+                ArrowBody::BlockBody(block) => Show::Block(block),
+            };
+            leave_two(stack, Show::Parameters(List::of(&arrow.parameters)), body)
+        }
+        Expression::Chain { span, head, links } => {
+            node(out, "Chain", *span)?;
+            leave_two(
+                stack,
+                Show::Expression(head.get()),
+                Show::Links(List::of(&links)),
+            )
+        }
+        Expression::SuperMember { span, name } => {
+            node(out, "SuperMember", *span)?;
+            leave(stack, Show::Identifier(name))
+        }
+        Expression::SuperCall { span, arguments } => {
+            node(out, "SuperCall", *span)?;
+            leave(stack, Show::Arguments(List::of(&arguments)))
+        }
+        Expression::New {
+            span,
+            callee,
+            arguments,
+        } => {
+            node(out, "New", *span)?;
+            leave_two(
+                stack,
+                Show::Expression(callee.get()),
+                Show::Arguments(List::of(&arguments)),
+            )
+        }
+        Expression::Binary { span, first, rest } => {
+            node(out, "Binary", *span)?;
+            leave_two(
+                stack,
+                Show::Expression(first.get()),
+                Show::Operands(List::of(&rest)),
+            )
+        }
+        Expression::Sequence { span, first, rest } => {
+            node(out, "Sequence", *span)?;
+            leave_two(
+                stack,
+                Show::Expression(first.get()),
+                Show::Expressions(List::of(&rest)),
+            )
+        }
+        other => with_operators(out, stack, other),
+    }
+}
+
+/// Expressions with operators and parentheses.
+fn with_operators<'a, W: Write>(
+    out: &mut W,
+    stack: &mut Stack<'a>,
+    expression: &'a Expression,
+) -> io::Result<()> {
+    match expression {
+        Expression::SuperIndex { span, index } => {
+            node(out, "SuperIndex", *span)?;
+            leave(stack, Show::Expression(index.get()))
+        }
+        Expression::Update {
+            span,
+            operator,
+            target,
+        } => {
+            node_with(out, "Update", *span, update_word(*operator))?;
+            leave(stack, Show::Expression(target.get()))
+        }
+        Expression::Unary {
+            span,
+            operator,
+            operand,
+        } => {
+            node_with(out, "Unary", *span, unary_word(*operator))?;
+            leave(stack, Show::Expression(operand.get()))
+        }
+        Expression::Power {
+            span,
+            base,
+            exponent,
+        } => {
+            node(out, "Power", *span)?;
+            leave_two(
+                stack,
+                Show::Expression(base.get()),
+                Show::Expression(exponent.get()),
+            )
+        }
+        Expression::Conditional {
+            span,
+            test,
+            yes,
+            no,
+        } => {
+            node(out, "Conditional", *span)?;
+            stack.push(Show::Expression(no.get()))?;
+            leave_two(
+                stack,
+                Show::Expression(test.get()),
+                Show::Expression(yes.get()),
+            )
+        }
+        Expression::Assign {
+            span,
+            operator,
+            target,
+            value,
+        } => {
+            node_with(out, "Assign", *span, assign_word(*operator))?;
+            leave_two(stack, Show::Pattern(target), Show::Expression(value.get()))
+        }
+        Expression::Yield { span, value } => {
+            node(out, "Yield", *span)?;
+            match value {
+                None => Ok(()),
+                Some(value) => leave(stack, Show::Expression(value.get())),
+            }
+        }
+        Expression::Delegate { span, value } => {
+            node(out, "Delegate", *span)?;
+            leave(stack, Show::Expression(value.get()))
+        }
+        Expression::Group { span, held } => {
+            node(out, "Group", *span)?;
+            leave(stack, Show::Expression(held.get()))
+        }
+        Expression::Cover { span, .. } => node(out, "Cover", *span),
+        _ => Ok(()),
+    }
+}
+
+/// Leaves one part.
+pub fn leave<'a>(stack: &mut Stack<'a>, part: Show<'a>) -> io::Result<()> {
+    stack.push(part)?;
+    Ok(())
+}
+
+/// Leaves two parts, the first one to be printed first.
+pub fn leave_two<'a>(stack: &mut Stack<'a>, first: Show<'a>, second: Show<'a>) -> io::Result<()> {
+    stack.push(second)?;
+    stack.push(first)?;
+    Ok(())
+}
+
+/// A template.
+pub fn template<'a, W: Write>(
+    out: &mut W,
+    stack: &mut Stack<'a>,
+    template: &'a Template,
+) -> io::Result<()> {
+    node(out, "Template", template.span)?;
+    leave_two(
+        stack,
+        Show::Stretch(&template.first),
+        Show::TemplateParts(List::of(&template.rest)),
+    )
+}
+
+/// The first of a template's values with the stretch behind it, and the others.
+pub fn template_parts<'a>(stack: &mut Stack<'a>, list: List<'a, TemplatePart>) -> io::Result<()> {
+    if let Some(first) = list.first() {
+        let rest = list.rest();
+        stack.push(Show::TemplateParts(rest))?;
+        leave_two(
+            stack,
+            Show::Expression(&first.value),
+            Show::Stretch(&first.after),
+        )?;
+    }
+    Ok(())
+}
+
+fn argument<'a, W: Write>(
+    out: &mut W,
+    stack: &mut Stack<'a>,
+    argument: &'a Argument,
+) -> io::Result<()> {
+    match argument {
+        Argument::Single(value) => leave(stack, Show::Expression(value)),
+        Argument::Spread { span, value } => {
+            node(out, "Spread", *span)?;
+            leave(stack, Show::Expression(value))
+        }
+    }
+}
+
+/// The first argument, and the others.
+pub fn arguments<'a, W: Write>(
+    out: &mut W,
+    stack: &mut Stack<'a>,
+    list: List<'a, Argument>,
+) -> io::Result<()> {
+    if let Some(first) = list.first() {
+        let rest = list.rest();
+        stack.push(Show::Arguments(rest))?;
+        argument(out, stack, first)?;
+    }
+    Ok(())
+}
+
+/// The first element, and the others.
+pub fn elements<'a, W: Write>(
+    out: &mut W,
+    stack: &mut Stack<'a>,
+    list: List<'a, Element>,
+) -> io::Result<()> {
+    if let Some(first) = list.first() {
+        let rest = list.rest();
+        stack.push(Show::Elements(rest))?;
+        match first {
+            Element::Hole => writeln!(out, "Hole")?,
+            Element::Present(present) => argument(out, stack, present)?,
+        }
+    }
+    Ok(())
+}
+
+fn property<'a, W: Write>(
+    out: &mut W,
+    stack: &mut Stack<'a>,
+    property: &'a Property,
+) -> io::Result<()> {
+    match property {
+        Property::Plain { span, key, value } => {
+            node(out, "Plain", *span)?;
+            leave_two(stack, Show::Key(key), Show::Expression(value))
+        }
+        Property::Shorthand { span, name } => node_named(out, "Shorthand", *span, name.bytes()),
+        Property::Initialized {
+            span,
+            name,
+            value,
+            ..
+        } => {
+            node(out, "Initialized", *span)?;
+            leave_two(stack, Show::Identifier(name), Show::Expression(value))
+        }
+        Property::Defined(method) => leave(stack, Show::Method(method)),
+    }
+}
+
+/// The first property, and the others.
+pub fn properties<'a, W: Write>(
+    out: &mut W,
+    stack: &mut Stack<'a>,
+    list: List<'a, Property>,
+) -> io::Result<()> {
+    if let Some(first) = list.first() {
+        let rest = list.rest();
+        stack.push(Show::Properties(rest))?;
+        property(out, stack, first)?;
+    }
+    Ok(())
+}
+
+fn link<'a, W: Write>(out: &mut W, stack: &mut Stack<'a>, link: &'a Link) -> io::Result<()> {
+    match link {
+        Link::Member { span, name } => {
+            node(out, "Member", *span)?;
+            leave(stack, Show::Identifier(name))
+        }
+        Link::Index { span, index } => {
+            node(out, "Index", *span)?;
+            leave(stack, Show::Expression(index))
+        }
+        Link::Call { span, arguments } => {
+            node(out, "Call", *span)?;
+            leave(stack, Show::Arguments(List::of(&arguments)))
+        }
+        Link::Tagged(template) => {
+            node(out, "Tagged", template.span)?;
+            leave(stack, Show::Template(template))
+        }
+    }
+}
+
+/// The first access or call, and the others.
+pub fn links<'a, W: Write>(
+    out: &mut W,
+    stack: &mut Stack<'a>,
+    list: List<'a, Link>,
+) -> io::Result<()> {
+    if let Some(first) = list.first() {
+        let rest = list.rest();
+        stack.push(Show::Links(rest))?;
+        link(out, stack, first)?;
+    }
+    Ok(())
+}
+
+/// The first operator with what follows it, and the others.
+pub fn operands<'a, W: Write>(
+    out: &mut W,
+    stack: &mut Stack<'a>,
+    list: List<'a, Operand>,
+) -> io::Result<()> {
+    if let Some(first) = list.first() {
+        let rest = list.rest();
+        let word = binary_word(first.operator);
+        writeln!(out, "Operand {word}")?;
+        leave_two(stack, Show::Expression(&first.value), Show::Operands(rest))?;
+    }
+    Ok(())
+}
+
+/// A property name.
+pub fn key<'a, W: Write>(out: &mut W, stack: &mut Stack<'a>, key: &'a Key) -> io::Result<()> {
+    match key {
+        Key::WordKey { span, name } => node_named(out, "WordKey", *span, name.bytes()),
+        Key::TextKey { span, units } => node_of_units(out, "TextKey", *span, units.units()),
+        Key::IntegerKey { span, value } => {
+            let begin = span.begin;
+            let end = span.end;
+            writeln!(out, "IntegerKey {begin} {end} {value}")
+        }
+        Key::ComputedKey { span, value } => {
+            node(out, "ComputedKey", *span)?;
+            leave(stack, Show::Expression(value.get()))
+        }
+    }
+}
