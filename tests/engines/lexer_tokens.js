@@ -9,24 +9,9 @@ const { spawnSync } = require('child_process');
 const { numbers, wholes, spaced, singles } = require('./modules_corpus.js');
 const { programs } = require('./modules_programs.js');
 const { rows } = require('./modules_rows.js');
+const { byteOffsets } = require('./modules_tree.js');
 const program = process.argv[2];
 const options = { ecmaVersion: 7, sourceType: 'module' };
-
-// The byte offset of each 16-bit unit.
-function byteOffsets(text) {
-  const offsets = new Uint32Array(text.length + 1);
-  let offset = 0;
-  for (let i = 0; i < text.length; i++) {
-    offsets[i] = offset;
-    const unit = text.charCodeAt(i);
-    if (unit < 0x80) offset += 1;
-    else if (unit < 0x800) offset += 2;
-    else if (unit >= 0xd800 && unit < 0xdc00) { offsets[i + 1] = offset; offset += 4; i++; }
-    else offset += 3;
-  }
-  offsets[text.length] = offset;
-  return offsets;
-}
 
 const hex = (text) => [...Array(text.length).keys()].map((i) => ' ' + text.charCodeAt(i).toString(16).padStart(4, '0')).join('');
 

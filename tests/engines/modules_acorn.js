@@ -263,6 +263,8 @@ class Parser extends acorn.Parser {
     const isMethod = node.type === 'Property' && (node.kind !== 'init' || node.method);
     const isGroup = node.type === 'ParenthesizedExpression';
     if (isOperator || isMethod || isGroup && !this.isSimpleAssignTarget(node)) { this.refined.push(node.start); return node; }
+    // of several spreads acorn looks at the last one alone
+    if (node.type === 'ArrayExpression') for (const part of node.elements.slice(0, -1)) if (part && part.type === 'SpreadElement') this.refined.push(part.start);
     return isGroup ? node : super.toAssignable(node, false, errors);
   }
   checkLValPattern(node, binding, clashes) { if (node !== this.misfit) super.checkLValPattern(node, binding, clashes); }
@@ -345,6 +347,33 @@ function peer(text) {
   return { tree, tokens, early: at === null ? null : { at, rules: early.filter((note) => note.at === at).flatMap((note) => note.rules) } };
 }
 
+// What a text begins with, read as the goal says, with its tokens and the end of the last one; or the fault, as `peer` gives it.
+function peerPart(text, goal) {
+  const tokens = [];
+  const parser = new Parser({ ecmaVersion: 7, sourceType: 'module', preserveParens: true, onToken: tokens }, text);
+  try {
+    parser.nextToken();
+    const tree = goal === 'statement' ? parser.parseStatement(null) : parser.parseExpression();
+    const part = { tree, tokens, end: parser.lastTokEnd };
+    return goal === 'pattern' ? { ...part, ...refinedPattern(parser, tree) } : part;
+  } catch (error) {
+    if (!(error instanceof Stop)) throw error;
+    return { fault: error.kind, at: error.at, rule: error.rule };
+  }
+}
+// the pattern that an expression is refined to, or its first part that no pattern spells
+function refinedPattern(parser, tree) {
+  if (!isLeft(tree)) return { misfit: tree.start };
+  const pattern = parser.toAssignable(tree, false);
+  return parser.misfit === pattern ? { misfit: parser.early[parser.early.length - 1].at } : { pattern };
+}
+// the parameters that a whole text is before `=>`, or nothing
+function peerParameters(text) {
+  const part = peerPart(text + ' => 0', 'expression');
+  if (part.fault || part.tree.type !== 'ArrowFunctionExpression' || part.tree.body.start < text.length) return null;
+  return { parameters: part.tree.params, tokens: part.tokens };
+}
+
 // A text's tokens with what stands before each, a stretch of a template with the marks round it as one token.
 function piecesOf(text) {
   const tokens = [...acorn.tokenizer(text, { ecmaVersion: 7, sourceType: 'module' })];
@@ -358,4 +387,4 @@ function piecesOf(text) {
   return pieces;
 }
 
-module.exports = { peer, piecesOf };
+module.exports = { peer, peerPart, peerParameters, piecesOf };

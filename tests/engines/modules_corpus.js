@@ -98,6 +98,9 @@ function* wholes() {
   for (const template of [...bound, ...assigned]) for (const text of nested(template)) { yield 'let ' + text + ' = x ;'; yield round.generator('( ' + text + ' = x ) ;'); yield '( ' + text + ' ) => x ;'; }
 }
 
+// expressions, what they are refined to, and what is no pattern
+function* expressionTexts() { for (const template of [...expressions, ...bound, ...assigned]) yield* nested(template); }
+
 const tokensOf = (text) => text.match(/`[^`]*`|"(\\.|[^"\\])*"|'(\\.|[^'\\])*'|\S+/g) || [];
 const gaps = ['\n', '\n', '\n', ' /* c */ ', ' // c\n', ' /* c\n */ ', '\r\n', '\u2028', '\t', '\u00a0'];
 // the tokens of a text with line breaks and comments between some
@@ -132,4 +135,4 @@ const singles = [
   '({ a: 1, a: 2 })', '({ get a() {}, get a() {} })', '({ __proto__: 1, __proto__: 2 })', '({ set a() {} })', '({ get a(b) {} })', '({ set a(eval) {} })', '({ set a(b, c) {} })', '({ set a(...b) {} })', '({ set a(b,) {} })', '({ get a(b) { ! } })', '({ get: 1, set: 2 })', '({ get })', '({ a })', '({ a, })', '({ , })', '({ a: 1 b: 2 })', '({ get a: 1 })', '({ get a })', '({ *a: 1 })', '({ *a })', '({ * })', '({ get *a() {} })', '({ *get a() {} })', '({ a() {} b() {} })', '({ [a] })', '({ [a]: })', '({ []: a })', '({ [a, b]: c })', '({ "a" })', '({ 1 })', '({ "a"() {} })', '({ a: b = 1 })', '({ a.b: c })', '({ (a): b })', '({ a', '({ a:', '({ a() {', '({ get', '({ get a', '({ ;', '({ if: 1, else: 2 })', '({ get if() {}, set else(a) {} })', '({ async a() {} })', '({ async *a() {} })', '({ a(b = 1) { "use strict" } })', '{ a: 1 }', '{ a: 1, b: 2 }', '{ a, b }', '{ a() {} }', '{}.a', '{} + a', '{}\n[a]', '({}).a', 'a = {}\n[b]', '({ a(a, a) {} })', '({ a({ b }, b) {} })', '({ eval })', '({ eval: 1 })', '({ eval() {} })',
 ];
 
-module.exports = { numbers, items, declarations, statements, expressions, wholes, spaced, bare, singles, tokensOf };
+module.exports = { numbers, wholes, expressionTexts, spaced, bare, singles, tokensOf };
