@@ -43,12 +43,8 @@ function wantedParameters(goal, whole) {
   return ['NotAPattern', ...linesOf(text, plain.tree, plain.tokens, 'expression')];
 }
 
-// Where the program is right, or known to be wrong, and acorn says something else.
+// Where the program is right, and acorn says something else.
 const allowed = [
-  {
-    why: 'a fault of the reader, which no module shows: it stops at `=>` behind what is no parameters, and should take the tokens before',
-    is: (text, wanted, lines) => stopsAt(lines) !== null && !faultOf(wanted) && Buffer.from(text).subarray(stopsAt(lines)).toString().startsWith('=>'),
-  },
   {
     why: 'a regular expression as the operand of `new` or as a heritage: the profile says U2 only where `!` could stand',
     is: (text, wanted, lines) => wanted[0] === 'Outside 2 ' + stopsAt(lines) && /\b(new|extends) $/.test(text.slice(0, stopsAt(lines))),

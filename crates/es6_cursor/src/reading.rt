@@ -2,7 +2,7 @@
 
 ghost use Rattle.std.specs.Prelude.{◌≡◌, MatchResult, Some, None};
 ghost use Rattle.es6_reading.specs.Statements.{label_of};
-ghost use Rattle.es6_reading.specs.Parser.{Bare, is_left};
+ghost use Rattle.es6_reading.specs.Parser.{Bare, is_covered, is_left};
 ghost use Rattle.es6_reading.specs.Expressions.{left, other};
 ghost use Rattle.es6_ast.specs.declared.tree.Expression.TheVariants as expr;
 ghost use Rattle.es6_cursor.specs.Settings.{shape_of};
@@ -90,6 +90,16 @@ impl Reading {
         match self.shape {
             Shape::Bare | Shape::Grouped | Shape::LeftHandSide => true,
             Shape::Covered | Shape::Other => false,
+        }
+    }
+
+    /// Whether it is parentheses that only an arrow's parameters have.
+    pub fn is_covered(&self) -> bool
+        ensures { result ≡ is_covered self.now.shape }
+    {
+        match self.shape {
+            Shape::Covered => true,
+            Shape::Bare | Shape::Grouped | Shape::LeftHandSide | Shape::Other => false,
         }
     }
 

@@ -1,8 +1,7 @@
 -- What is read where a refinement has to fit, by what the refinement is.
-use Rattle.std.proofs.Common.{◌≡◌, ℕ, refl, ◌∙◌}
+use Rattle.std.proofs.Common.{◌≡◌, ℕ, true, false, refl, ◌∙◌}
 use Rattle.std.specs.Prelude.{Result, Ok, Err}
-use Rattle.es6_ast.specs.declared.tree.Expression.{Expression}
-use Rattle.es6_reading.specs.Parser.{Input, Took, Fault, Endless, Shape, Bare, Grouped, Covered, LeftHandSide, Other, refused}
+use Rattle.es6_reading.specs.Parser.{Input, Took, Fault, Endless, refused}
 use Rattle.es6_reading.specs.Refine.{Refined, Fits, Misfit, TooNested}
 use Rattle.es6_reading.specs.Expressions.{fitting}
 use Rattle.es6_refine.specs.declared.fit.Fit.TheVariants as fit
@@ -10,6 +9,22 @@ use Rattle.es6_refine.specs.Fitting.{fit_of}
 use Rattle.es6_cursor.specs.declared.halt.Halt.{Halt}
 use Rattle.es6_cursor.specs.declared.halt.Halt.TheVariants.{Stopped, OutOfMemory}
 use Rattle.es6_cursor.specs.Reads.{Reads, Skips}
+use Rattle.es6_expressions.specs.Refining.{misfits}
+
+pub fits_found : {A : Type 0} (r : Refined A) → fit_of r ≡ fit.Fits → misfits r ≡ false
+fits_found (Fits x) h = refl
+fits_found (Misfit at) h = absurd (cc)
+fits_found TooNested h = refl
+
+pub misfit_found : {A : Type 0} (r : Refined A) (at : ℕ) → fit_of r ≡ fit.Misfit at → misfits r ≡ true
+misfit_found (Fits x) at h = absurd (cc)
+misfit_found (Misfit place) at h = refl
+misfit_found TooNested at h = absurd (cc)
+
+pub nested_found : {A : Type 0} (r : Refined A) → fit_of r ≡ fit.TooNested → misfits r ≡ false
+nested_found (Fits x) h = refl
+nested_found (Misfit at) h = absurd (cc)
+nested_found TooNested h = refl
 
 pub fits_skipped : {A : Type 0} (r : Refined A) (c : Input) → fit_of r ≡ fit.Fits → (y : A) × (fitting r c ≡ Took y c)
 fits_skipped (Fits x) c h = (x, refl)

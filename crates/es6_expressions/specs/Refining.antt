@@ -1,12 +1,18 @@
 -- What is read where a refinement has to fit.
-use Rattle.std.specs.Prelude.{Result}
+use Rattle.std.specs.Prelude.{Bool, true, false, Result}
 use Rattle.es6_reading.specs.Parser.{Input}
-use Rattle.es6_reading.specs.Refine.{Refined}
+use Rattle.es6_reading.specs.Refine.{Refined, Fits, Misfit, TooNested}
 use Rattle.es6_reading.specs.Expressions.{fitting}
 use Rattle.es6_refine.specs.declared.fault.Unrefined.{Unrefined}
 use Rattle.es6_refine.specs.Refines.{Refines}
 use Rattle.es6_cursor.specs.declared.halt.Halt.{Halt}
 use Rattle.es6_cursor.specs.Reads.{Reads}
+
+-- whether the model finds out that an expression is none
+abbrev pub misfits : {A : Type 0} → Refined A → Bool
+misfits (Fits x) = false
+misfits (Misfit place) = true
+misfits TooNested = false
 
 -- of whatever the model refines so
 abbrev pub ReadsRefined : {A : Type 0} → Result A Unrefined → Result A Halt → Input → Type 0

@@ -5,12 +5,12 @@ ghost use Rattle.es6_cursor.specs.Reads.{Reads};
 ghost use Rattle.es6_cursor.specs.Settings.{flags_of, stand_of};
 ghost use Rattle.es6_expressions.specs.Branches.{other_branch};
 ghost use Rattle.es6_expressions.specs.Readers.{nested_of};
-ghost use Rattle.es6_reading.specs.Expressions.{arrow_body, arrow_if, branches, conditional, parameters_before};
+ghost use Rattle.es6_reading.specs.Expressions.{arrow_body, arrow_if, before_arrow, branches, conditional, parameters_before};
 ghost use Rattle.std.specs.Prelude.{ℕ, ◌≤◌};
 
 use crate::binary::binary;
 use crate::nested::Nested;
-use crate::refining::arrow_parameters;
+use crate::refining::{arrow_parameters, is_misfit};
 use es6_ast::{Expression, Parameter, Statement};
 use es6_cursor::{Cursor, Flags, Halt, Reading, Stand, build};
 use es6_lexer::Punctuator;
@@ -112,8 +112,19 @@ fn arrow_body<
     Ok(build::arrow_with_value(cursor.alloc(), span, parameters, value.into_value())?)
 }
 
-/// An arrow function, with what is read before its `=>`, which begins at the offset.
-#[tactic(auto, using(es6_cursor::proofs::Rules::groups, es6_cursor::proofs::Choices::on_arrow, es6_cursor::proofs::Choices::off_arrow, crate::proofs::Arrows::arrow_is))]
+/// What stands before `=>` and is no parameters ends there, if it is an expression by itself.
+fn before_arrow(cursor: &Cursor, head: Reading) -> Result<Reading, Halt>
+    ensures { Reads (before_arrow head cursor.now) result cursor.now }
+{
+    if head.is_covered() {
+        return cursor.refuse();
+    }
+    Ok(head)
+}
+
+/// An arrow function, with what is read before its `=>`, which begins at the offset; or no more than that, where it is no
+/// parameters.
+#[tactic(auto, using(es6_cursor::proofs::Rules::groups, es6_cursor::proofs::Choices::on_arrow, es6_cursor::proofs::Choices::off_arrow, crate::proofs::Arrows::arrow_is, crate::proofs::Arrows::no_arrow_is))]
 #[inline(never)]
 pub fn arrow<
     E: Fn(&mut Cursor, u16, Flags, Nested) -> Result<Reading, Halt>,
@@ -131,8 +142,11 @@ pub fn arrow<
     requires expression_reads { (c : _) (r : ℕ) (f : _) (n : _) (x : _) (d : _) → r ≤ room → E.post expression.now c r f n x d → Reads (nested_of n (inner r) (flags_of f) c.now) x d.now }
     requires statement_callable { (c : _) (r : ℕ) (f : _) (s : _) → r ≤ room → S.pre statement.now c r f s }
     requires statement_reads { (c : _) (r : ℕ) (f : _) (s : _) (x : _) (d : _) → r ≤ room → S.post statement.now c r f s x d → Reads ((inner r).statement (flags_of f) (stand_of s) c.now) x d.now }
-    ensures { Reads (arrow_if (inner room) (flags_of flags) begin (parameters_before turns head.shape head.value) cursor.old) result cursor.new }
+    ensures { Reads (arrow_if (inner room) (flags_of flags) begin head (parameters_before turns head.shape head.value) cursor.old) result cursor.new }
 {
+    if is_misfit(&head) {
+        return before_arrow(cursor, head);
+    }
     let parameters = arrow_parameters(cursor, head)?;
     if !cursor.take_arrow() {
         return cursor.refuse();

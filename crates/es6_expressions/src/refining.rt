@@ -2,15 +2,17 @@
 
 ghost use Rattle.es6_cursor.specs.Readers.{turns};
 ghost use Rattle.es6_cursor.specs.Reads.{Reads, Skips};
-ghost use Rattle.es6_expressions.specs.Refining.{ReadsRefined};
+ghost use Rattle.es6_expressions.specs.Refining.{ReadsRefined, misfits};
 ghost use Rattle.es6_reading.specs.Expressions.{fitting, parameters_before};
 ghost use Rattle.es6_reading.specs.Refine.{parameters_of, refine_parameters, target_before};
-ghost use Rattle.std.specs.Prelude.{◌∷◌};
+ghost use Rattle.std.specs.Prelude.{◌≡◌, ◌∷◌};
 
 use crate::cover::Held;
 use es6_ast::{AssignOperator, Expression, Parameter, Pattern};
 use es6_cursor::{Cursor, Halt, Reading, Shape, Stop, TURNS};
-use es6_refine::{Fit, Unrefined, parameters_fit, parameters_within, target_before};
+use es6_refine::{
+    Fit, Unrefined, are_parameters, parameters_fit, parameters_within, target_before,
+};
 use sqlite_items::Items;
 
 /// What a refinement gives, which has to fit.
@@ -31,6 +33,27 @@ fn refined_parameters(cursor: &Cursor, head: Reading) -> Result<Items<Parameter>
 {
     let refined = parameters_within(cursor.alloc(), TURNS, head.into_value());
     fitting(cursor, refined)
+}
+
+/// Whether a name or parentheses are no parameters.
+fn are_no_parameters(expression: &Expression) -> bool
+    ensures { result ≡ misfits (refine_parameters turns expression.now) }
+{
+    match are_parameters(TURNS, expression) {
+        Fit::Misfit { .. } => true,
+        Fit::Fits => false,
+        Fit::TooNested => false,
+    }
+}
+
+/// Whether what stands before `=>` is no parameters.
+pub fn is_misfit(head: &Reading) -> bool
+    ensures { result ≡ misfits (parameters_before turns head.now.shape head.now.value) }
+{
+    match head.shape() {
+        Shape::Bare | Shape::Grouped | Shape::Covered => are_no_parameters(head.value()),
+        Shape::LeftHandSide | Shape::Other => true,
+    }
 }
 
 /// The parameters that stand before `=>`.

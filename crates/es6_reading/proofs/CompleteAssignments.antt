@@ -105,7 +105,7 @@ pub arrow-claim : (f : Flags) {t : Filled} {ts us vs : List Filled} {es : List P
 unfolding without_yield after_conditional BodyReads
 arrow-claim f {t = t} {ts = ts} {us = us} {vs = vs} {es = es} {body = body} {x = x} p h o d e = claim-other f 1 ts vs x Other (omega arith) (expression-if-unary f ts p.begins) (λ l. p.begins) (λ least w l k ends.
     from-assignment f (reading x Other) ts vs (from-without-yield f (reading x Other) ts vs p.begins (both (enough-turns {P = λ n. parameters_before n p.shape p.value ≡ Fits es} p.enough p.becomes) (pair (p.reads (closes-arrow f us t h)) (body-reads f ts es d (closes-up f least 1 vs l k) ends)) (λ n k' r a z last.
-    and_then _ (z.0 last) (λ end mv. if-yes is_arrow _ _ (t ∷ us) end (arrow-hit t h o).0 (equal (ap (λ w. arrow_if (R k' r) f (begin_of ts) w (record { tokens = t ∷ us; last = end })) a)
+    and_then _ (z.0 last) (λ end mv. if-yes is_arrow _ _ (t ∷ us) end (arrow-hit t h o).0 (equal (ap (λ w. arrow_if (R k' r) f (begin_of ts) (reading p.value p.shape) w (record { tokens = t ∷ us; last = end })) a)
     (hit arrow_at _ _ t t us end (arrow-hit t h o).1 (subst (λ w. Exactly (reading w Other) (record { tokens = ts; last = last }) vs (arrow_body (R k' r) f (begin_of ts) es (record { tokens = us; last = t.span.end }))) (sym e) (z.1 last t.span.end (mv ⟫ one)))))))))
     least w l k)
 

@@ -1,5 +1,5 @@
 -- Derivations of the grammar between two inputs: what each reader gives, if those of one construct deeper give it.
-use Rattle.std.proofs.Common.{◌≡◌, ℕ, Bool, true, false, List, [], ◌∷◌, Option, Some, None, refl}
+use Rattle.std.proofs.Common.{◌≡◌, ℕ, Bool, true, false, ◌&&◌, List, [], ◌∷◌, Option, Some, None, refl}
 use Rattle.es6_lexer.specs.declared.token.TokenKind.{TokenKind}
 use Rattle.es6_lexer.specs.declared.token.Punctuator.{Punctuator as Mark}
 use Rattle.es6_lexer.specs.declared.token.Punctuator.TheVariants as marks
@@ -17,7 +17,7 @@ use Rattle.es6_ast.specs.declared.tree.Statement.{Statement}
 use Rattle.es6_ast.specs.declared.tree.Statement.TheVariants as stat
 use Rattle.es6_ast.specs.Tokens.{Read, Filled, IsWord, IsMark, across, is_identifier}
 use Rattle.es6_ast.specs.Grammar.{Flags, with_in, level_sequence, level_assignment, level_power, level_unary, level_left_hand_side, level_member, NotStar, name_alone, IsName, IsExpression, IsNewCallee, AreArrowParameters, IsPattern, IsTarget, IsPart, IsObjectPart, IsProperty, IsBlock, IsFunction, IsListed, IsStatement, AreMembers}
-use Rattle.es6_reading.specs.Parser.{Input, Parser, on, next_is, take_as, is_mark, mark, word, next_mark, is_left, Reading, Stand, Listed, Under, Labelled, Inner, on_group}
+use Rattle.es6_reading.specs.Parser.{Input, Parser, on, next_is, take_as, is_mark, mark, word, next_mark, Shape, Bare, Grouped, Covered, LeftHandSide, Other, is_left, is_covered, Reading, Stand, Listed, Under, Labelled, Inner, on_group}
 use Rattle.es6_reading.specs.Words.{is_arrow, is_template_head}
 use Rattle.es6_reading.specs.Refine.{Fits}
 use Rattle.es6_reading.specs.Expressions.{parameters_before}
@@ -28,17 +28,46 @@ use Rattle.es6_reading.proofs.Spans.{Moves}
 
 -- ## What readers of expressions give
 
--- No arrow follows. Where one does, only the parameters count that stand before it.
-abbrev pub NotArrow : Input → Type 0
-NotArrow c = next_is is_arrow c.tokens ≡ false
+-- What is read is an expression: no parentheses that only an arrow's parameters have, or no arrow follows, which such stand before.
+abbrev pub Uncovered : Shape → Input → Type 0
+Uncovered shape c = (is_covered shape && next_is is_arrow c.tokens) ≡ false
+
+pub by-token : (shape : Shape) {arrow : Bool} → arrow ≡ false → (is_covered shape && arrow) ≡ false
+by-token Bare h = refl
+by-token Grouped h = refl
+by-token Covered h = h
+by-token LeftHandSide h = refl
+by-token Other h = refl
+
+pub by-shape : (shape : Shape) (arrow : Bool) → is_covered shape ≡ false → (is_covered shape && arrow) ≡ false
+by-shape Bare arrow h = refl
+by-shape Grouped arrow h = refl
+by-shape Covered arrow h = absurd (cc)
+by-shape LeftHandSide arrow h = refl
+by-shape Other arrow h = refl
+
+pub by-left : (shape : Shape) (arrow : Bool) → is_left shape ≡ true → (is_covered shape && arrow) ≡ false
+by-left Bare arrow h = refl
+by-left Grouped arrow h = refl
+by-left Covered arrow h = absurd (cc)
+by-left LeftHandSide arrow h = refl
+by-left Other arrow h = refl
 
 -- what a reader below assignment gives
 pub record ReadIn (f : Flags) (least : ℕ) (s : Input) (x : Reading) (c : Input) : Type 0 where
   pub moves : Moves s c
-  pub derived : NotArrow c → IsExpression f least s.tokens x.value c.tokens
-  pub left_side : is_left x.shape ≡ true → NotArrow c → IsExpression f level_left_hand_side s.tokens x.value c.tokens
+  pub derived : Uncovered x.shape c → IsExpression f least s.tokens x.value c.tokens
+  pub left_side : is_left x.shape ≡ true → IsExpression f level_left_hand_side s.tokens x.value c.tokens
   pub named : (label : Identifier) → label_of x.shape x.value ≡ Some label → IsName s.tokens label c.tokens
   pub parameters : (n : ℕ) (es : List Parameter) → parameters_before n x.shape x.value ≡ Fits es → AreArrowParameters f s.tokens es c.tokens
+
+-- what such a reader gives where no arrow's parameters may stand
+pub record ReadAmong (f : Flags) (least : ℕ) (s : Input) (x : Reading) (c : Input) : Type 0 where
+  pub moves : Moves s c
+  pub derived : IsExpression f least s.tokens x.value c.tokens
+
+pub among : {f : Flags} {least : ℕ} {s c : Input} {x : Reading} → ReadIn f least s x c → is_covered x.shape ≡ false → ReadAmong f least s x c
+among {x = x} r h = record { moves = r.moves; derived = r.derived (by-shape x.shape _ h) }
 
 -- what a reader of assignments or of expressions with commas gives
 pub record ReadWhole (f : Flags) (least : ℕ) (s : Input) (x : Reading) (c : Input) : Type 0 where
@@ -56,7 +85,7 @@ Stopped calls ts =
 -- what `new` has before its arguments
 pub record CalleeRead (f : Flags) (s : Input) (x : Reading) (c : Input) : Type 0 where
   pub moves : Moves s c
-  pub callee : NotArrow c → IsNewCallee f s.tokens x.value c.tokens
+  pub callee : IsNewCallee f s.tokens x.value c.tokens
   pub member : next_is (next_mark marks.LeftParenthesis) c.tokens ≡ true → IsExpression f level_member s.tokens x.value c.tokens
   pub stopped : Stopped false c.tokens
 
@@ -115,10 +144,10 @@ pub record Sound (i : Inner) : Type 0 where
   pub plain : i.inserting ≡ false
   pub sequence : (f : Flags) (s : Input) → Holds (ReadWhole f level_sequence s) (i.sequence f s)
   pub assignment : (f : Flags) (s : Input) → Holds (ReadWhole f level_assignment s) (i.assignment f s)
-  pub power : (f : Flags) (s : Input) → Holds (ReadIn f level_power s) (i.power f s)
-  pub unary : (f : Flags) (s : Input) → Holds (ReadIn f level_unary s) (i.unary f s)
+  pub power : (f : Flags) (s : Input) → Holds (ReadAmong f level_power s) (i.power f s)
+  pub unary : (f : Flags) (s : Input) → Holds (ReadAmong f level_unary s) (i.unary f s)
   pub callee : (f : Flags) (s : Input) → Holds (CalleeRead f s) (i.callee f s)
-  pub heritage : (f : Flags) (s : Input) → Holds (ReadIn f level_left_hand_side s) (i.heritage f s)
+  pub heritage : (f : Flags) (s : Input) → Holds (ReadAmong f level_left_hand_side s) (i.heritage f s)
   pub block : (f : Flags) (s : Input) → Holds (BlockIn f s) (i.block f s)
   pub property : (f : Flags) (s : Input) → Holds (PropertyIn f s) (i.property f s)
   pub target : (f : Flags) (s : Input) → Holds (TargetIn f s) (i.target f s)

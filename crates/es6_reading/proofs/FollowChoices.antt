@@ -12,7 +12,7 @@ use Rattle.es6_reading.specs.Parts.{on_opening}
 use Rattle.es6_reading.proofs.Posts.{Holds, took, fault, of_took, bind, weaken, Taken, taken, Misses, on-holds, choose-holds, if-holds, take-holds, refused-holds}
 use Rattle.es6_reading.proofs.Derived.{Next, next, on-mark}
 use Rattle.es6_reading.proofs.Meanings.{bytes_eq-refl}
-use Rattle.es6_reading.proofs.Follows.{semi, SameHead, nothing, same, Near, near_end, near_same, near_semi, Never, Dead, Gaps, stop, keep, insert, FollowedBy, Followed, FirmBy, same-followed, same-followed-by, taken-followed, taken-firm, returns-followed, near, bind-followed, bind-firm, stands-less}
+use Rattle.es6_reading.proofs.Follows.{semi, SameHead, nothing, same, Near, near_end, near_same, near_semi, Never, Dead, MayInsert, before_line, not-before-arrow, Gaps, stop, keep, insert, FollowedBy, Followed, FirmBy, same-followed, same-followed-by, taken-followed, taken-firm, returns-followed, near, bind-followed, bind-firm, stands-less}
 
 abbrev pub Runs : {A : Type 0} → (ℕ → Parser A) → Parser A → Input → Type 0
 Runs p' p s = Holds (Followed p' s) (p s)
@@ -141,6 +141,49 @@ pub if-follows : {A : Type 0} (test : Filled → Bool) (semi-fails : (d : Bool) 
 if-follows test sm p p' q q' s stops f g = if-holds test p q s
     (λ h. weaken (f h) (λ y d r. true-firm test p' q' s d y stops h r))
     (λ h. weaken (g h) (λ y d r. same-followed _ _ s d y (λ l us n. if-value test (p' l) (q' l) false us s.last (near-next test false sm n h)) r))
+
+no-arrow-behind : {b : Bool} {ts : List Filled} → MayInsert b [] ts → next_is is_arrow ts ≡ false
+no-arrow-behind (before_line m) = not-before-arrow _ m
+
+-- a reader that does the same where the next token is this `=>`, before which no semicolon goes in
+arrow-followed : {A : Type 0} (p q : ℕ → Parser A) (t : Filled) (ts : List Filled) (last : ℕ) (c : Input) (x : A) → is_arrow t ≡ true → ((l : ℕ) (us : List Filled) → p l (record { tokens = t ∷ us; last = last }) ≡ q l (record { tokens = t ∷ us; last = last }))
+    → Followed q (record { tokens = t ∷ ts; last = last }) x c → Followed p (record { tokens = t ∷ ts; last = last }) x c
+arrow-followed {A = A} p q t ts last c x a h r = build c.tokens r.filled r.ends r.gaps r.run refl
+  where
+    Run : List Filled → List Filled → Type 0
+    Run us filled = (l : ℕ) (rest : List Filled) → Near us rest → q l (record { tokens = filled ++ rest; last = last }) ≡ Took x (record { tokens = rest; last = c.last })
+
+    none : c.last ≡ last → Run (t ∷ ts) [] → t ∷ ts ≡ c.tokens → Followed p (record { tokens = t ∷ ts; last = last }) x c
+    none ends run e = record {
+      filled = [];
+      ends = ends;
+      gaps = subst (λ vs. Gaps (Dead p last) last [] (t ∷ ts) vs []) e stop;
+      run = λ l rest k. let n = subst (λ vs. Near vs rest) (sym e) k in same-run (p l) (q l) t last (h l) {ts = ts} (arrow-next n a) ∙ run l rest n;
+    }
+
+    build : (us : List Filled) (filled : List Filled) → c.last ≡ end_of last filled → Gaps (Dead q last) last [] (t ∷ ts) us filled → Run us filled → us ≡ c.tokens → Followed p (record { tokens = t ∷ ts; last = last }) x c
+    build us [] ends gaps run e = let u = unfilled gaps in none ends (subst (λ vs. Run vs []) (sym u) run) (u ∙ e)
+    build us (u ∷ filled) ends (insert b at is m n g) run e = absurd (false≢true (sym (no-arrow-behind n) ∙ a))
+    build us (u ∷ filled) ends (keep g) run e = record {
+      filled = t ∷ filled;
+      ends = ends;
+      gaps = subst (λ vs. Gaps (Dead p last) last [] (t ∷ ts) vs (t ∷ filled)) e (keep (gaps-headed (Dead q last) (Dead p last) last t (λ before vs m l rest k. subst (λ o. Never o) (sym (h l (before ++ rest))) (m l rest k)) g));
+      run = λ l rest k. h l (filled ++ rest) ∙ run l rest (subst (λ vs. Near vs rest) (sym e) k);
+    }
+
+arrow-taken : {A : Type 0} (p q : ℕ → Parser A) (s c : Input) (x : A) → next_is is_arrow s.tokens ≡ true → Followed p s x c → Followed (λ l. if_next is_arrow (p l) (q l)) s x c
+arrow-taken {A = A} p q s c x h r = at s.tokens s.last h r
+  where
+    at : (ts : List Filled) (last : ℕ) → next_is is_arrow ts ≡ true → Followed p (record { tokens = ts; last = last }) x c → Followed (λ l. if_next is_arrow (p l) (q l)) (record { tokens = ts; last = last }) x c
+    at [] last h r = absurd (false≢true h)
+    at (t ∷ ts) last h r = arrow-followed _ p t ts last c x h (λ l us. if-value is_arrow (p l) (q l) true (t ∷ us) last h) r
+
+-- what is read where an `=>` comes next, and else
+pub before-arrow-follows : {A : Type 0} (p : Parser A) (p' : ℕ → Parser A) (q : Parser A) (q' : ℕ → Parser A) (s : Input)
+    → (next_is is_arrow s.tokens ≡ true → Holds (Followed p' s) (p s)) → (next_is is_arrow s.tokens ≡ false → Holds (Followed q' s) (q s)) → Holds (Followed (λ l. if_next is_arrow (p' l) (q' l)) s) (if_next is_arrow p q s)
+before-arrow-follows p p' q q' s f g = if-holds is_arrow p q s
+    (λ h. weaken (f h) (λ y d r. arrow-taken p' q' s d y h r))
+    (λ h. weaken (g h) (λ y d r. same-followed _ _ s d y (λ l us n. if-value is_arrow (p' l) (q' l) false us s.last (near-next is_arrow false (λ d at. refl) n h)) r))
 
 -- a test that each semicolon passes, and else a reader that begins with none
 pub if-semi-follows : {A : Type 0} (test : Filled → Bool) (semi-passes : (d : Bool) (at : ℕ) → test (semi d at) ≡ true) (p : Parser A) (p' : ℕ → Parser A) (q : Parser A) (q' : ℕ → Parser A) (s : Input) → StopsAtSemi q'

@@ -140,3 +140,6 @@ fitting-follows TooNested r' s h = fault
 
 pub kept-fits : {A : Type 0} {x : A} {o : Refined A} → Kept (Fits x) o → o ≡ Fits x
 kept-fits as_it_was = refl
+
+pub kept-misfit : {A : Type 0} {place : ℕ} {o : Refined A} → Kept (Misfit place) o → o ≡ Misfit place
+kept-misfit as_it_was = refl

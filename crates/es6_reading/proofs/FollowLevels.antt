@@ -19,15 +19,15 @@ use Rattle.es6_ast.specs.declared.tree.Property.{Property}
 use Rattle.es6_ast.specs.declared.tree.Property.TheVariants as property
 use Rattle.es6_ast.specs.Tokens.{Filled, begin_of}
 use Rattle.es6_ast.specs.Grammar.{Flags, with_in, of_function, of_arrow}
-use Rattle.es6_reading.specs.Parser.{Input, Parser, returns, ◌>>=◌, refused, no_number, on, choose, next_is, if_next, mark, word, next_mark, from, made, Reading, is_left, Inner}
+use Rattle.es6_reading.specs.Parser.{Input, Parser, returns, ◌>>=◌, refused, no_number, on, choose, next_is, if_next, mark, word, next_mark, from, made, Reading, is_left, is_covered, Inner}
 use Rattle.es6_reading.specs.Words.{free_name, accessor_at, accessor_name, unary_operators, unary_at, before_at, after_at, assign_operators, assign_at, binary_operators, binary_at, is_arrow, arrow_at}
 use Rattle.es6_reading.specs.Refine.{Refined, Fits, Misfit, TooNested, target_before}
 use Rattle.es6_reading.specs.Parts.{key, accessor, generator_method}
-use Rattle.es6_reading.specs.Expressions.{other, Role, Leading, Among, chain, postfix, prefixed, updated, update, unary, raised, power, operands, operated, binary_from, branches, conditional, parameters_before, arrow_body, arrow_if, assigned_with, after_conditional, star_at, ends_yield, after_yield, without_yield, assignment, parts, more_parts, sequence, value_of_key, method_of_key, after_key, shorthand, after_name, ends_name, after_accessor_word, one_property}
+use Rattle.es6_reading.specs.Expressions.{other, Role, Leading, Among, chain, postfix, prefixed, updated, update, unary, raised, power, operands, operated, binary_from, branches, conditional, parameters_before, arrow_body, before_arrow, arrow_if, assigned_with, after_conditional, star_at, ends_yield, after_yield, without_yield, assignment, parts, more_parts, sequence, value_of_key, method_of_key, after_key, shorthand, after_name, ends_name, after_accessor_word, one_property}
 use Rattle.es6_reading.proofs.Posts.{Holds, took, fault, weaken, on-holds, choose-holds, if-holds, refused-holds}
 use Rattle.es6_reading.proofs.Follows.{plus, semi, SameHead, nothing, same, Near, near, Never, stop, FollowedBy, Followed, FirmBy, bind-follows, same-followed, stands-less}
-use Rattle.es6_reading.proofs.FollowChoices.{Runs, on-missed, near-next, on-follows, mark-follows, choose-follows, StopsAtSemi, stopped, firm-followed, if-value, if-follows, from-firm, made-follows, made-at-follows, returns-follows, spelled-follows, firm-same, firm-followed-by, hit-firm, strictly, then-strict, on-strict, from-strict}
-use Rattle.es6_reading.proofs.FollowEnds.{Follows, fitting-follows, kept-fits}
+use Rattle.es6_reading.proofs.FollowChoices.{Runs, on-missed, near-next, on-follows, mark-follows, choose-follows, StopsAtSemi, stopped, firm-followed, if-value, if-follows, before-arrow-follows, from-follows, from-firm, made-follows, made-at-follows, returns-follows, spelled-follows, firm-same, firm-followed-by, hit-firm, strictly, then-strict, on-strict, from-strict}
+use Rattle.es6_reading.proofs.FollowEnds.{Follows, fitting-follows, kept-fits, kept-misfit}
 use Rattle.es6_reading.proofs.FollowParts.{follow-key, follow-method-after-key, method-after-key-stops, follow-accessor, follow-generator}
 use Rattle.es6_reading.proofs.FollowPrimary.{follow-chain, chain-stops}
 use Rattle.es6_reading.proofs.RefineMore.{Kept, kept-before, kept-parameters-before}
@@ -71,7 +71,7 @@ abbrev pub sequence_from : Inner → Flags → ℕ → Parser Reading
 sequence_from i f at = ◌>>=◌ (assignment i f) (λ x. on (mark marks.Comma) (λ _. more_parts i f at x.value) (returns x))
 
 abbrev pub arrow_from : Inner → Flags → ℕ → Reading → ℕ → Parser Reading
-arrow_from i f at x place = arrow_if i f at (parameters_before i.fuel x.shape x.value)
+arrow_from i f at x place = arrow_if i f at x (parameters_before i.fuel x.shape x.value)
 
 abbrev pub property_from : Inner → Flags → ℕ → Parser Property
 property_from i f at = on (mark marks.Star) (λ _. ◌>>=◌ (generator_method i f at) (λ m. returns (property.Defined m))) (on accessor_at (λ setter. after_accessor_word i f at setter)
@@ -190,19 +190,12 @@ module _ (i : Inner) (i' : ℕ → Inner) (h : Follows i i') where
       (λ e. bind-follows _ _ _ _ s (h.block (of_function false) s) (λ b c. made-follows _ c (λ _ _ _. refl)))
       (λ e. bind-follows _ _ _ _ s (h.assignment (of_arrow f) s) (λ x c. made-follows _ c (λ _ _ _. refl)))
 
-  follow-arrow-if : (f : Flags) (at : ℕ) (r : Refined (List Parameter)) (r' : ℕ → Refined (List Parameter)) → ((l : ℕ) → Kept r (r' l)) → (s : Input) → Runs (λ l. arrow_if (i' l) f at (r' l)) (arrow_if i f at r) s
-  follow-arrow-if f at (Fits es) r' k s = spelled-follows _ (λ l. on arrow_at (λ _. arrow_body (i' l) f at es) refused) s (λ l. ap (λ o. arrow_if (i' l) f at o) (kept-fits (k l)))
+  follow-arrow-if : (f : Flags) (at : ℕ) (x : Reading) (r : Refined (List Parameter)) (r' : ℕ → Refined (List Parameter)) → ((l : ℕ) → Kept r (r' l)) → (s : Input) → Runs (λ l. arrow_if (i' l) f at x (r' l)) (arrow_if i f at x r) s
+  follow-arrow-if f at x (Fits es) r' k s = spelled-follows _ (λ l. on arrow_at (λ _. arrow_body (i' l) f at es) refused) s (λ l. ap (λ o. arrow_if (i' l) f at x o) (kept-fits (k l)))
       (on-follows arrow_at (λ d at. refl) (λ _. arrow_body i f at es) (λ l _. arrow_body (i' l) f at es) refused (λ l. refused) s (λ t c n. follow-arrow-body f at es c) (λ m. refused-holds s))
-  follow-arrow-if f at (Misfit place) r' k s = refused-holds s
-  follow-arrow-if f at TooNested r' k s = fault
-
-  arrow-if-stops : (f : Flags) (at : ℕ) (r : ℕ → Refined (List Parameter)) → StopsAtSemi (λ l. arrow_if (i' l) f at (r l))
-  arrow-if-stops f at r l d place us last = by_case (r l)
-    where
-      by_case : (o : Refined (List Parameter)) → Never (arrow_if (i' l) f at o (record { tokens = semi d place ∷ us; last = last }))
-      by_case (Fits es) = refused-holds _
-      by_case (Misfit place) = refused-holds _
-      by_case TooNested = fault
+  follow-arrow-if f at x (Misfit place) r' k s = spelled-follows _ (λ l. before_arrow x) s (λ l. ap (λ o. arrow_if (i' l) f at x o) (kept-misfit (k l)))
+      (choose-follows (is_covered x.shape) _ _ _ _ s (λ c. refused-holds s) (λ c. returns-follows x s))
+  follow-arrow-if f at x TooNested r' k s = fault
 
   more-parameters : (x : Reading) (l : ℕ) → Kept (parameters_before i.fuel x.shape x.value) (parameters_before (i' l).fuel x.shape x.value)
   more-parameters x l = subst (λ n. Kept (parameters_before i.fuel x.shape x.value) (parameters_before n x.shape x.value)) (sym (h.fuel l)) (kept-parameters-before i.fuel l x.shape x.value)
@@ -217,9 +210,9 @@ module _ (i : Inner) (i' : ℕ → Inner) (h : Follows i i') where
 
   follow-after-conditional : (f : Flags) (at : ℕ) (x : Reading) (s : Input) → Runs (λ l. after_conditional (i' l) f at x) (after_conditional i f at x) s
   unfolding after_conditional
-  follow-after-conditional f at x s = if-follows is_arrow (λ d at. refl) (from (arrow_from i f at x)) (λ l. from (arrow_from (i' l) f at x)) _ _ s (arrow-if-stops f at (λ l. parameters_before (i' l).fuel x.shape x.value))
-      (λ e. from-firm (arrow_from i f at x) (λ l. arrow_from (i' l) f at x) s (λ place. arrow-if-stops f at (λ l. parameters_before (i' l).fuel x.shape x.value))
-      (follow-arrow-if f at (parameters_before i.fuel x.shape x.value) (λ l. parameters_before (i' l).fuel x.shape x.value) (more-parameters x) s))
+  follow-after-conditional f at x s = before-arrow-follows (from (arrow_from i f at x)) (λ l. from (arrow_from (i' l) f at x)) _ _ s
+      (λ e. from-follows (arrow_from i f at x) (λ l. arrow_from (i' l) f at x) s (λ l place place' d at us last. refl)
+      (follow-arrow-if f at x (parameters_before i.fuel x.shape x.value) (λ l. parameters_before (i' l).fuel x.shape x.value) (more-parameters x) s))
       (λ e. choose-follows (is_left x.shape) _ _ _ _ s
       (λ k. on-follows assign_at assign-none _ _ _ _ s (λ op c n. follow-assigned f at x.value op c) (λ m. returns-follows _ s))
       (λ k. returns-follows _ s))

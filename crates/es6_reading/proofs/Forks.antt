@@ -18,7 +18,7 @@ use Rattle.es6_ast.specs.declared.tree.Template.{Template}
 use Rattle.es6_ast.specs.Tokens.{Filled, begin_of}
 use Rattle.es6_ast.specs.Grammar.{Flags, with_in, of_function, of_arrow}
 use Rattle.es6_reading.specs.Parser as p
-use Rattle.es6_reading.specs.Parser.{Input, Stop, Outcome, Took, Fault, Parser, after, on, on_taken, choose, next_is, if_next, from, take_as, mark, refused, no_number, no_expression, ending, Reading, is_left, Stand, Listed, Under, Labelled, Inner, on_group, semicolon, inserts, inserts_anywhere, returns, ◌>>=◌}
+use Rattle.es6_reading.specs.Parser.{Input, Stop, Outcome, Took, Fault, Parser, after, on, on_taken, choose, next_is, if_next, from, take_as, mark, refused, no_number, no_expression, ending, Reading, is_left, is_covered, Stand, Listed, Under, Labelled, Inner, on_group, semicolon, inserts, inserts_anywhere, returns, ◌>>=◌}
 use Rattle.es6_reading.specs.Refine.{Refined, Fits, Misfit, TooNested}
 use Rattle.es6_reading.specs.Parts as t6
 use Rattle.es6_reading.specs.Expressions as e
@@ -494,10 +494,10 @@ module _ (i : Inner) (h : Paired i) where
   unfolding e.arrow_body
   arrow_body f at es s = looks _ _ _ (λ at. refl) s (bind _ (h.block (of_function false) s) λ b c. done) (bind _ (h.assignment (of_arrow f) s) λ x c. done)
 
-  arrow_if : (f : Flags) (at : ℕ) (r : Refined (List Parameter)) (s : Input) → Twin (e.arrow_if i f at r) s
-  arrow_if f at (Fits es) s = next _ _ _ (λ d at. refl) s (λ t c. arrow_body f at es c) (nowhere s)
-  arrow_if f at (Misfit place) s = nowhere s
-  arrow_if f at TooNested s = stopped _
+  arrow_if : (f : Flags) (at : ℕ) (x : Reading) (r : Refined (List Parameter)) (s : Input) → Twin (e.arrow_if i f at x r) s
+  arrow_if f at x (Fits es) s = next _ _ _ (λ d at. refl) s (λ t c. arrow_body f at es c) (nowhere s)
+  arrow_if f at x (Misfit place) s = either (is_covered x.shape) _ _ s (nowhere s) done
+  arrow_if f at x TooNested s = stopped _
 
   assigned_with : (f : Flags) (at : ℕ) (x : Expression) (op : AssignOperator) (s : Input) → Twin (e.assigned_with i f at x op) s
   unfolding e.assigned_with
@@ -505,7 +505,7 @@ module _ (i : Inner) (h : Paired i) where
 
   after_conditional : (f : Flags) (at : ℕ) (x : Reading) (s : Input) → Twin (e.after_conditional i f at x) s
   unfolding e.after_conditional
-  after_conditional f at x s = looks _ _ _ (λ at. refl) s (arrow_if f at _ s) (either (is_left x.shape) _ _ s (next _ _ _ assign-none s (λ op c. assigned_with f at _ op c) done) done)
+  after_conditional f at x s = looks _ _ _ (λ at. refl) s (arrow_if f at x _ s) (either (is_left x.shape) _ _ s (next _ _ _ assign-none s (λ op c. assigned_with f at _ op c) done) done)
 
   after_yield : (f : Flags) (at : ℕ) (s : Input) → Twin (e.after_yield i f at) s
   unfolding e.after_yield

@@ -23,6 +23,7 @@ pub mod Refinement
 pub mod SoundPatterns
 pub mod SoundFunctions
 pub mod SoundPrimary
+pub mod Uncovered
 pub mod SoundChains
 pub mod SoundLevels
 pub mod SoundProperties

@@ -14,7 +14,7 @@ use Rattle.es6_ast.specs.declared.tree.Stretch.{Stretch}
 use Rattle.es6_ast.specs.declared.tree.Template.{Template}
 use Rattle.es6_ast.specs.Grammar.{Flags, with_in, of_function, of_arrow}
 use Rattle.es6_reading.specs.Parser as p
-use Rattle.es6_reading.specs.Parser.{Input, Parser, returns, refused, choose, Reading, is_left, Stand, Listed, Under, Labelled, Inner, semicolon, inserts, inserts_anywhere, is_insertable, next_is}
+use Rattle.es6_reading.specs.Parser.{Input, Parser, returns, refused, choose, Reading, is_left, is_covered, Stand, Listed, Under, Labelled, Inner, semicolon, inserts, inserts_anywhere, is_insertable, next_is}
 use Rattle.es6_reading.specs.Refine.{Refined, Fits, Misfit, TooNested, target_before, parameters_of}
 use Rattle.es6_reading.specs.Parts as t6
 use Rattle.es6_reading.specs.Expressions as e
@@ -381,11 +381,11 @@ module _ {l : ℕ} (i j : Inner) (h : Grown l i j) where
   unfolding e.arrow_body
   arrow_body f at es s = looks _ _ _ _ _ s (bind _ _ (h.block (of_function false) s) λ b c. done) (bind _ _ (h.assignment (of_arrow f) s) λ x c. done)
 
-  arrow_if : (f : Flags) (at : ℕ) {r r' : Refined (List Parameter)} → Deeper l r r' → (s : Input) → Local l (e.arrow_if i f at r) (e.arrow_if j f at r') s
-  arrow_if f at {r = Fits es} as_before s = next _ _ _ _ _ s (λ t c. arrow_body f at es c) (nowhere s)
-  arrow_if f at {r = Misfit place} as_before s = nowhere s
-  arrow_if f at {r = TooNested} as_before s = stops
-  arrow_if f at (nested_less m) s = too_long m
+  arrow_if : (f : Flags) (at : ℕ) (x : Reading) {r r' : Refined (List Parameter)} → Deeper l r r' → (s : Input) → Local l (e.arrow_if i f at x r) (e.arrow_if j f at x r') s
+  arrow_if f at x {r = Fits es} as_before s = next _ _ _ _ _ s (λ t c. arrow_body f at es c) (nowhere s)
+  arrow_if f at x {r = Misfit place} as_before s = either (is_covered x.shape) _ _ _ _ s (nowhere s) done
+  arrow_if f at x {r = TooNested} as_before s = stops
+  arrow_if f at x (nested_less m) s = too_long m
 
   assigned_with : (f : Flags) (at : ℕ) (x : Expression) (op : AssignOperator) (s : Input) → Local l (e.assigned_with i f at x op) (e.assigned_with j f at x op) s
   unfolding e.assigned_with
@@ -393,7 +393,7 @@ module _ {l : ℕ} (i j : Inner) (h : Grown l i j) where
 
   after_conditional : (f : Flags) (at : ℕ) (x : Reading) (s : Input) → Local l (e.after_conditional i f at x) (e.after_conditional j f at x) s
   unfolding e.after_conditional
-  after_conditional f at x s = looks _ _ _ _ _ s (arrow_if f at (deeper (λ n. e.parameters_before n x.shape x.value) (λ k more. kept-parameters-before k more x.shape x.value) h.fuel) s) (either (is_left x.shape) _ _ _ _ s (next _ _ _ _ _ s (λ op c. assigned_with f at _ op c) done) done)
+  after_conditional f at x s = looks _ _ _ _ _ s (arrow_if f at x (deeper (λ n. e.parameters_before n x.shape x.value) (λ k more. kept-parameters-before k more x.shape x.value) h.fuel) s) (either (is_left x.shape) _ _ _ _ s (next _ _ _ _ _ s (λ op c. assigned_with f at _ op c) done) done)
 
   after_yield : (f : Flags) (at : ℕ) (s : Input) → Local l (e.after_yield i f at) (e.after_yield j f at) s
   unfolding e.after_yield

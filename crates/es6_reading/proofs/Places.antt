@@ -19,7 +19,7 @@ use Rattle.es6_ast.specs.declared.tree.Template.{Template}
 use Rattle.es6_ast.specs.Tokens.{Filling, Read, Filled}
 use Rattle.es6_ast.specs.Grammar.{Flags, with_in, of_function, of_arrow}
 use Rattle.es6_reading.specs.Parser as p
-use Rattle.es6_reading.specs.Parser.{Input, Stop, Syntax, Lexical, Outside, Depth, Endless, Outcome, Took, Fault, Parser, fails, after, stop_in, number_stop_in, expression_stop_in, stop_at, on, on_taken, choose, next_is, if_next, take_as, mark, refused, no_number, no_expression, Reading, is_left, Stand, Listed, Under, Labelled, Inner, on_group, semicolon, is_insertable}
+use Rattle.es6_reading.specs.Parser.{Input, Stop, Syntax, Lexical, Outside, Depth, Endless, Outcome, Took, Fault, Parser, fails, after, stop_in, number_stop_in, expression_stop_in, stop_at, on, on_taken, choose, next_is, if_next, take_as, mark, refused, no_number, no_expression, Reading, is_left, is_covered, Stand, Listed, Under, Labelled, Inner, on_group, semicolon, is_insertable}
 use Rattle.es6_reading.specs.Refine.{Refined, Fits, Misfit, TooNested}
 use Rattle.es6_reading.specs.Parts as t6
 use Rattle.es6_reading.specs.Expressions as e
@@ -478,10 +478,10 @@ module _ (i : Inner) (h : Placed i) where
   unfolding e.arrow_body
   arrow_body f at es s = looks _ _ _ s (bind (h.block (of_function false) s) λ b c. done) (bind (h.assignment (of_arrow f) s) λ x c. done)
 
-  arrow_if : (f : Flags) (at : ℕ) (r : Refined (List Parameter)) (s : Input) → Leaves s.tokens (e.arrow_if i f at r s)
-  arrow_if f at (Fits es) s = next _ _ _ s (λ t c. arrow_body f at es c) (nowhere s)
-  arrow_if f at (Misfit place) s = nowhere s
-  arrow_if f at TooNested s = endless
+  arrow_if : (f : Flags) (at : ℕ) (x : Reading) (r : Refined (List Parameter)) (s : Input) → Leaves s.tokens (e.arrow_if i f at x r s)
+  arrow_if f at x (Fits es) s = next _ _ _ s (λ t c. arrow_body f at es c) (nowhere s)
+  arrow_if f at x (Misfit place) s = either (is_covered x.shape) _ _ s (nowhere s) done
+  arrow_if f at x TooNested s = endless
 
   assigned_with : (f : Flags) (at : ℕ) (x : Expression) (op : AssignOperator) (s : Input) → Leaves s.tokens (e.assigned_with i f at x op s)
   unfolding e.assigned_with
@@ -489,7 +489,7 @@ module _ (i : Inner) (h : Placed i) where
 
   after_conditional : (f : Flags) (at : ℕ) (x : Reading) (s : Input) → Leaves s.tokens (e.after_conditional i f at x s)
   unfolding e.after_conditional
-  after_conditional f at x s = looks _ _ _ s (arrow_if f at _ s) (either (is_left x.shape) _ _ s (next _ _ _ s (λ op c. assigned_with f at _ op c) done) done)
+  after_conditional f at x s = looks _ _ _ s (arrow_if f at x _ s) (either (is_left x.shape) _ _ s (next _ _ _ s (λ op c. assigned_with f at _ op c) done) done)
 
   after_yield : (f : Flags) (at : ℕ) (s : Input) → Leaves s.tokens (e.after_yield i f at s)
   unfolding e.after_yield

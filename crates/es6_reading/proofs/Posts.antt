@@ -21,6 +21,15 @@ pub weaken : {A : Type 0} {P Q : A → Input → Type 0} {o : Outcome A} → Hol
 weaken (took h) f = took (f _ _ h)
 weaken fault f = fault
 
+-- nothing is claimed
+pub any : {A : Type 0} (o : Outcome A) → Holds (λ x c. Unit {0}) o
+any (Took x c) = took tt
+any (Fault stop tokens) = fault
+
+pub both : {A : Type 0} {P Q : A → Input → Type 0} {o : Outcome A} → Holds P o → Holds Q o → Holds (λ x c. P x c × Q x c) o
+both (took p) (took q) = took (p, q)
+both fault h = fault
+
 -- ## Tokens that are taken
 
 -- the tokens begin with one that the test knows

@@ -18,7 +18,7 @@ use Rattle.es6_ast.specs.declared.tree.Parameter.{Parameter}
 use Rattle.es6_ast.specs.declared.tree.Pattern.{Pattern}
 use Rattle.es6_ast.specs.Tokens.{begin_of}
 use Rattle.es6_ast.specs.Grammar.{Flags, with_in, of_function, of_arrow, is_before}
-use Rattle.es6_reading.specs.Parser.{Input, Parser, Reading, is_left, Inner}
+use Rattle.es6_reading.specs.Parser.{Input, Parser, Reading, is_left, is_covered, Inner}
 use Rattle.es6_reading.specs.Refine.{Refined, Fits, Misfit, TooNested, target_before}
 use Rattle.es6_reading.specs.Words.{after_at}
 use Rattle.es6_reading.specs.Expressions as e
@@ -101,10 +101,10 @@ module _ (i : Inner) (room : ℕ) (h : Shallow i room) where
   arrow_body f es c a = looks _ _ _ c (bind (h.block (of_function false) c a.sorted) λ b d m. took (finish (and a m.counted) (in-block_arrow _ _ _) (λ at. omega arith), within (span-of_arrow _ _ _)))
       (bind (h.assignment (of_arrow f) c a.sorted) λ x d m. took (finish (and a m.counted) (in-value_arrow _ _ _) (λ at. omega arith), within (span-of_arrow _ _ _)))
 
-  arrow_if : {s : Input} {D : ℕ → ℕ} (f : Flags) (es : Refined (List Parameter)) (c : Input) → At room s 0 0 c D → Below (sum_of in_parameter) es D → Holds (ExpressionAt room s) (e.arrow_if i f (begin_of s.tokens) es c)
-  arrow_if f (Fits es) c a l = next arrow _ a (λ t d k b. arrow_body f es d (less b l)) (refused-holds c)
-  arrow_if f (Misfit place) c a l = refused-holds c
-  arrow_if f TooNested c a l = fault
+  arrow_if : {s : Input} (f : Flags) (x : Reading) (es : Refined (List Parameter)) (c : Input) → ExpressionAt room s x c → Below (sum_of in_parameter) es (in_expression x.value) → Holds (ExpressionAt room s) (e.arrow_if i f (begin_of s.tokens) x es c)
+  arrow_if f x (Fits es) c a l = next arrow _ a.0 (λ t d k b. arrow_body f es d (less b l)) (refused-holds c)
+  arrow_if f x (Misfit place) c a l = either (is_covered x.shape) _ _ c (refused-holds c) (took a)
+  arrow_if f x TooNested c a l = fault
 
   pub fitting : {s : Input} {g : ℕ} {D : ℕ → ℕ} (p : Refined Pattern) (c : Input) → At room s 0 g c D → Below in_pattern p D → Holds (λ x d. At room s 0 g d (in_pattern x)) (e.fitting p c)
   fitting (Fits p) c a l = took (less a l)
@@ -117,7 +117,7 @@ module _ (i : Inner) (room : ℕ) (h : Shallow i room) where
 
   after_conditional : {s : Input} (f : Flags) (x : Reading) (c : Input) → ExpressionAt room s x c → Holds (ExpressionAt room s) (e.after_conditional i f (begin_of s.tokens) x c)
   unfolding e.after_conditional
-  after_conditional f x c a = looks _ _ _ c (arrow_if f (e.parameters_before i.fuel x.shape x.value) c a.0 (parameters-before i.fuel x.shape x.value)) (either (is_left x.shape) _ _ c (next assign-operator _ a.0 (λ op d k b. assigned_with f _ op d b) (took a)) (took a))
+  after_conditional f x c a = looks _ _ _ c (arrow_if f x (e.parameters_before i.fuel x.shape x.value) c a (parameters-before i.fuel x.shape x.value)) (either (is_left x.shape) _ _ c (next assign-operator _ a.0 (λ op d k b. assigned_with f _ op d b) (took a)) (took a))
 
   after_yield : {s : Input} {D : ℕ → ℕ} (f : Flags) (c : Input) → At room s 0 0 c D → Holds (ExpressionAt room s) (e.after_yield i f (begin_of s.tokens) c)
   unfolding e.after_yield

@@ -1,5 +1,5 @@
 -- What the readers of accesses, calls and `new` give is derived, if the readers for one construct deeper are sound.
-use Rattle.std.proofs.Common.{◌≡◌, ℕ, zero, suc, ◌≤◌, Bool, true, false, List, [], ◌∷◌, Some, refl, sym, ap, ◌∙◌, subst, arith}
+use Rattle.std.proofs.Common.{◌≡◌, ℕ, zero, suc, ◌≤◌, Bool, true, false, ◌&&◌, List, [], ◌∷◌, Some, refl, sym, ap, ◌∙◌, subst, arith}
 use Rattle.std.proofs.lemmas.Bool.{false≢true, true≢false}
 use Rattle.std.specs.Prelude.{codes}
 use Rattle.es6_lexer.specs.declared.token.TokenKind.TheVariants as kinds
@@ -15,34 +15,35 @@ use Rattle.es6_ast.specs.declared.tree.Template.{Template}
 use Rattle.es6_ast.specs.Tokens.{Read, Filled, IsWord, IsMark, begin_of}
 use Rattle.es6_ast.specs.Grammar as g
 use Rattle.es6_ast.specs.Grammar.{Flags, with_in, level_sequence, level_left_hand_side, level_call, level_member, level_primary, chain_level, IsName, IsExpression, IsNode, IsSuperCall, IsNewCallee, IsTemplate, AreLinks, AreArrowParameters}
-use Rattle.es6_reading.specs.Parser.{Input, Parser, next_is, next_mark, Reading, Inner}
+use Rattle.es6_reading.specs.Parser.{Input, Parser, next_is, next_mark, is_covered, Reading, Inner}
 use Rattle.es6_reading.specs.Words.{is_arrow, is_template_head}
 use Rattle.es6_reading.specs.Refine.{Fits}
-use Rattle.es6_reading.specs.Expressions.{left, Role, Callee, has_calls, after_callee, after_new, super_call, after_super, head, member_link, index_link, call_link, on_link, links, chained, chain, parameters_before}
+use Rattle.es6_reading.specs.Expressions.{left, Role, Heritage, Callee, has_calls, after_callee, after_new, super_call, after_super, head, member_link, index_link, call_link, on_link, links, chained, chain, parameters_before}
 use Rattle.es6_reading.specs.Statements.{label_of}
-use Rattle.es6_reading.proofs.Posts.{Holds, took, fault, bind, weaken, choose-holds, refused-holds}
+use Rattle.es6_reading.proofs.Posts.{Holds, took, fault, both, bind, weaken, choose-holds, refused-holds}
 use Rattle.es6_reading.proofs.Meanings.{mark-is, is-mark-true}
 use Rattle.es6_reading.proofs.Spans.{Moves, Goes, stays, goes, goes-on, then-goes, ◌⟫◌, span-across}
-use Rattle.es6_reading.proofs.Derived.{NotArrow, ReadIn, ReadWhole, Stopped, CalleeRead, Sound, Next, next, one, not-arrow, on-mark, take-mark, on-word, take-word, group-holds}
+use Rattle.es6_reading.proofs.Derived.{Uncovered, by-token, by-shape, by-left, ReadIn, ReadAmong, among, ReadWhole, Stopped, CalleeRead, Sound, Next, next, one, not-arrow, on-mark, take-mark, on-word, take-word, group-holds}
 use Rattle.es6_reading.proofs.SoundPatterns.{AnyNameIn, sound-any-name}
 use Rattle.es6_reading.proofs.SoundFunctions.{TemplateIn, template-holds}
 use Rattle.es6_reading.proofs.SoundPrimary.{lower, ArgumentsIn, sound-arguments, sound-primary}
+use Rattle.es6_reading.proofs.Uncovered.{uncovered, plain-chain}
 
 -- ## Heads
 
 -- what accesses and calls begin with: a primary expression, `new` without arguments, or a call of `super` where calls may stand
-data HeadIn (f : Flags) (calls : Bool) (s : Input) (x : Expression) (c : Input) : Type 0 where
-  primary_head : (NotArrow c → IsExpression f level_primary s.tokens x c.tokens) → HeadIn f calls s x c
-  new_head : (NotArrow c → IsNode f level_left_hand_side s.tokens x c.tokens) → Stopped true c.tokens → HeadIn f calls s x c
-  super_head : calls ≡ true → IsSuperCall f s.tokens x c.tokens → HeadIn f calls s x c
+data HeadIn (f : Flags) (calls : Bool) (s : Input) (x : Reading) (c : Input) : Type 0 where
+  primary_head : (Uncovered x.shape c → IsExpression f level_primary s.tokens x.value c.tokens) → HeadIn f calls s x c
+  new_head : IsNode f level_left_hand_side s.tokens x.value c.tokens → Stopped true c.tokens → HeadIn f calls s x c
+  super_head : calls ≡ true → IsSuperCall f s.tokens x.value c.tokens → HeadIn f calls s x c
 
 record HeadRead (f : Flags) (calls : Bool) (s : Input) (x : Reading) (c : Input) : Type 0 where
   moves : Moves s c
-  derived : HeadIn f calls s x.value c
+  derived : HeadIn f calls s x c
   named : (label : Identifier) → label_of x.shape x.value ≡ Some label → IsName s.tokens label c.tokens
   parameters : (n : ℕ) (es : List Parameter) → parameters_before n x.shape x.value ≡ Fits es → AreArrowParameters f s.tokens es c.tokens
 
-head-left : (f : Flags) (calls : Bool) {s c : Input} {x : Expression} → Moves s c → HeadIn f calls s x c → HeadRead f calls s (left x) c
+head-left : (f : Flags) (calls : Bool) {s c : Input} {x : Expression} → Moves s c → HeadIn f calls s (left x) c → HeadRead f calls s (left x) c
 head-left f calls m d = record { moves = m; derived = d; named = λ label e. absurd (cc); parameters = λ n es e. absurd (cc) }
 
 primary-left : (f : Flags) (calls : Bool) {s c : Input} {x : Expression} → Moves s c → IsNode f level_primary s.tokens x c.tokens → HeadRead f calls s (left x) c
@@ -57,7 +58,7 @@ new-call-rule f calls x {xs = xs} (next w) e (next {t = u} p) (m, ds) =
 new-bare-rule : (f : Flags) (calls : Bool) {s a b : Input} (x : Reading) → Next (IsWord (codes "new")) s a → CalleeRead f a x b → next_is (next_mark marks.LeftParenthesis) b.tokens ≡ false
     → HeadRead f calls s (left (expr.New (record { begin = begin_of s.tokens; end = b.last }) x.value [])) b
 new-bare-rule f calls x (next w) e m = head-left f calls (one ⟫ e.moves)
-    (new_head (λ h. g.new_bare x.value _ w (e.callee h) (ap (λ span. expr.New span x.value []) (span-across (one {last = 0} ⟫ e.moves)))) (e.stopped.0, e.stopped.1, e.stopped.2, λ h. m))
+    (new_head (g.new_bare x.value _ w e.callee (ap (λ span. expr.New span x.value []) (span-across (one {last = 0} ⟫ e.moves)))) (e.stopped.0, e.stopped.1, e.stopped.2, λ h. m))
 
 target-rule : (f : Flags) (calls : Bool) {s a b c : Input} → Next (IsWord (codes "new")) s a → Next (IsMark marks.Dot) a b → Next (IsWord (codes "target")) b c → HeadRead f calls s (left (expr.NewTarget (record { begin = begin_of s.tokens; end = c.last }))) c
 target-rule f calls (next {t = t} w) (next {t = u} p) (next {t = v} {ts = ts} q) = primary-left f calls (one ⟫ one ⟫ one) (g.new_target _ w p q (ap (λ span. expr.NewTarget span) (span-across (one {t = t} {last = 0} ⟫ one {t = u} ⟫ one {t = v} {ts = ts}))))
@@ -191,13 +192,13 @@ sound-links i sound f calls (suc turns) s = sound-on-link i sound f calls _ _ s
 -- ## Chains
 
 -- a left-hand-side expression: a chain or its head, or `new` without arguments
-data ChainIn (f : Flags) (calls : Bool) (s : Input) (x : Expression) (c : Input) : Type 0 where
-  whole_chain : (NotArrow c → IsExpression f (chain_level calls) s.tokens x c.tokens) → ChainIn f calls s x c
-  bare_new : (NotArrow c → IsNode f level_left_hand_side s.tokens x c.tokens) → Stopped true c.tokens → ChainIn f calls s x c
+data ChainIn (f : Flags) (calls : Bool) (s : Input) (x : Reading) (c : Input) : Type 0 where
+  whole_chain : (Uncovered x.shape c → IsExpression f (chain_level calls) s.tokens x.value c.tokens) → ChainIn f calls s x c
+  bare_new : IsNode f level_left_hand_side s.tokens x.value c.tokens → Stopped true c.tokens → ChainIn f calls s x c
 
 record ChainRead (f : Flags) (calls : Bool) (s : Input) (x : Reading) (c : Input) : Type 0 where
   moves : Moves s c
-  derived : ChainIn f calls s x.value c
+  derived : ChainIn f calls s x c
   named : (label : Identifier) → label_of x.shape x.value ≡ Some label → IsName s.tokens label c.tokens
   parameters : (n : ℕ) (es : List Parameter) → parameters_before n x.shape x.value ≡ Fits es → AreArrowParameters f s.tokens es c.tokens
   stopped : Stopped calls c.tokens
@@ -238,16 +239,16 @@ super-level true h = omega arith
 super-level false h = absurd (false≢true h)
 
 -- a head that nothing follows
-head-alone : (f : Flags) (calls : Bool) {s c : Input} {x : Expression} → HeadIn f calls s x c → ChainIn f calls s x c
+head-alone : (f : Flags) (calls : Bool) {s c : Input} {x : Reading} → HeadIn f calls s x c → ChainIn f calls s x c
 head-alone f calls (primary_head d) = whole_chain (λ h. lower f (chain_level calls) level_primary (primary-level calls) (d h))
 head-alone f calls (new_head d h) = bare_new d h
-head-alone f calls {x = x} (super_head may d) = whole_chain (λ h. g.at_level level_call x (super-level calls may) (g.super_call_alone x d))
+head-alone f calls {x = x} (super_head may d) = whole_chain (λ h. g.at_level level_call x.value (super-level calls may) (g.super_call_alone x.value d))
 
 -- a head that goes to the same tokens
-head-to : (f : Flags) (calls : Bool) {s : Input} (b c : Input) {x : Expression} → b.tokens ≡ c.tokens → HeadIn f calls s x b → HeadIn f calls s x c
-head-to f calls {s = s} b c {x = x} e (primary_head d) = primary_head (subst (λ ts. next_is is_arrow ts ≡ false → IsExpression f level_primary s.tokens x ts) e d)
-head-to f calls {s = s} b c {x = x} e (new_head d h) = new_head (subst (λ ts. next_is is_arrow ts ≡ false → IsNode f level_left_hand_side s.tokens x ts) e d) (subst (λ ts. Stopped true ts) e h)
-head-to f calls {s = s} b c {x = x} e (super_head may d) = super_head may (subst (λ ts. IsSuperCall f s.tokens x ts) e d)
+head-to : (f : Flags) (calls : Bool) {s : Input} (b c : Input) {x : Reading} → b.tokens ≡ c.tokens → HeadIn f calls s x b → HeadIn f calls s x c
+head-to f calls {s = s} b c {x = x} e (primary_head d) = primary_head (subst (λ ts. (is_covered x.shape && next_is is_arrow ts) ≡ false → IsExpression f level_primary s.tokens x.value ts) e d)
+head-to f calls {s = s} b c {x = x} e (new_head d h) = new_head (subst (λ ts. IsNode f level_left_hand_side s.tokens x.value ts) e d) (subst (λ ts. Stopped true ts) e h)
+head-to f calls {s = s} b c {x = x} e (super_head may d) = super_head may (subst (λ ts. IsSuperCall f s.tokens x.value ts) e d)
 
 head-only : (f : Flags) (calls : Bool) {s b c : Input} (x : Reading) → HeadRead f calls s x b → LinksIn f calls b [] c → ChainRead f calls s x c
 head-only f calls {s = s} {b = b} {c = c} x h r =
@@ -269,16 +270,16 @@ level-fits false false h = omega arith
 chain-left : (f : Flags) (calls : Bool) {s c : Input} {x : Expression} → Moves s c → Stopped calls c.tokens → IsExpression f (chain_level calls) s.tokens x c.tokens → ChainRead f calls s (left x) c
 chain-left f calls m h d = record { moves = m; derived = whole_chain (λ k. d); named = λ label e. absurd (cc); parameters = λ n es e. absurd (cc); stopped = h }
 
-chain-of : (f : Flags) (calls : Bool) {s b c : Input} (x : Expression) (l : Link) (ls : List Link) → Moves s b → HeadIn f calls s x b → LinksIn f calls b (l ∷ ls) c → ChainRead f calls s (left (expr.Chain (record { begin = begin_of s.tokens; end = c.last }) x (l ∷ ls))) c
+chain-of : (f : Flags) (calls : Bool) {s b c : Input} (x : Reading) (l : Link) (ls : List Link) → Moves s b → HeadIn f calls s x b → LinksIn f calls b (l ∷ ls) c → ChainRead f calls s (left (expr.Chain (record { begin = begin_of s.tokens; end = c.last }) x.value (l ∷ ls))) c
 chain-of f calls x l ls m (primary_head d) r = chain-left f calls (then-goes m r.goes_) r.stopped
-    (g.at_level (chain_level r.has_call) _ (level-fits calls r.has_call r.allowed) (g.chain x l ls _ (d (links-no-arrow r.derived)) r.derived (ap (λ span. expr.Chain span x (l ∷ ls)) (span-across (then-goes m r.goes_)))))
+    (g.at_level (chain_level r.has_call) _ (level-fits calls r.has_call r.allowed) (g.chain x.value l ls _ (d (by-token x.shape (links-no-arrow r.derived))) r.derived (ap (λ span. expr.Chain span x.value (l ∷ ls)) (span-across (then-goes m r.goes_)))))
 chain-of f calls x l ls m (new_head d h) r = absurd (links-begin r.derived h)
 chain-of f calls x l ls m (super_head may d) r = chain-left f calls (then-goes m r.goes_) r.stopped
-    (g.at_level level_call _ (super-level calls may) (g.super_chain x l ls _ d r.derived (ap (λ span. expr.Chain span x (l ∷ ls)) (span-across (then-goes m r.goes_)))))
+    (g.at_level level_call _ (super-level calls may) (g.super_chain x.value l ls _ d r.derived (ap (λ span. expr.Chain span x.value (l ∷ ls)) (span-across (then-goes m r.goes_)))))
 
 chain-rule : (f : Flags) (calls : Bool) {s b c : Input} (x : Reading) (ls : List Link) → HeadRead f calls s x b → LinksIn f calls b ls c → ChainRead f calls s (chained x ls (record { begin = begin_of s.tokens; end = c.last })) c
 chain-rule f calls x [] h r = head-only f calls x h r
-chain-rule f calls x (l ∷ ls) h r = chain-of f calls x.value l ls h.moves h.derived r
+chain-rule f calls x (l ∷ ls) h r = chain-of f calls x l ls h.moves h.derived r
 
 sound-any-chain : (i : Inner) (sound : Sound i) (f : Flags) (role : Role) (s : Input) → Holds (ChainRead f (has_calls role) s) (chain i f role s)
 unfolding chain
@@ -290,30 +291,34 @@ chain-level-left : (calls : Bool) → level_left_hand_side ≤ chain_level calls
 chain-level-left true = omega arith
 chain-level-left false = omega arith
 
-chain-expression : (f : Flags) (calls : Bool) {s c : Input} {x : Expression} → ChainIn f calls s x c → NotArrow c → IsExpression f level_left_hand_side s.tokens x c.tokens
+chain-expression : (f : Flags) (calls : Bool) {s c : Input} {x : Reading} → ChainIn f calls s x c → Uncovered x.shape c → IsExpression f level_left_hand_side s.tokens x.value c.tokens
 chain-expression f calls (whole_chain d) h = lower f level_left_hand_side (chain_level calls) (chain-level-left calls) (d h)
-chain-expression f calls (bare_new d k) h = g.at_level level_left_hand_side _ (omega arith) (d h)
+chain-expression f calls (bare_new d k) h = g.at_level level_left_hand_side _ (omega arith) d
 
 chain-read : (f : Flags) (calls : Bool) {s c : Input} {x : Reading} → ChainRead f calls s x c → ReadIn f level_left_hand_side s x c
-chain-read f calls r = record { moves = r.moves; derived = chain-expression f calls r.derived; left_side = λ e. chain-expression f calls r.derived; named = r.named; parameters = r.parameters }
+chain-read f calls {x = x} r = record { moves = r.moves; derived = chain-expression f calls r.derived; left_side = λ e. chain-expression f calls r.derived (by-left x.shape _ e); named = r.named; parameters = r.parameters }
 
 pub sound-chain : (i : Inner) (sound : Sound i) (f : Flags) (role : Role) (s : Input) → Holds (ReadIn f level_left_hand_side s) (chain i f role s)
 sound-chain i sound f role s = weaken (sound-any-chain i sound f role s) (λ x c r. chain-read f (has_calls role) r)
 
-new-callee : (f : Flags) {s c : Input} {x : Expression} → ChainIn f false s x c → NotArrow c → IsNewCallee f s.tokens x c.tokens
-new-callee f (whole_chain d) h = g.member_callee _ (d h)
-new-callee f (bare_new d k) h = g.another_new _ (d h)
+-- a class's heritage
+pub sound-heritage-chain : (i : Inner) (sound : Sound i) (f : Flags) (s : Input) → Holds (ReadAmong f level_left_hand_side s) (chain i f Heritage s)
+sound-heritage-chain i sound f s = weaken (both (sound-chain i sound f Heritage s) (plain-chain i sound f Heritage refl s)) (λ x c r. among r.0 (uncovered r.1))
+
+new-callee : (f : Flags) {s c : Input} {x : Reading} → ChainIn f false s x c → is_covered x.shape ≡ false → IsNewCallee f s.tokens x.value c.tokens
+new-callee f {x = x} (whole_chain d) h = g.member_callee _ (d (by-shape x.shape _ h))
+new-callee f (bare_new d k) h = g.another_new _ d
 
 paren-no-arrow : (ts : List Filled) → next_is (next_mark marks.LeftParenthesis) ts ≡ true → next_is is_arrow ts ≡ false
 paren-no-arrow [] h = refl
 paren-no-arrow (t ∷ ts) h = not-arrow (kinds.Punctuator marks.LeftParenthesis) t (mark-is marks.LeftParenthesis t.kind h) refl
 
-member-callee : (f : Flags) {s c : Input} {x : Expression} → ChainIn f false s x c → next_is (next_mark marks.LeftParenthesis) c.tokens ≡ true → IsExpression f level_member s.tokens x c.tokens
-member-callee f {c = c} (whole_chain d) h = d (paren-no-arrow c.tokens h)
+member-callee : (f : Flags) {s c : Input} {x : Reading} → ChainIn f false s x c → next_is (next_mark marks.LeftParenthesis) c.tokens ≡ true → IsExpression f level_member s.tokens x.value c.tokens
+member-callee f {c = c} {x = x} (whole_chain d) h = d (by-token x.shape (paren-no-arrow c.tokens h))
 member-callee f (bare_new d k) h = absurd (false≢true (sym (k.3 refl) ∙ h))
 
-callee-read : (f : Flags) {s c : Input} {x : Reading} → ChainRead f false s x c → CalleeRead f s x c
-callee-read f r = record { moves = r.moves; callee = new-callee f r.derived; member = member-callee f r.derived; stopped = r.stopped }
+callee-read : (f : Flags) {s c : Input} {x : Reading} → ChainRead f false s x c → is_covered x.shape ≡ false → CalleeRead f s x c
+callee-read f r h = record { moves = r.moves; callee = new-callee f r.derived h; member = member-callee f r.derived; stopped = r.stopped }
 
 pub sound-callee : (i : Inner) (sound : Sound i) (f : Flags) (s : Input) → Holds (CalleeRead f s) (chain i f Callee s)
-sound-callee i sound f s = weaken (sound-any-chain i sound f Callee s) (λ x c r. callee-read f r)
+sound-callee i sound f s = weaken (both (sound-any-chain i sound f Callee s) (plain-chain i sound f Callee refl s)) (λ x c r. callee-read f r.0 (uncovered r.1))

@@ -31,7 +31,7 @@ use Rattle.es6_reading.specs.Parts.{statements, block, function_body, signature,
 use Rattle.es6_reading.proofs.Posts.{Holds, took, fault, bind, weaken, Misses, choose-holds, if-holds, refused-holds}
 use Rattle.es6_reading.proofs.Meanings.{accessor-means, IsStretch, stretch-means}
 use Rattle.es6_reading.proofs.Spans.{Moves, Goes, stays, goes, then-goes, ◌⟫◌, span-across}
-use Rattle.es6_reading.proofs.Derived.{ReadIn, ReadWhole, NameIn, BlockIn, PartIn, MemberIn, StatementIn, Sound, Next, next, on-means, take-means, one, not-arrow, on-mark, take-mark, on-word, group-holds}
+use Rattle.es6_reading.proofs.Derived.{ReadAmong, ReadWhole, NameIn, BlockIn, PartIn, MemberIn, StatementIn, Sound, Next, next, on-means, take-means, one, on-mark, take-mark, on-word, group-holds}
 use Rattle.es6_reading.proofs.SoundPatterns.{sound-identifier, KeyIn, key-rule, sound-key, sound-parameters}
 
 -- ## Statements in braces
@@ -241,7 +241,7 @@ sound-members i sound f (suc turns) s = on-mark _ _ _ s (λ t c h. took (members
 
 data HeritageIn (f : Flags) : Input → Option Expression → Input → Type 0 where
   no_heritage : {s : Input} → HeritageIn f s None s
-  extends : {s a c : Input} (x : Reading) → Next (IsWord (codes "extends")) s a → ReadIn f level_left_hand_side a x c → HeritageIn f s (Some x.value) c
+  extends : {s a c : Input} (x : Reading) → Next (IsWord (codes "extends")) s a → ReadAmong f level_left_hand_side a x c → HeritageIn f s (Some x.value) c
 
 sound-heritage : (i : Inner) (sound : Sound i) (f : Flags) (s : Input) → Holds (HeritageIn f s) (heritage i f s)
 unfolding heritage
@@ -255,7 +255,7 @@ TailIn f s h ms c = Moves s c × IsClassTail f s.tokens h ms c.tokens
 
 tail-rule : (f : Flags) {s a c : Input} {h : Option Expression} {ms : List ClassMember} → HeritageIn f s h a → MembersGroup f a ms c → TailIn f s h ms c
 tail-rule f no_heritage (members_group (next p) (m, d)) = (one ⟫ m, g.base_class _ p d)
-tail-rule f (extends x (next w) r) (members_group (next {t = t} p) (m, d)) = (one ⟫ r.moves ⟫ one ⟫ m, g.derived_class x.value _ w (r.derived (not-arrow (kinds.Punctuator marks.LeftBrace) t p refl)) p d)
+tail-rule f (extends x (next w) r) (members_group (next p) (m, d)) = (one ⟫ r.moves ⟫ one ⟫ m, g.derived_class x.value _ w r.derived p d)
 
 abbrev pub ClassIn : Flags → Bool → Input → Class → Input → Type 0
 ClassIn f lacks s x c = Moves s c × IsClass f lacks s.tokens x c.tokens

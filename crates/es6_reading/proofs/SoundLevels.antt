@@ -20,16 +20,17 @@ use Rattle.es6_ast.specs.declared.tree.Pattern.{Pattern}
 use Rattle.es6_ast.specs.Tokens.{Filling, Read, Filled, IsWord, IsMark, IsOnLine, is_left_brace, across, begin_of}
 use Rattle.es6_ast.specs.Grammar as g
 use Rattle.es6_ast.specs.Grammar.{Flags, with_in, of_function, of_arrow, level_sequence, level_assignment, level_conditional, level_power, level_unary, level_update, level_left_hand_side, unary_kind, update_kind, binary_kind, assign_kind, is_before, NotBrace, IsName, IsExpression, IsNode, AreOperands, AreMore, AreArrowParameters, IsArrowBody, IsAssigned, IsKey}
-use Rattle.es6_reading.specs.Parser.{Input, Parser, next_is, is_mark, mark, next_mark, is_left, after, refused, Reading, Inner}
-use Rattle.es6_reading.specs.Words.{unary_at, before_at, after_at, assign_at, binary_at, arrow_at}
+use Rattle.es6_reading.specs.Parser.{Input, Parser, next_is, is_mark, mark, next_mark, is_left, is_covered, after, refused, Reading, Inner}
+use Rattle.es6_reading.specs.Words.{unary_at, before_at, after_at, assign_at, binary_at, is_arrow, arrow_at}
 use Rattle.es6_reading.specs.Refine.{Refined, Fits, Misfit, TooNested, target_before}
 use Rattle.es6_reading.specs.Expressions.{other, Role, Leading, Among, postfix, prefixed, updated, update, unary, raised, power, operands, operated, binary_from, branches, conditional, parameters_before, arrow_body, arrow_if, fitting, assigned_with, after_conditional, star_at, ends_value, ends_yield, after_yield, without_yield, assignment, parts, more_parts, sequence}
-use Rattle.es6_reading.proofs.Posts.{Holds, took, fault, bind, weaken, choose-holds, if-holds, refused-holds}
+use Rattle.es6_reading.proofs.Posts.{Holds, took, fault, both, bind, weaken, choose-holds, if-holds, refused-holds}
 use Rattle.es6_reading.proofs.Meanings.{unary-means, before-means, after-means, assign-means, IsOperator, binary-means, IsArrow, arrow-means, mark-means, or_false, not_true}
 use Rattle.es6_reading.proofs.Spans.{Moves, ◌⟫◌, span-across}
-use Rattle.es6_reading.proofs.Derived.{NotArrow, ReadIn, ReadWhole, Sound, Next, next, on-means, one, not-arrow, IsKind, on-mark, take-mark, on-word}
+use Rattle.es6_reading.proofs.Derived.{Uncovered, by-token, by-shape, ReadIn, ReadAmong, among, ReadWhole, Sound, Next, next, on-means, one, not-arrow, IsKind, on-mark, take-mark, on-word}
 use Rattle.es6_reading.proofs.Refinement.{refinement}
 use Rattle.es6_reading.proofs.SoundPrimary.{lower, refined-so}
+use Rattle.es6_reading.proofs.Uncovered.{uncovered, plain-unary, plain-power, plain-binary}
 use Rattle.es6_reading.proofs.SoundChains.{sound-chain}
 
 -- ## What is read, at other levels
@@ -38,10 +39,10 @@ pub lower-read : (f : Flags) (a b : ℕ) {s c : Input} {x : Reading} → a ≤ b
 lower-read f a b h r = record { moves = r.moves; derived = λ k. lower f a b h (r.derived k); left_side = r.left_side; named = r.named; parameters = r.parameters }
 
 -- an expression that is no left-hand side
-other-read : (f : Flags) (least level : ℕ) {s c : Input} {x : Expression} → least ≤ level → Moves s c → (NotArrow c → IsNode f level s.tokens x c.tokens) → ReadIn f least s (other x) c
+other-read : (f : Flags) (least level : ℕ) {s c : Input} {x : Expression} → least ≤ level → Moves s c → IsNode f level s.tokens x c.tokens → ReadIn f least s (other x) c
 other-read f least level h m d = record {
   moves = m;
-  derived = λ k. g.at_level level _ h (d k);
+  derived = λ k. g.at_level level _ h d;
   left_side = λ e. absurd (cc);
   named = λ label e. absurd (cc);
   parameters = λ n es e. absurd (cc);
@@ -93,7 +94,7 @@ IsAfter op t = IsKind (update_kind op) t × (is_before op ≡ false) × (t.newli
 
 postfix-rule : (f : Flags) (op : UpdateOperator) {s a c : Input} (x : Reading) → ReadIn f level_left_hand_side s x a → Next (IsAfter op) a c → ReadIn f level_update s (other (expr.Update (record { begin = begin_of s.tokens; end = c.last }) op x.value)) c
 postfix-rule f op x r (next {t = t} e) = other-read f level_update level_update (omega arith) (r.moves ⟫ one)
-    (λ h. g.update_after op x.value _ e.1 (r.derived (not-arrow (update_kind op) t e.0 (update-no-arrow op))) e.0 e.2 (ap (λ span. expr.Update span op x.value) (span-across (r.moves ⟫ one))))
+    (g.update_after op x.value _ e.1 (r.derived (by-token x.shape (not-arrow (update_kind op) t e.0 (update-no-arrow op)))) e.0 e.2 (ap (λ span. expr.Update span op x.value) (span-across (r.moves ⟫ one))))
 
 sound-postfix : (i : Inner) (sound : Sound i) (f : Flags) (role : Role) (s : Input) → Holds (ReadIn f level_update s) (postfix i f role s)
 unfolding postfix
@@ -104,8 +105,8 @@ sound-postfix i sound f role s = bind (sound-chain i sound f role s) λ x a r. o
     lower-read-up : (f : Flags) {s c : Input} {x : Reading} → ReadIn f level_left_hand_side s x c → ReadIn f level_update s x c
     lower-read-up f r = lower-read f level_update level_left_hand_side (omega arith) r
 
-prefixed-rule : (f : Flags) (op : UnaryOperator) {s a c : Input} (x : Reading) → Next (IsKind (unary_kind op)) s a → ReadIn f level_unary a x c → ReadIn f level_unary s (other (expr.Unary (record { begin = begin_of s.tokens; end = c.last }) op x.value)) c
-prefixed-rule f op x (next {t = t} e) r = other-read f level_unary level_unary (omega arith) (one ⟫ r.moves) (λ h. g.unary op x.value _ e (r.derived h) (ap (λ span. expr.Unary span op x.value) (span-across (one {t = t} {last = 0} ⟫ r.moves))))
+prefixed-rule : (f : Flags) (op : UnaryOperator) {s a c : Input} (x : Reading) → Next (IsKind (unary_kind op)) s a → ReadAmong f level_unary a x c → ReadIn f level_unary s (other (expr.Unary (record { begin = begin_of s.tokens; end = c.last }) op x.value)) c
+prefixed-rule f op x (next {t = t} e) r = other-read f level_unary level_unary (omega arith) (one ⟫ r.moves) (g.unary op x.value _ e r.derived (ap (λ span. expr.Unary span op x.value) (span-across (one {t = t} {last = 0} ⟫ r.moves))))
 
 sound-prefixed : (i : Inner) (sound : Sound i) (f : Flags) (op : UnaryOperator) (s a : Input) → Next (IsKind (unary_kind op)) s a → Holds (ReadIn f level_unary s) (prefixed i f (begin_of s.tokens) op a)
 unfolding prefixed
@@ -114,46 +115,52 @@ sound-prefixed i sound f op s a h = bind (sound.unary f a) λ x c r. took (prefi
 abbrev IsBefore : UpdateOperator → Filled → Type 0
 IsBefore op t = IsKind (update_kind op) t × (is_before op ≡ true)
 
-updated-rule : (f : Flags) (op : UpdateOperator) {s a c : Input} (x : Reading) → Next (IsBefore op) s a → ReadIn f level_unary a x c → ReadIn f level_update s (other (expr.Update (record { begin = begin_of s.tokens; end = c.last }) op x.value)) c
-updated-rule f op x (next {t = t} e) r = other-read f level_update level_update (omega arith) (one ⟫ r.moves) (λ h. g.update_before op x.value _ e.1 e.0 (r.derived h) (ap (λ span. expr.Update span op x.value) (span-across (one {t = t} {last = 0} ⟫ r.moves))))
+updated-rule : (f : Flags) (op : UpdateOperator) {s a c : Input} (x : Reading) → Next (IsBefore op) s a → ReadAmong f level_unary a x c → ReadIn f level_update s (other (expr.Update (record { begin = begin_of s.tokens; end = c.last }) op x.value)) c
+updated-rule f op x (next {t = t} e) r = other-read f level_update level_update (omega arith) (one ⟫ r.moves) (g.update_before op x.value _ e.1 e.0 r.derived (ap (λ span. expr.Update span op x.value) (span-across (one {t = t} {last = 0} ⟫ r.moves))))
 
 sound-update : (i : Inner) (sound : Sound i) (f : Flags) (role : Role) (s : Input) → Holds (ReadIn f level_update s) (update i f role s)
 unfolding update updated
 sound-update i sound f role s = on-means before_at IsBefore before-means _ _ s (λ op a h. bind (sound.unary f a) λ x c r. took (updated-rule f op x h r)) (λ m. sound-postfix i sound f role s)
 
-pub sound-unary : (i : Inner) (sound : Sound i) (f : Flags) (s : Input) → Holds (ReadIn f level_unary s) (unary i f s)
+any-unary : (i : Inner) (sound : Sound i) (f : Flags) (s : Input) → Holds (ReadIn f level_unary s) (unary i f s)
 unfolding unary
-sound-unary i sound f s = on-means unary_at (λ op t. IsKind (unary_kind op) t) unary-means _ _ s
+any-unary i sound f s = on-means unary_at (λ op t. IsKind (unary_kind op) t) unary-means _ _ s
     (λ op a h. sound-prefixed i sound f op s a h)
     (λ m. weaken (sound-update i sound f Among s) (λ x c r. lower-read f level_unary level_update (omega arith) r))
 
+pub sound-unary : (i : Inner) (sound : Sound i) (f : Flags) (s : Input) → Holds (ReadAmong f level_unary s) (unary i f s)
+sound-unary i sound f s = weaken (both (any-unary i sound f s) (plain-unary i sound f s)) (λ x c r. among r.0 (uncovered r.1))
+
 -- ## Powers
 
-raised-rule : (f : Flags) {s a b c : Input} (x y : Reading) → ReadIn f level_update s x a → Next (IsMark marks.StarStar) a b → ReadIn f level_power b y c → ReadIn f level_power s (other (expr.Power (record { begin = begin_of s.tokens; end = c.last }) x.value y.value)) c
+raised-rule : (f : Flags) {s a b c : Input} (x y : Reading) → ReadIn f level_update s x a → Next (IsMark marks.StarStar) a b → ReadAmong f level_power b y c → ReadIn f level_power s (other (expr.Power (record { begin = begin_of s.tokens; end = c.last }) x.value y.value)) c
 raised-rule f x y r (next {t = t} p) r' = other-read f level_power level_power (omega arith) (r.moves ⟫ one ⟫ r'.moves)
-    (λ h. g.power x.value y.value _ (r.derived (not-arrow (kinds.Punctuator marks.StarStar) t p refl)) p (r'.derived h) (ap (λ span. expr.Power span x.value y.value) (span-across (r.moves ⟫ one ⟫ r'.moves))))
+    (g.power x.value y.value _ (r.derived (by-token x.shape (not-arrow (kinds.Punctuator marks.StarStar) t p refl))) p r'.derived (ap (λ span. expr.Power span x.value y.value) (span-across (r.moves ⟫ one ⟫ r'.moves))))
 
-pub sound-power : (i : Inner) (sound : Sound i) (f : Flags) (role : Role) (s : Input) → Holds (ReadIn f level_power s) (power i f role s)
+any-power : (i : Inner) (sound : Sound i) (f : Flags) (role : Role) (s : Input) → Holds (ReadIn f level_power s) (power i f role s)
 unfolding power raised
-sound-power i sound f role s = on-means unary_at (λ op t. IsKind (unary_kind op) t) unary-means _ _ s
+any-power i sound f role s = on-means unary_at (λ op t. IsKind (unary_kind op) t) unary-means _ _ s
     (λ op a h. weaken (sound-prefixed i sound f op s a h) (λ x c r. lower-read f level_power level_unary (omega arith) r))
     (λ m. bind (sound-update i sound f role s) λ x a r. on-mark _ _ _ a
     (λ t b p. bind (sound.power f b) λ y c r'. took (raised-rule f x y r p r'))
     (λ m. took (lower-read f level_power level_update (omega arith) r)))
+
+pub sound-power : (i : Inner) (sound : Sound i) (f : Flags) (s : Input) → Holds (ReadAmong f level_power s) (power i f Among s)
+sound-power i sound f s = weaken (both (any-power i sound f Among s) (plain-power i sound f Among refl s)) (λ x c r. among r.0 (uncovered r.1))
 
 -- ## Binary operators
 
 -- operators, each with its operand
 data OperandsIn (f : Flags) (level : ℕ) : Input → List Operand → Input → Type 0 where
   no_operand_in : {s : Input} → OperandsIn f level s [] s
-  operands_in : {s c : Input} {o : Operand} {os : List Operand} → Moves s c → NotArrow s → (NotArrow c → AreOperands f level s.tokens (o ∷ os) c.tokens) → OperandsIn f level s (o ∷ os) c
+  operands_in : {s c : Input} {o : Operand} {os : List Operand} → Moves s c → next_is is_arrow s.tokens ≡ false → AreOperands f level s.tokens (o ∷ os) c.tokens → OperandsIn f level s (o ∷ os) c
 
-operand-rule : (f : Flags) (level : ℕ) (op : BinaryOperator) {s a b c : Input} (x : Reading) {os : List Operand} → Next (IsOperator f level op) s a → ReadIn f (level + 1) a x b → OperandsIn f level b os c
+operand-rule : (f : Flags) (level : ℕ) (op : BinaryOperator) {s a b c : Input} (x : Reading) {os : List Operand} → Next (IsOperator f level op) s a → ReadAmong f (level + 1) a x b → OperandsIn f level b os c
     → OperandsIn f level s (roll-Operand (record { operator = op; value = x.value }) ∷ os) c
-operand-rule f level op x (next {t = t} e) r no_operand_in = operands_in (one ⟫ r.moves) (not-arrow (binary_kind op) t e.0 (binary-no-arrow op)) (λ h. g.next_operand op x.value _ _ e.1 e.2 e.0 (r.derived h) refl g.no_operand)
-operand-rule f level op x (next {t = t} e) r (operands_in m n d) = operands_in (one ⟫ r.moves ⟫ m) (not-arrow (binary_kind op) t e.0 (binary-no-arrow op)) (λ h. g.next_operand op x.value _ _ e.1 e.2 e.0 (r.derived n) refl (d h))
+operand-rule f level op x (next {t = t} e) r no_operand_in = operands_in (one ⟫ r.moves) (not-arrow (binary_kind op) t e.0 (binary-no-arrow op)) (g.next_operand op x.value _ _ e.1 e.2 e.0 r.derived refl g.no_operand)
+operand-rule f level op x (next {t = t} e) r (operands_in m n d) = operands_in (one ⟫ r.moves ⟫ m) (not-arrow (binary_kind op) t e.0 (binary-no-arrow op)) (g.next_operand op x.value _ _ e.1 e.2 e.0 r.derived refl d)
 
-sound-operands : (f : Flags) (level : ℕ) (operand : Parser Reading) (sound : (s : Input) → Holds (ReadIn f (level + 1) s) (operand s)) (turns : ℕ) (s : Input) → Holds (OperandsIn f level s) (operands operand f level turns s)
+sound-operands : (f : Flags) (level : ℕ) (operand : Parser Reading) (sound : (s : Input) → Holds (ReadAmong f (level + 1) s) (operand s)) (turns : ℕ) (s : Input) → Holds (OperandsIn f level s) (operands operand f level turns s)
 unfolding operands
 sound-operands f level operand sound zero s = fault
 sound-operands f level operand sound (suc turns) s = on-means (binary_at f level) (IsOperator f level) (binary-means f level) _ _ s
@@ -162,18 +169,18 @@ sound-operands f level operand sound (suc turns) s = on-means (binary_at f level
 
 binary-rule : (f : Flags) (level : ℕ) {s b c : Input} (x : Reading) {os : List Operand} → ReadIn f (level + 1) s x b → OperandsIn f level b os c → ReadIn f level s (operated x os (record { begin = begin_of s.tokens; end = c.last })) c
 binary-rule f level x r no_operand_in = lower-read f level (level + 1) (omega arith) r
-binary-rule f level x r (operands_in {o = o} {os = os} m n d) = other-read f level level (omega arith) (r.moves ⟫ m) (λ h. g.binary_chain x.value _ _ _ (r.derived n) (d h) (ap (λ span. expr.Binary span x.value (o ∷ os)) (span-across (r.moves ⟫ m))))
+binary-rule f level x r (operands_in {o = o} {os = os} m n d) = other-read f level level (omega arith) (r.moves ⟫ m) (g.binary_chain x.value _ _ _ (r.derived (by-token x.shape n)) d (ap (λ span. expr.Binary span x.value (o ∷ os)) (span-across (r.moves ⟫ m))))
 
 sound-binary : (i : Inner) (sound : Sound i) (f : Flags) (role : Role) (above level : ℕ) → above + level ≡ level_power → (s : Input) → Holds (ReadIn f level s) (binary_from i f role above level s)
 unfolding binary_from
-sound-binary i sound f role zero level e s = subst (λ l. Holds (ReadIn f l s) (power i f role s)) (last-level level e) (sound-power i sound f role s)
+sound-binary i sound f role zero level e s = subst (λ l. Holds (ReadIn f l s) (power i f role s)) (last-level level e) (any-power i sound f role s)
   where
     last-level : (level : ℕ) → zero + level ≡ level_power → level_power ≡ level
     last-level level e = omega arith
 sound-binary i sound f role (suc above) level e s =
     let deeper : above + (level + 1) ≡ level_power = next-level above level e in
     bind (sound-binary i sound f role above (level + 1) deeper s) λ x b r.
-    bind (sound-operands f level (binary_from i f Among above (level + 1)) (λ a. sound-binary i sound f Among above (level + 1) deeper a) i.fuel b) λ os c d.
+    bind (sound-operands f level (binary_from i f Among above (level + 1)) (λ a. weaken (both (sound-binary i sound f Among above (level + 1) deeper a) (plain-binary i sound f Among refl above (level + 1) a)) (λ y c k. among k.0 (uncovered k.1))) i.fuel b) λ os c d.
     took (binary-rule f level x r d)
   where
     next-level : (above level : ℕ) → suc above + level ≡ level_power → above + (level + 1) ≡ level_power
@@ -184,7 +191,7 @@ sound-binary i sound f role (suc above) level e s =
 conditional-rule : (f : Flags) {s a b c d e : Input} (x y z : Reading) → ReadIn f (level_conditional + 1) s x a → Next (IsMark marks.Question) a b → ReadWhole (with_in f) level_assignment b y c → Next (IsMark marks.Colon) c d → ReadWhole f level_assignment d z e
     → ReadIn f level_conditional s (other (expr.Conditional (record { begin = begin_of s.tokens; end = e.last }) x.value y.value z.value)) e
 conditional-rule f x y z r (next {t = t} q) r' (next p) r'' = other-read f level_conditional level_conditional (omega arith) (r.moves ⟫ one ⟫ r'.moves ⟫ one ⟫ r''.moves)
-    (λ h. g.conditional x.value y.value z.value _ (r.derived (not-arrow (kinds.Punctuator marks.Question) t q refl)) q r'.derived p r''.derived (ap (λ span. expr.Conditional span x.value y.value z.value) (span-across (r.moves ⟫ one ⟫ r'.moves ⟫ one ⟫ r''.moves))))
+    (g.conditional x.value y.value z.value _ (r.derived (by-token x.shape (not-arrow (kinds.Punctuator marks.Question) t q refl))) q r'.derived p r''.derived (ap (λ span. expr.Conditional span x.value y.value z.value) (span-across (r.moves ⟫ one ⟫ r'.moves ⟫ one ⟫ r''.moves))))
 
 sound-conditional : (i : Inner) (sound : Sound i) (f : Flags) (s : Input) → Holds (ReadIn f level_conditional s) (conditional i f s)
 unfolding conditional branches
@@ -218,10 +225,13 @@ sound-arrow-body i sound f es s a h = if-holds _ _ _ a
     (λ k. bind (sound.block (of_function false) a) λ b c d. took (arrow-rule f h d.0 (g.block_body b _ d.1 refl)))
     (λ k. bind (sound.assignment (of_arrow f) a) λ x c r. took (arrow-rule f h r.moves (g.value_body x.value _ (begins-no-brace a.tokens k) r.derived refl)))
 
-sound-arrow-if : (i : Inner) (sound : Sound i) (f : Flags) (r : Refined (List Parameter)) (s a : Input) → Moves s a → ((es : List Parameter) → r ≡ Fits es → AreArrowParameters f s.tokens es a.tokens) → Holds (ReadWhole f level_assignment s) (arrow_if i f (begin_of s.tokens) r a)
-sound-arrow-if i sound f (Fits es) s a m d = on-means arrow_at (λ u t. IsArrow t) (λ u t h. arrow-means t u h) _ _ a (λ u c h. sound-arrow-body i sound f es s c (arrow_head m (d es refl) h)) (λ k. refused-holds a)
-sound-arrow-if i sound f (Misfit place) s a m d = refused-holds a
-sound-arrow-if i sound f TooNested s a m d = fault
+whole-of : (f : Flags) {s c : Input} {x : Reading} → Uncovered x.shape c → ReadIn f level_conditional s x c → ReadWhole f level_assignment s x c
+whole-of f h r = record { moves = r.moves; derived = lower f level_assignment level_conditional (omega arith) (r.derived h); left_side = r.left_side; named = r.named }
+
+sound-arrow-if : (i : Inner) (sound : Sound i) (f : Flags) (x : Reading) (r : Refined (List Parameter)) (s a : Input) → ReadIn f level_conditional s x a → ((es : List Parameter) → r ≡ Fits es → AreArrowParameters f s.tokens es a.tokens) → Holds (ReadWhole f level_assignment s) (arrow_if i f (begin_of s.tokens) x r a)
+sound-arrow-if i sound f x (Fits es) s a m d = on-means arrow_at (λ u t. IsArrow t) (λ u t h. arrow-means t u h) _ _ a (λ u c h. sound-arrow-body i sound f es s c (arrow_head m.moves (d es refl) h)) (λ k. refused-holds a)
+sound-arrow-if i sound f x (Misfit place) s a m d = choose-holds _ _ (is_covered x.shape) a (λ k. refused-holds a) (λ k. took (whole-of f (by-shape x.shape _ k) m))
+sound-arrow-if i sound f x TooNested s a m d = fault
 
 -- ## Assignments
 
@@ -240,16 +250,13 @@ sound-assigned : (i : Inner) (sound : Sound i) (f : Flags) (op : AssignOperator)
 unfolding assigned_with
 sound-assigned i sound f op x s a b m d h = fitting-holds (target_before i.fuel op x) _ b λ p e. bind (sound.assignment f b) λ y c r. took (assigned-rule f op p y m (refined-so (refinement.assigned i.fuel f op s.tokens a.tokens x d) e) h r)
 
-whole-of : (f : Flags) {s c : Input} {x : Reading} → NotArrow c → ReadIn f level_conditional s x c → ReadWhole f level_assignment s x c
-whole-of f h r = record { moves = r.moves; derived = lower f level_assignment level_conditional (omega arith) (r.derived h); left_side = λ e. r.left_side e h; named = r.named }
-
 sound-after-conditional : (i : Inner) (sound : Sound i) (f : Flags) (x : Reading) (s a : Input) → ReadIn f level_conditional s x a → Holds (ReadWhole f level_assignment s) (after_conditional i f (begin_of s.tokens) x a)
 unfolding after_conditional
 sound-after-conditional i sound f x s a r = if-holds _ _ _ a
-    (λ h. sound-arrow-if i sound f (parameters_before i.fuel x.shape x.value) s a r.moves (λ es e. r.parameters i.fuel es e))
+    (λ h. sound-arrow-if i sound f x (parameters_before i.fuel x.shape x.value) s a r (λ es e. r.parameters i.fuel es e))
     (λ h. choose-holds _ _ (is_left x.shape) a
-    (λ l. on-means assign_at (λ op t. IsKind (assign_kind op) t) assign-means _ _ a (λ op b e. sound-assigned i sound f op x.value s a b r.moves (r.left_side l h) e) (λ m. took (whole-of f h r)))
-    (λ l. took (whole-of f h r)))
+    (λ l. on-means assign_at (λ op t. IsKind (assign_kind op) t) assign-means _ _ a (λ op b e. sound-assigned i sound f op x.value s a b r.moves (r.left_side l) e) (λ m. took (whole-of f (by-token x.shape h) r)))
+    (λ l. took (whole-of f (by-token x.shape h) r)))
 
 -- ## Yield
 

@@ -149,7 +149,7 @@ pub left-read : (f : Flags) {s c : Input} {x : Expression} → Moves s c → IsN
 left-read f m d = record {
   moves = m;
   derived = λ h. g.at_level level_primary _ (omega arith) d;
-  left_side = λ e h. g.at_level level_primary _ (omega arith) d;
+  left_side = λ e. g.at_level level_primary _ (omega arith) d;
   named = λ label e. absurd (cc);
   parameters = λ n es e. absurd (cc);
 }
@@ -213,7 +213,7 @@ group-rule f {c = c} {held = held} (next {t = t} {ts = ts} {last = last} p) m d 
     record {
       moves = moves;
       derived = λ h. whole_group;
-      left_side = λ e h. lower f level_left_hand_side level_primary (omega arith) whole_group;
+      left_side = λ e. lower f level_left_hand_side level_primary (omega arith) whole_group;
       named = λ label e. absurd (cc);
       parameters = λ n es e. refined-so (refinement.parameters n f level_primary _ _ _ whole_group) e;
     }
@@ -224,7 +224,7 @@ cover-read : (f : Flags) {s c : Input} {x : Expression} → Moves s c → IsCove
 cover-read f m d h = record {
   moves = m;
   derived = λ k. absurd (true≢false (sym h ∙ k));
-  left_side = λ e k. absurd (cc);
+  left_side = λ e. absurd (cc);
   named = λ label e. absurd (cc);
   parameters = λ n es e. refined-so (refinement.covered n f _ _ _ d) e;
 }
@@ -298,12 +298,12 @@ reference-read : (f : Flags) {s c : Input} (n : Identifier) → Moves s c → Is
 reference-read f {s = s} {c = c} n m d = record {
   moves = m;
   derived = λ h. g.at_level level_primary _ (omega arith) (g.reference n _ d refl);
-  left_side = λ e h. g.at_level level_primary _ (omega arith) (g.reference n _ d refl);
+  left_side = λ e. g.at_level level_primary _ (omega arith) (g.reference n _ d refl);
   named = λ label e. subst (λ l. IsName s.tokens l c.tokens) (label-name n.span n.name label e) d;
   parameters = λ k es e. refined-so (refinement.parameters k f level_primary _ _ _ (g.at_level level_primary _ (omega arith) (g.reference n _ d refl))) e;
 }
 
-no-operand : {Q : Reading → Input → Type 0} (role : Role) (s : Input) → Holds Q (no_operand role s)
+pub no-operand : {Q : Reading → Input → Type 0} (role : Role) (s : Input) → Holds Q (no_operand role s)
 no-operand Leading s = no-expression-holds s
 no-operand Among s = no-expression-holds s
 no-operand Heritage s = no-number-holds s

@@ -4,7 +4,7 @@ use Rattle.es6_ast.specs.declared.tree.Statement.{Statement}
 use Rattle.es6_ast.specs.Tokens.{Filled}
 use Rattle.es6_ast.specs.Grammar.{Flags}
 use Rattle.es6_reading.specs.Parser.{Input, Reading, Stand, Inner}
-use Rattle.es6_reading.specs.Expressions.{Among, Heritage, expression_at_limit, operand_at_limit}
+use Rattle.es6_reading.specs.Expressions.{expression_at_limit, operand_at_limit}
 use Rattle.es6_reading.specs.Statements.{statement_at_limit}
 use Rattle.es6_reading.specs.Modules.{readers}
 use Rattle.es6_reading.specs.Laws.{IsSound}
@@ -12,7 +12,7 @@ use Rattle.es6_reading.proofs.Posts.{Holds, fault, of_took, if-holds, no-express
 use Rattle.es6_reading.proofs.Derived.{Sound}
 use Rattle.es6_reading.proofs.SoundPatterns.{sound-binding, sound-initialized, sound-part, sound-object-part}
 use Rattle.es6_reading.proofs.SoundFunctions.{sound-block, sound-member}
-use Rattle.es6_reading.proofs.SoundChains.{sound-chain, sound-callee}
+use Rattle.es6_reading.proofs.SoundChains.{sound-heritage-chain, sound-callee}
 use Rattle.es6_reading.proofs.SoundLevels.{sound-unary, sound-power, sound-assignment, sound-sequence}
 use Rattle.es6_reading.proofs.SoundProperties.{sound-property}
 use Rattle.es6_reading.proofs.SoundDeclarations.{sound-statement}
@@ -58,10 +58,10 @@ sound-readers fuel (suc room) =
       plain = refl;
       sequence = sound-sequence i deeper;
       assignment = sound-assignment i deeper;
-      power = λ f s. sound-power i deeper f Among s;
+      power = sound-power i deeper;
       unary = sound-unary i deeper;
       callee = sound-callee i deeper;
-      heritage = λ f s. sound-chain i deeper f Heritage s;
+      heritage = sound-heritage-chain i deeper;
       block = sound-block i deeper;
       property = sound-property i deeper;
       target = sound-binding i deeper;

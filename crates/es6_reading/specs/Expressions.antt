@@ -27,7 +27,7 @@ use Rattle.es6_ast.specs.declared.tree.Operand.{Operand, roll-Operand}
 use Rattle.es6_ast.specs.declared.tree.Rest.{Rest}
 use Rattle.es6_ast.specs.Tokens.{Filling, Read, Inserted, Filled}
 use Rattle.es6_ast.specs.Grammar.{Flags, with_in, of_function, of_arrow}
-use Rattle.es6_reading.specs.Parser.{Parser, Endless, Depth, returns, fails, ◌>>=◌, refused, no_number, no_expression, on, choose, if_next, take_as, is_mark, mark, word, next_mark, from, last_end, made, Shape, Bare, Grouped, Covered, LeftHandSide, Other, Reading, is_left, Inner, on_group, group}
+use Rattle.es6_reading.specs.Parser.{Parser, Endless, Depth, returns, fails, ◌>>=◌, refused, no_number, no_expression, on, choose, if_next, take_as, is_mark, mark, word, next_mark, from, last_end, made, Shape, Bare, Grouped, Covered, LeftHandSide, Other, Reading, is_left, is_covered, Inner, on_group, group}
 use Rattle.es6_reading.specs.Words.{free_name, literal_at, accessor_at, accessor_name, unary_at, before_at, after_at, assign_at, binary_at, is_arrow, arrow_at, begins_operand}
 use Rattle.es6_reading.specs.Refine.{Refined, Fits, Misfit, TooNested, parameters_of, refine_parameters, target_before}
 use Rattle.es6_reading.specs.Parts.{identifier, name_of_any_kind, key, function_after_word, method_after_key, accessor, generator_method, class_after_word, on_template}
@@ -371,10 +371,14 @@ arrow_body i f at parameters = if_next (next_mark marks.LeftBrace) (do
     x ← i.assignment (of_arrow f)
     made at (λ span. other (expr.Arrow (roll-Arrow (record { span = span; parameters = parameters; body = ValueBody x.value })))))
 
-abbrev pub arrow_if : Inner → Flags → ℕ → Refined (List Parameter) → Parser Reading
-arrow_if i f at (Fits parameters) = on arrow_at (λ _. arrow_body i f at parameters) refused
-arrow_if i f at (Misfit place) = refused
-arrow_if i f at TooNested = fails Endless
+-- what stands before `=>` and is no parameters ends there, if it is an expression by itself
+abbrev pub before_arrow : Reading → Parser Reading
+before_arrow x = choose (is_covered x.shape) refused (returns x)
+
+abbrev pub arrow_if : Inner → Flags → ℕ → Reading → Refined (List Parameter) → Parser Reading
+arrow_if i f at x (Fits parameters) = on arrow_at (λ _. arrow_body i f at parameters) refused
+arrow_if i f at x (Misfit place) = before_arrow x
+arrow_if i f at x TooNested = fails Endless
 
 -- ## Assignment and yield (12.14, 14.4)
 
@@ -391,7 +395,7 @@ assigned_with i f at x op = do
   made at (λ span. other (expr.Assign span op p y.value))
 
 unfoldable pub after_conditional : Inner → Flags → ℕ → Reading → Parser Reading
-after_conditional i f at x = if_next is_arrow (from λ place. arrow_if i f at (parameters_before i.fuel x.shape x.value)) (choose (is_left x.shape) (on assign_at (λ op. assigned_with i f at x.value op) (returns x)) (returns x))
+after_conditional i f at x = if_next is_arrow (from λ place. arrow_if i f at x (parameters_before i.fuel x.shape x.value)) (choose (is_left x.shape) (on assign_at (λ op. assigned_with i f at x.value op) (returns x)) (returns x))
 
 -- `*` on the line of `yield`
 abbrev pub star_at : Filled → Option Filled

@@ -181,6 +181,13 @@ is_left Covered = false
 is_left LeftHandSide = true
 is_left Other = false
 
+abbrev pub is_covered : Shape → Bool
+is_covered Bare = false
+is_covered Grouped = false
+is_covered Covered = true
+is_covered LeftHandSide = false
+is_covered Other = false
+
 -- where a statement stands: in a list, where declarations may stand too; under another statement; or under a label, where a
 -- function may be declared (13.2, 13.13)
 pub data Stand : Type 0 where

@@ -18,5 +18,5 @@ mod targets;
 
 pub use fault::{RefineFault, Unrefined};
 pub use fit::Fit;
-pub use parameters::parameters_fit;
+pub use parameters::{are_parameters, parameters_fit};
 pub use refine::{parameters_within, refine_parameters, refine_pattern, target_before};
