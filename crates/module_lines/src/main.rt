@@ -6,16 +6,9 @@
 //! module, so that only reading and checking takes time.
 #![tactic(auto)]
 
-mod expressions;
 mod fault;
-mod functions;
 mod goal;
-mod items;
-mod list;
 mod parts;
-mod patterns;
-mod show;
-mod statements;
 
 use early_errors::{Finding, first_early, first_outside};
 use es6_ast::Module;
@@ -23,11 +16,10 @@ use es6_lexer::{Token, lex6};
 use es6_module::parse_module;
 use fault::write_fault;
 use goal::Goal;
-use list::List;
-use show::{Show, node, write_nodes};
 use std::alloc::Global;
 use std::env;
 use std::io::{self, BufReader, BufWriter, Read, Write};
+use tree_lines::{List, Show, node, write_nodes};
 
 /// The most bytes of a module.
 const LIMIT: usize = 4_194_304;

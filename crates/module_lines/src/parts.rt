@@ -1,14 +1,13 @@
 //! An expression or a statement by itself, and what an expression is refined to.
 
 use crate::fault::write_fault;
-use crate::list::List;
-use crate::show::{Show, write_nodes};
 use es6_ast::Expression;
 use es6_expr::{Context, ParseFault, parse_expression, parse_statement};
 use es6_lexer::Token;
 use es6_refine::{RefineFault, refine_parameters, refine_pattern};
 use std::alloc::Global;
 use std::io::{self, Write};
+use tree_lines::{List, Show, write_nodes};
 
 /// Outside functions and generators, where nothing is open yet.
 const OUTSIDE: Context = Context {

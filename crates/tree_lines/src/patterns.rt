@@ -1,8 +1,7 @@
 //! Patterns, their parts, and parameters.
 
-use crate::expressions::{leave, leave_two};
 use crate::list::List;
-use crate::show::{Show, Stack, node};
+use crate::show::{Show, Stack, leave, leave_two, node};
 use es6_ast::{ArrayPart, ObjectPart, Parameter, Part, Pattern};
 use std::io::{self, Write};
 

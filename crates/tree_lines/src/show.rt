@@ -1,7 +1,7 @@
 //! What is still to be printed of a tree. A node prints its own line and leaves its parts, so that no text is too deep.
 
 use crate::list::List;
-use crate::{expressions, functions, items, patterns, statements};
+use crate::{expressions, functions, items, operators, patterns, statements};
 use es_text::Span;
 use es6_ast::{
     Argument, ArrayPart, Block, Case, Catch, Class, ClassMember, Condition, Element, ExportName,
@@ -110,6 +110,19 @@ fn stretch<W: Write>(out: &mut W, stretch: &Stretch) -> io::Result<()> {
     writeln!(out, "")
 }
 
+/// Leaves one part.
+pub fn leave<'a>(stack: &mut Stack<'a>, part: Show<'a>) -> io::Result<()> {
+    stack.push(part)?;
+    Ok(())
+}
+
+/// Leaves two parts, the first one to be printed first.
+pub fn leave_two<'a>(stack: &mut Stack<'a>, first: Show<'a>, second: Show<'a>) -> io::Result<()> {
+    stack.push(second)?;
+    stack.push(first)?;
+    Ok(())
+}
+
 /// Prints one part, and leaves what it consists of on the stack.
 pub fn step<'a, W: Write>(out: &mut W, stack: &mut Stack<'a>, show: Show<'a>) -> io::Result<()> {
     match show {
@@ -157,7 +170,7 @@ fn first_of<'a, W: Write>(out: &mut W, stack: &mut Stack<'a>, list: Show<'a>) ->
         Show::Elements(list) => expressions::elements(out, stack, list),
         Show::Properties(list) => expressions::properties(out, stack, list),
         Show::Links(list) => expressions::links(out, stack, list),
-        Show::Operands(list) => expressions::operands(out, stack, list),
+        Show::Operands(list) => operators::operands(out, stack, list),
         Show::TemplateParts(list) => expressions::template_parts(stack, list),
         Show::ArrayParts(list) => patterns::array_parts(out, stack, list),
         Show::ObjectParts(list) => patterns::object_parts(out, stack, list),

@@ -1,11 +1,11 @@
 //! Expressions and their parts.
 
 use crate::list::List;
-use crate::show::{Show, Stack, node, node_named, node_of_units, node_with};
+use crate::operators;
+use crate::show::{Show, Stack, leave, leave_two, node, node_named, node_of_units, node_with};
 use es_text::Span;
 use es6_ast::{
-    Argument, ArrowBody, AssignOperator, BinaryOperator, Element, Expression, Key, Link, Literal,
-    Operand, Property, Template, TemplatePart, UnaryOperator, UpdateOperator,
+    Argument, Element, Expression, Key, Link, Literal, Property, Template, TemplatePart,
 };
 use std::io::{self, Write};
 
@@ -29,74 +29,7 @@ fn literal<W: Write>(out: &mut W, span: Span, literal: &Literal) -> io::Result<(
     }
 }
 
-fn unary_word(operator: UnaryOperator) -> &'static str {
-    match operator {
-        UnaryOperator::Delete => "delete",
-        UnaryOperator::Void => "void",
-        UnaryOperator::Typeof => "typeof",
-        UnaryOperator::Plus => "+",
-        UnaryOperator::Minus => "-",
-        UnaryOperator::BitNot => "~",
-        UnaryOperator::Not => "!",
-    }
-}
-
-fn update_word(operator: UpdateOperator) -> &'static str {
-    match operator {
-        UpdateOperator::IncrementBefore => "++x",
-        UpdateOperator::DecrementBefore => "--x",
-        UpdateOperator::IncrementAfter => "x++",
-        UpdateOperator::DecrementAfter => "x--",
-    }
-}
-
-fn binary_word(operator: BinaryOperator) -> &'static str {
-    match operator {
-        BinaryOperator::Or => "||",
-        BinaryOperator::And => "&&",
-        BinaryOperator::BitOr => "|",
-        BinaryOperator::BitXor => "^",
-        BinaryOperator::BitAnd => "&",
-        BinaryOperator::Equal => "==",
-        BinaryOperator::NotEqual => "!=",
-        BinaryOperator::Same => "===",
-        BinaryOperator::NotSame => "!==",
-        BinaryOperator::Less => "<",
-        BinaryOperator::Greater => ">",
-        BinaryOperator::AtMost => "<=",
-        BinaryOperator::AtLeast => ">=",
-        BinaryOperator::InstanceOf => "instanceof",
-        BinaryOperator::In => "in",
-        BinaryOperator::ShiftLeft => "<<",
-        BinaryOperator::ShiftRight => ">>",
-        BinaryOperator::ShiftRightUnsigned => ">>>",
-        BinaryOperator::Add => "+",
-        BinaryOperator::Subtract => "-",
-        BinaryOperator::Multiply => "*",
-        BinaryOperator::Divide => "/",
-        BinaryOperator::Remainder => "%",
-    }
-}
-
-fn assign_word(operator: AssignOperator) -> &'static str {
-    match operator {
-        AssignOperator::Assign => "=",
-        AssignOperator::MultiplyAssign => "*=",
-        AssignOperator::DivideAssign => "/=",
-        AssignOperator::RemainderAssign => "%=",
-        AssignOperator::AddAssign => "+=",
-        AssignOperator::SubtractAssign => "-=",
-        AssignOperator::ShiftLeftAssign => "<<=",
-        AssignOperator::ShiftRightAssign => ">>=",
-        AssignOperator::ShiftRightUnsignedAssign => ">>>=",
-        AssignOperator::BitAndAssign => "&=",
-        AssignOperator::BitXorAssign => "^=",
-        AssignOperator::BitOrAssign => "|=",
-        AssignOperator::PowerAssign => "**=",
-    }
-}
-
-/// An expression without a part that is an expression by itself, and those with lists.
+/// An expression.
 pub fn expression<'a, W: Write>(
     out: &mut W,
     stack: &mut Stack<'a>,
@@ -126,15 +59,22 @@ pub fn expression<'a, W: Write>(
         }
         Expression::Function(function) => leave(stack, Show::Function(function.get())),
         Expression::Class(class) => leave(stack, Show::Class(class.get())),
-        Expression::Arrow(arrow) => {
-            let arrow = arrow.get();
-            node(out, "Arrow", arrow.span)?;
-            let body = match &arrow.body {
-                ArrowBody::ValueBody(value) => Show::Expression(value.get()),
-                ArrowBody::BlockBody(block) => Show::Block(block),
-            };
-            leave_two(stack, Show::Parameters(List::of(&arrow.parameters)), body)
+        Expression::Group { span, held } => {
+            node(out, "Group", *span)?;
+            leave(stack, Show::Expression(held.get()))
         }
+        Expression::Cover { span, .. } => node(out, "Cover", *span),
+        other => left_hand_side(out, stack, other),
+    }
+}
+
+/// Accesses and calls (ECMA-262, 6th edition, 12.3).
+fn left_hand_side<'a, W: Write>(
+    out: &mut W,
+    stack: &mut Stack<'a>,
+    expression: &'a Expression,
+) -> io::Result<()> {
+    match expression {
         Expression::Chain { span, head, links } => {
             node(out, "Chain", *span)?;
             leave_two(
@@ -146,6 +86,10 @@ pub fn expression<'a, W: Write>(
         Expression::SuperMember { span, name } => {
             node(out, "SuperMember", *span)?;
             leave(stack, Show::Identifier(name))
+        }
+        Expression::SuperIndex { span, index } => {
+            node(out, "SuperIndex", *span)?;
+            leave(stack, Show::Expression(index.get()))
         }
         Expression::SuperCall { span, arguments } => {
             node(out, "SuperCall", *span)?;
@@ -163,119 +107,8 @@ pub fn expression<'a, W: Write>(
                 Show::Arguments(List::of(&arguments)),
             )
         }
-        Expression::Binary { span, first, rest } => {
-            node(out, "Binary", *span)?;
-            leave_two(
-                stack,
-                Show::Expression(first.get()),
-                Show::Operands(List::of(&rest)),
-            )
-        }
-        Expression::Sequence { span, first, rest } => {
-            node(out, "Sequence", *span)?;
-            leave_two(
-                stack,
-                Show::Expression(first.get()),
-                Show::Expressions(List::of(&rest)),
-            )
-        }
-        other => with_operators(out, stack, other),
+        other => operators::with_operators(out, stack, other),
     }
-}
-
-/// Expressions with operators and parentheses.
-fn with_operators<'a, W: Write>(
-    out: &mut W,
-    stack: &mut Stack<'a>,
-    expression: &'a Expression,
-) -> io::Result<()> {
-    match expression {
-        Expression::SuperIndex { span, index } => {
-            node(out, "SuperIndex", *span)?;
-            leave(stack, Show::Expression(index.get()))
-        }
-        Expression::Update {
-            span,
-            operator,
-            target,
-        } => {
-            node_with(out, "Update", *span, update_word(*operator))?;
-            leave(stack, Show::Expression(target.get()))
-        }
-        Expression::Unary {
-            span,
-            operator,
-            operand,
-        } => {
-            node_with(out, "Unary", *span, unary_word(*operator))?;
-            leave(stack, Show::Expression(operand.get()))
-        }
-        Expression::Power {
-            span,
-            base,
-            exponent,
-        } => {
-            node(out, "Power", *span)?;
-            leave_two(
-                stack,
-                Show::Expression(base.get()),
-                Show::Expression(exponent.get()),
-            )
-        }
-        Expression::Conditional {
-            span,
-            test,
-            yes,
-            no,
-        } => {
-            node(out, "Conditional", *span)?;
-            stack.push(Show::Expression(no.get()))?;
-            leave_two(
-                stack,
-                Show::Expression(test.get()),
-                Show::Expression(yes.get()),
-            )
-        }
-        Expression::Assign {
-            span,
-            operator,
-            target,
-            value,
-        } => {
-            node_with(out, "Assign", *span, assign_word(*operator))?;
-            leave_two(stack, Show::Pattern(target), Show::Expression(value.get()))
-        }
-        Expression::Yield { span, value } => {
-            node(out, "Yield", *span)?;
-            match value {
-                None => Ok(()),
-                Some(value) => leave(stack, Show::Expression(value.get())),
-            }
-        }
-        Expression::Delegate { span, value } => {
-            node(out, "Delegate", *span)?;
-            leave(stack, Show::Expression(value.get()))
-        }
-        Expression::Group { span, held } => {
-            node(out, "Group", *span)?;
-            leave(stack, Show::Expression(held.get()))
-        }
-        Expression::Cover { span, .. } => node(out, "Cover", *span),
-        _ => Ok(()),
-    }
-}
-
-/// Leaves one part.
-pub fn leave<'a>(stack: &mut Stack<'a>, part: Show<'a>) -> io::Result<()> {
-    stack.push(part)?;
-    Ok(())
-}
-
-/// Leaves two parts, the first one to be printed first.
-pub fn leave_two<'a>(stack: &mut Stack<'a>, first: Show<'a>, second: Show<'a>) -> io::Result<()> {
-    stack.push(second)?;
-    stack.push(first)?;
-    Ok(())
 }
 
 /// A template.
@@ -420,21 +253,6 @@ pub fn links<'a, W: Write>(
         let rest = list.rest();
         stack.push(Show::Links(rest))?;
         link(out, stack, first)?;
-    }
-    Ok(())
-}
-
-/// The first operator with what follows it, and the others.
-pub fn operands<'a, W: Write>(
-    out: &mut W,
-    stack: &mut Stack<'a>,
-    list: List<'a, Operand>,
-) -> io::Result<()> {
-    if let Some(first) = list.first() {
-        let rest = list.rest();
-        let word = binary_word(first.operator);
-        writeln!(out, "Operand {word}")?;
-        leave_two(stack, Show::Expression(&first.value), Show::Operands(rest))?;
     }
     Ok(())
 }

@@ -1,8 +1,7 @@
 //! Functions, methods and classes.
 
-use crate::expressions::{leave, leave_two};
 use crate::list::List;
-use crate::show::{Show, Stack, node, node_with};
+use crate::show::{Show, Stack, leave, leave_two, node, node_with};
 use es6_ast::{Class, ClassMember, Function, Method, MethodKind};
 use std::io::{self, Write};
 

@@ -1,8 +1,7 @@
 //! Imports, exports and the whole module.
 
-use crate::expressions::{leave, leave_two};
 use crate::list::List;
-use crate::show::{Show, Stack, node, node_of_units};
+use crate::show::{Show, Stack, leave, leave_two, node, node_of_units};
 use crate::statements;
 use es_text::Span;
 use es6_ast::{DefaultExport, ExportName, Identifier, ImportName, ImportedNames, Item, Specifier};

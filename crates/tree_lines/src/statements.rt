@@ -1,8 +1,7 @@
 //! Statements.
 
-use crate::expressions::{leave, leave_two};
 use crate::list::List;
-use crate::show::{Show, Stack, node, node_with};
+use crate::show::{Show, Stack, leave, leave_two, node, node_with};
 use es6_ast::{
     Block, Case, Catch, Condition, Expression, ForFirst, ForTarget, Identifier, Statement,
     VariableKind,
@@ -108,6 +107,33 @@ fn with_statements<'a, W: Write>(
             leave(stack, Show::Conditions(List::of(&more)))?;
             condition(out, stack, first)
         }
+        Statement::Labelled { span, label, body } => {
+            node(out, "Labelled", *span)?;
+            leave_two(stack, Show::Identifier(label), Show::Under(body))
+        }
+        Statement::Try {
+            span,
+            block,
+            catch,
+            finally,
+        } => {
+            node(out, "Try", *span)?;
+            if let Some(finally) = finally {
+                leave_two(stack, Show::Word("Finally"), Show::Block(finally))?;
+            }
+            handled(out, stack, block, catch)
+        }
+        other => loops(out, stack, other),
+    }
+}
+
+/// A loop (ECMA-262, 6th edition, 13.7).
+fn loops<'a, W: Write>(
+    out: &mut W,
+    stack: &mut Stack<'a>,
+    statement: &'a Statement,
+) -> io::Result<()> {
+    match statement {
         Statement::DoWhile { span, body, test } => {
             node(out, "DoWhile", *span)?;
             leave_two(stack, Show::Under(body), Show::Expression(test))
@@ -138,22 +164,6 @@ fn with_statements<'a, W: Write>(
             node(out, "ForOf", *span)?;
             leave_two(stack, Show::Expression(subject), Show::Under(body))?;
             for_target(out, stack, target)
-        }
-        Statement::Labelled { span, label, body } => {
-            node(out, "Labelled", *span)?;
-            leave_two(stack, Show::Identifier(label), Show::Under(body))
-        }
-        Statement::Try {
-            span,
-            block,
-            catch,
-            finally,
-        } => {
-            node(out, "Try", *span)?;
-            if let Some(finally) = finally {
-                leave_two(stack, Show::Word("Finally"), Show::Block(finally))?;
-            }
-            handled(out, stack, block, catch)
         }
         _ => Ok(()),
     }
