@@ -1,10 +1,9 @@
 -- What stands one construct deeper.
 use Rattle.std.proofs.Common.{◌≡◌, ℕ, zero, suc, ◌-◌, refl, arith}
 use Rattle.es6_ast.specs.Grammar.{Flags}
-use Rattle.es6_reading.specs.Parser.{Input, Stand, Depth, fails}
+use Rattle.es6_reading.specs.Parser.{Input, Stand}
 use Rattle.es6_reading.specs.Words.{begins_expression, begins_unary}
-use Rattle.es6_reading.specs.Parts.{block, binding, one_part, initialized, one_object_part, one_member}
-use Rattle.es6_reading.specs.Expressions.{Among, Heritage, Callee, sequence, assignment, unary, power, chain, one_property, expression_at_limit, operand_at_limit}
+use Rattle.es6_reading.specs.Expressions.{Among, Heritage, Callee, sequence, assignment, unary, power, chain, expression_at_limit, operand_at_limit}
 use Rattle.es6_reading.specs.Statements.{statement, statement_at_limit}
 use Rattle.es6_reading.specs.Modules.{readers}
 use Rattle.es6_cursor.specs.Readers.{inner}

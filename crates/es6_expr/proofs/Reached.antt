@@ -1,11 +1,10 @@
 -- A fault stands at a token that was reached, or at the end, and says what stands there.
 use Rattle.std.proofs.Common.{◌≡◌, ℕ, suc, true, List, ◌∷◌, [], ◌++◌, drop, map, refl, ap, subst}
 use Rattle.es6_lexer.specs.declared.token.Token.{Token}
-use Rattle.es6_ast.specs.declared.tree.Statement.{Statement}
 use Rattle.es6_ast.specs.Tokens.{Filled, read}
 use Rattle.es6_ast.specs.Grammar.{Flags}
 use Rattle.es6_reading.specs.Parser as p
-use Rattle.es6_reading.specs.Parser.{Input, Outcome, Stop, Fault, Reading, Listed}
+use Rattle.es6_reading.specs.Parser.{Input, Outcome, Stop, Fault, Listed}
 use Rattle.es6_reading.specs.Expressions.{sequence}
 use Rattle.es6_reading.specs.Statements.{statement}
 use Rattle.es6_reading.specs.Modules.{readers}

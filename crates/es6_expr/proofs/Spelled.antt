@@ -16,14 +16,12 @@ use Rattle.es6_reading.specs.Modules.{readers}
 use Rattle.es6_reading.proofs.Posts.{Holds, of_took}
 use Rattle.es6_reading.proofs.Derived.{ReadWhole, StatementIn}
 use Rattle.es6_reading.proofs.Soundness.{sound-readers}
-use Rattle.es6_reading.proofs.Follows.{plus, semi, SameHead, same, Near, near_end, near_same, Dead, MayInsert, before_line, after_do_while, Gaps, stop, keep, insert, Followed}
+use Rattle.es6_reading.proofs.Follows.{plus, semi, same, Near, near_end, near_same, Dead, MayInsert, before_line, after_do_while, Gaps, stop, keep, insert, Followed}
 use Rattle.es6_reading.proofs.FollowChoices.{never-took}
 use Rattle.es6_reading.proofs.Insertion.{plain_readers, readers-follow}
 use Rattle.es6_reading.proofs.Exactly.{Exactly, exactly}
 use Rattle.es6_reading.proofs.CompleteTokens.{Closes}
 use Rattle.es6_reading.proofs.CompleteLevels.{reading, sequence_level}
-use Rattle.es6_reading.proofs.CompleteClaims.{Claim}
-use Rattle.es6_reading.proofs.CompleteStatements.{StatementClaim}
 use Rattle.es6_reading.proofs.Completeness.{expression-read, listed-read}
 use Rattle.es6_cursor.specs.Readers.{inner, turns}
 

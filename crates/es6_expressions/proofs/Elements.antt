@@ -6,16 +6,14 @@ use Rattle.es6_ast.specs.declared.tree.Element.{Element}
 use Rattle.es6_ast.specs.declared.tree.Element.TheVariants.{Hole, Present}
 use Rattle.es6_ast.specs.Tokens.{Filled}
 use Rattle.es6_ast.specs.Grammar.{Flags}
-use Rattle.es6_reading.specs.Parser.{Input, Inner, Outcome, Stop, Endless, Took, Fault, Parser, after, returns, on, take_as, mark, next_mark}
+use Rattle.es6_reading.specs.Parser.{Input, Inner, Outcome, Stop, Endless, Took, Fault, after, returns, on, take_as, mark, next_mark}
 use Rattle.es6_reading.specs.Expressions.{Listing, with_element, argument, elements}
 use Rattle.es6_cursor.specs.Readers.{turns}
 use Rattle.es6_cursor.specs.Takes.{Takes}
 use Rattle.es6_cursor.proofs.Choices.{on_mark, off_mark}
 use Rattle.es6_cursor.proofs.Loops.{turn, then}
 use Rattle.es6_expressions.specs.Lists.{before_listing}
-
-halts : {A B : Type 0} {o : Outcome A} (q : A → Parser B) {stop : Stop} {ts : List Filled} → o ≡ Fault stop ts → after o q ≡ Fault stop ts
-halts q read = ap (λ o. after o q) read
+use Rattle.es6_expressions.proofs.Follows.{halts}
 
 elements_turn : (i : Inner) (f : Flags) (n : ℕ) (c : Input) → n < turns → elements i f (turns - n) c
     ≡ on (mark marks.RightBracket) (λ _. returns (record { elements = []; ends_in_comma = false })) (on (mark marks.Comma) (λ _ d. after (elements i f (turns - (n + 1)) d) (λ l. returns (with_element Hole l)))

@@ -25,6 +25,10 @@ pub after_after : {A B C : Type 0} (o : Outcome A) (p : A → Parser B) (k : B �
 after_after (Took x c) p k = refl
 after_after (Fault stop ts) p k = refl
 
+pub after_same : {A B : Type 0} (o : Outcome A) (p q : A → Parser B) → ((x : A) (c : Input) → p x c ≡ q x c) → after o p ≡ after o q
+after_same (Took x c) p q h = h x c
+after_same (Fault stop ts) p q h = refl
+
 module _ {A B : Type 0} (k : A → Parser B) where
   pub after_choice : (b : Bool) (p q : Parser A) (p' q' : Parser B) (c : Input) → p' c ≡ after (p c) k → q' c ≡ after (q c) k → choose b p' q' c ≡ after (choose b p q c) k
   after_choice true p q p' q' c f g = f

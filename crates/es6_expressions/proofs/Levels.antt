@@ -3,7 +3,7 @@ use Rattle.std.proofs.Common.{◌≡◌, ℕ, zero, suc, ◌+◌, ◌-◌, ◌<�
 use Rattle.std.specs.Prelude.{◌==◌}
 use Rattle.es6_ast.specs.declared.operators.BinaryOperator.{BinaryOperator}
 use Rattle.es6_ast.specs.declared.operators.BinaryOperator.TheVariants as binary
-use Rattle.es6_ast.specs.declared.tree.Operand.{Operand, roll-Operand}
+use Rattle.es6_ast.specs.declared.tree.Operand.{roll-Operand}
 use Rattle.es6_ast.specs.Tokens.{Filled, begin_of}
 use Rattle.es6_ast.specs.Grammar.{Flags, binary_kind, binary_level, is_in}
 use Rattle.es6_reading.specs.Parser.{Input, Inner, Stop, Parser, Outcome, Took, Fault, Reading, after, returns, made}
@@ -12,15 +12,8 @@ use Rattle.es6_reading.specs.Expressions.{Role, Leading, Among, power, binary_fr
 use Rattle.es6_cursor.specs.Takes.{known_as, next_binary, passed, TakesAs, unless_in}
 use Rattle.es6_cursor.proofs.Choices.{on_as, off_as}
 use Rattle.es6_expressions.specs.declared.binary.Pending.{Pending}
+use Rattle.es6_expressions.proofs.Follows.{after_after, after_same}
 use Rattle.es6_expressions.specs.Levels.{climb, operand_after, with_operand, closed, completed, level_of, resumed, top, IsRising, standing, IsSilent}
-
-after_after : {A B C : Type 0} (o : Outcome A) (p : A → Parser B) (q : B → Parser C) → after (after o p) q ≡ after o (λ x c. after (p x c) q)
-after_after (Took x c) p q = refl
-after_after (Fault stop ts) p q = refl
-
-after_same : {A B : Type 0} (o : Outcome A) (p q : A → Parser B) → ((x : A) (c : Input) → p x c ≡ q x c) → after o p ≡ after o q
-after_same (Took x c) p q h = h x c
-after_same (Fault stop ts) p q h = refl
 
 after_returns : {A : Type 0} (o : Outcome A) → after o (λ x. returns x) ≡ o
 after_returns (Took x c) = refl

@@ -8,9 +8,9 @@ use Rattle.es6_ast.specs.declared.tree.Link.TheVariants as link
 use Rattle.es6_ast.specs.declared.tree.Template.{Template}
 use Rattle.es6_ast.specs.Tokens.{Filled, begin_of}
 use Rattle.es6_ast.specs.Grammar.{Flags}
-use Rattle.es6_reading.specs.Parser.{Input, Inner, Stop, Endless, Outcome, Took, Fault, Parser, Reading, after, returns, ◌>>=◌, on, mark, word, choose, on_group}
+use Rattle.es6_reading.specs.Parser.{Input, Inner, Stop, Endless, Outcome, Took, Fault, Parser, after, returns, ◌>>=◌, on, mark, word, choose, on_group}
 use Rattle.es6_reading.specs.Parts.{function_after_word, class_after_word}
-use Rattle.es6_reading.specs.Expressions.{Role, left, composed, grouped, bracketed, links, member_link, index_link, call_link}
+use Rattle.es6_reading.specs.Expressions.{Role, left, composed, links, member_link, index_link, call_link}
 use Rattle.es6_cursor.specs.Readers.{turns, before}
 use Rattle.es6_cursor.proofs.Loops.{turn, no_turn, one_before, ended, then}
 use Rattle.es6_expressions.specs.Links.{one_template, held_or_bracketed, held_or_template, one_link_tail, one_link}

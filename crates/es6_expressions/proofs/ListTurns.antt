@@ -1,12 +1,11 @@
 -- One turn of each list.
 use Rattle.std.proofs.Common.{◌≡◌, true, false, ℕ, ◌+◌, ◌-◌, ◌<◌, List, [], ◌∷◌, ◌++◌, ap, ◌∙◌}
 use Rattle.es6_lexer.specs.declared.token.Punctuator.TheVariants as marks
-use Rattle.es6_ast.specs.declared.tree.Argument.{Argument}
 use Rattle.es6_ast.specs.declared.tree.Expression.{Expression}
 use Rattle.es6_ast.specs.declared.tree.Property.{Property}
 use Rattle.es6_ast.specs.Grammar.{Flags}
 use Rattle.es6_reading.specs.Parser.{Input, Inner, Reading, Took, after, returns, on, take_as, mark, next_mark}
-use Rattle.es6_reading.specs.Expressions.{argument, more_arguments, properties, parts, assignment}
+use Rattle.es6_reading.specs.Expressions.{properties, parts, assignment}
 use Rattle.es6_cursor.specs.Readers.{turns, before}
 use Rattle.es6_cursor.specs.Takes.{Takes}
 use Rattle.es6_cursor.proofs.Choices.{on_mark, off_mark}

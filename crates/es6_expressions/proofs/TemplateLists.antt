@@ -2,18 +2,18 @@
 use Rattle.std.proofs.Common.{◌≡◌, ℕ, ◌+◌, ◌-◌, ◌<◌, ◌≤◌, true, false, List, [], ◌∷◌, ◌++◌, Some, None, ap, ◌∙◌, Bool, refl, sym}
 use Rattle.es6_ast.specs.declared.tree.Stretch.{Stretch}
 use Rattle.es6_ast.specs.declared.tree.TemplatePart.{TemplatePart}
-use Rattle.es6_ast.specs.Tokens.{Filled, begin_of}
+use Rattle.es6_ast.specs.Tokens.{Filled}
 use Rattle.es6_ast.specs.Grammar.{Flags, with_in}
-use Rattle.es6_reading.specs.Parser.{Input, Inner, Stop, Endless, Took, Fault, Parser, Reading, after, returns, on, take_as, Listed, mark, next_mark}
+use Rattle.es6_reading.specs.Parser.{Input, Inner, Stop, Endless, Took, Fault, Parser, Reading, after, returns, on, take_as}
 use Rattle.es6_reading.specs.Words.{stretch_at}
 use Rattle.es6_reading.specs.Parts.{template_part, template_parts}
 use Rattle.es6_cursor.specs.Readers.{turns, before}
 use Rattle.es6_cursor.specs.Reads.{Halts, stop_of}
 use Rattle.es6_cursor.specs.declared.halt.Halt.{Halt}
 use Rattle.es6_cursor.specs.declared.halt.Halt.TheVariants.{Stopped, OutOfMemory}
-use Rattle.es6_cursor.specs.Takes.{TakesAs, Takes}
-use Rattle.es6_cursor.proofs.Choices.{on_as, off_as, on_mark, off_mark}
-use Rattle.es6_cursor.proofs.Loops.{turn, no_turn, one_before, then, ended}
+use Rattle.es6_cursor.specs.Takes.{TakesAs}
+use Rattle.es6_cursor.proofs.Choices.{on_as, off_as}
+use Rattle.es6_cursor.proofs.Loops.{turn, no_turn, one_before, then}
 use Rattle.es6_expressions.proofs.Follows.{halts}
 
 -- after a value: the last stretch, or another one and what comes of the rest

@@ -1,7 +1,6 @@
 -- How operators of ten levels (ECMA-262, 6th edition, 12.6 to 12.12) are read with a stack of those that wait for their right
 -- operand. Nobody has to believe this: the reader's contract is over the model.
 use Rattle.std.specs.Prelude.{◌≡◌, ℕ, zero, suc, ◌+◌, ◌-◌, ◌<◌, ◌≤◌, List, [], ◌∷◌, ◌++◌, Option, None, Some}
-use Rattle.es_text.specs.declared.Span.{Span}
 use Rattle.es6_ast.specs.declared.operators.BinaryOperator.{BinaryOperator}
 use Rattle.es6_ast.specs.declared.tree.Operand.{Operand, roll-Operand}
 use Rattle.es6_ast.specs.Grammar.{Flags, binary_level}

@@ -5,16 +5,14 @@ use Rattle.es6_ast.specs.Tokens.{Filled}
 use Rattle.es6_ast.specs.Grammar.{Flags}
 use Rattle.es6_ast.specs.declared.tree.Condition.{Condition}
 use Rattle.es6_ast.specs.declared.tree.Statement.{Statement}
-use Rattle.es6_reading.specs.Parser.{Input, Inner, Outcome, Stop, Took, Fault, Endless, Under, Parser, after, returns, on, if_next, word, next_is, next_word}
+use Rattle.es6_reading.specs.Parser.{Input, Inner, Outcome, Stop, Took, Fault, Endless, Under, after, returns, on, if_next, word, next_is, next_word}
 use Rattle.es6_reading.specs.Statements.{condition, otherwise, with_condition, Otherwise}
 use Rattle.es6_cursor.specs.Takes.{Takes}
 use Rattle.es6_cursor.specs.Readers.{turns}
 use Rattle.es6_cursor.proofs.Choices.{on_word, off_word, chose, passed_by}
 use Rattle.es6_cursor.proofs.Loops.{turn, then}
+use Rattle.es6_expressions.proofs.Follows.{halts}
 use Rattle.es6_statements.specs.Variables.{before_more}
-
-halts : {A B : Type 0} {o : Outcome A} (q : A → Parser B) {stop : Stop} {ts : List Filled} → o ≡ Fault stop ts → after o q ≡ Fault stop ts
-halts q read = ap (λ o. after o q) read
 
 otherwise_turn : (i : Inner) (f : Flags) (n : ℕ) (c : Input) → n < turns → otherwise i f (turns - n) c
     ≡ on (word (codes "else")) (λ _. if_next (next_word (codes "if")) (λ d. after (condition i f d) (λ x e. after (otherwise i f (turns - (n + 1)) e) (λ r. returns (with_condition x r)))) (λ d. after (i.statement f Under d) (λ s. returns (record { more = []; last = Some s }))))

@@ -6,15 +6,13 @@ use Rattle.es6_ast.specs.Grammar.{Flags}
 use Rattle.es6_ast.specs.declared.tree.Case.{Case}
 use Rattle.es6_ast.specs.declared.tree.Statement.{Statement}
 use Rattle.es6_lexer.specs.declared.token.Punctuator.TheVariants as marks
-use Rattle.es6_reading.specs.Parser.{Input, Inner, Outcome, Stop, Took, Fault, Endless, Listed, Parser, after, returns, refused, on, choose, if_next, mark, word, next_is, next_mark, next_word}
+use Rattle.es6_reading.specs.Parser.{Input, Inner, Stop, Took, Fault, Endless, Listed, Parser, after, returns, refused, on, choose, if_next, mark, word, next_is, next_mark, next_word}
 use Rattle.es6_reading.specs.Statements.{ends_case, in_case, cases, case_clause, default_clause}
 use Rattle.es6_cursor.specs.Takes.{Takes}
 use Rattle.es6_cursor.specs.Readers.{turns, before}
 use Rattle.es6_cursor.proofs.Choices.{on_mark, off_mark, on_word, off_word, chose, passed_by}
 use Rattle.es6_cursor.proofs.Loops.{turn, one_before, then, ended}
-
-halts : {A B : Type 0} {o : Outcome A} (q : A → Parser B) {stop : Stop} {ts : List Filled} → o ≡ Fault stop ts → after o q ≡ Fault stop ts
-halts q read = ap (λ o. after o q) read
+use Rattle.es6_expressions.proofs.Follows.{halts}
 
 -- ## The statements of a clause
 

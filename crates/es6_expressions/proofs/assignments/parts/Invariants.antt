@@ -1,7 +1,7 @@
 use Rattle.std.proofs.Common.{◌≡◌, ◌-◌}
 use Rattle.es6_reading.specs.Expressions.{parts}
 use Rattle.es6_cursor.specs.Readers.{inner, turns, before}
-use Rattle.es6_cursor.specs.Settings.{flags_of, role_of}
+use Rattle.es6_cursor.specs.Settings.{flags_of}
 use Rattle.es6_expressions.proofs.assignments.parts.Given as goal
 
 abbrev pub invariant-loop-turn : goal.invariant-loop-turn

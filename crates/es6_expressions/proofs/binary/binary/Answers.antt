@@ -5,9 +5,6 @@ use Rattle.es6_cursor.specs.Settings.{flags_of, role_of}
 use Rattle.es6_cursor.proofs.Rooms.{fuel_some}
 use Rattle.es6_expressions.specs.Levels.{level_of, resumed, standing, top}
 use Rattle.es6_expressions.proofs.Levels.{begins_with, below_twelve, finishes, known, none_rising, reads_on, silent}
-use Rattle.es6_cursor.proofs.Loops.{turns_is}
-use Rattle.es6_expressions.proofs.Elements.{elements_end}
-use Rattle.es6_expressions.proofs.ListTurns.{properties_end}
 use Rattle.es6_expressions.proofs.binary.binary.Goals as goal
 
 pub loop-turn-init : goal.loop-turn-init

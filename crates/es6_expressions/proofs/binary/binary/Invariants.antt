@@ -1,7 +1,7 @@
 use Rattle.std.proofs.Common.{◌≡◌, ◌-◌}
 use Rattle.es6_reading.specs.Expressions.{Leading, binary_from}
 use Rattle.es6_expressions.specs.Levels.{IsRising, operand_after, resumed, top}
-use Rattle.es6_cursor.specs.Readers.{inner, turns, before}
+use Rattle.es6_cursor.specs.Readers.{inner}
 use Rattle.es6_cursor.specs.Settings.{flags_of, role_of}
 use Rattle.es6_expressions.proofs.binary.binary.Given as goal
 

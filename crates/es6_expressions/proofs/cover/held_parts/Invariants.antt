@@ -1,7 +1,7 @@
 use Rattle.std.proofs.Common.{◌≡◌, ◌-◌}
 use Rattle.es6_reading.specs.Expressions.{held_parts}
 use Rattle.es6_expressions.specs.Lists.{before_held}
-use Rattle.es6_cursor.specs.Readers.{inner, turns, before}
+use Rattle.es6_cursor.specs.Readers.{inner, turns}
 use Rattle.es6_cursor.specs.Settings.{flags_of, role_of}
 use Rattle.es6_expressions.proofs.cover.held_parts.Given as goal
 

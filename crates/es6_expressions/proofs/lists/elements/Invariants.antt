@@ -1,8 +1,8 @@
 use Rattle.std.proofs.Common.{◌≡◌, ◌-◌}
 use Rattle.es6_reading.specs.Expressions.{elements}
 use Rattle.es6_expressions.specs.Lists.{before_listing}
-use Rattle.es6_cursor.specs.Readers.{inner, turns, before}
-use Rattle.es6_cursor.specs.Settings.{flags_of, role_of}
+use Rattle.es6_cursor.specs.Readers.{inner, turns}
+use Rattle.es6_cursor.specs.Settings.{flags_of}
 use Rattle.es6_expressions.proofs.lists.elements.Given as goal
 
 abbrev pub invariant-loop-turn : goal.invariant-loop-turn

@@ -1,7 +1,7 @@
 use Rattle.std.proofs.Common.{◌≡◌, ◌-◌, true}
 use Rattle.es6_reading.specs.Statements.{otherwise}
 use Rattle.es6_statements.specs.Variables.{before_more}
-use Rattle.es6_cursor.specs.Readers.{inner, turns, before}
+use Rattle.es6_cursor.specs.Readers.{inner, turns}
 use Rattle.es6_cursor.specs.Settings.{flags_of}
 use Rattle.es6_statements.proofs.conditions.otherwise.Given as goal
 
