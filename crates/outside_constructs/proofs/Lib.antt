@@ -2,5 +2,4 @@ pub mod First
 pub mod ArgumentNames
 pub mod Entered
 pub mod Outcomes
-pub mod Splits
 pub mod Weights

@@ -4,9 +4,9 @@ ghost use Rattle.std.specs.Prelude.{◌≡◌, ◌+◌, ◌*◌, ◌<◌, OnOk};
 ghost use Rattle.outside_constructs.specs.Left.{done, met, outcome, weight};
 ghost use Rattle.outside_constructs.specs.Works.{weight_of};
 
-use crate::rest::Rest;
 use crate::walk::Walk;
 use crate::work::Work;
+use borrowed_parts::Rest;
 use es6_ast::Case;
 use sqlite_items::Items;
 use std::alloc::AllocError;
@@ -29,7 +29,7 @@ impl<'a> Walk<'a> {
         ensures outcome { OnOk result (outcome self.new ≡ done (Work.CaseTests cases.entry) self.old) }
         ensures falls { OnOk result (weight self.new < weight_of (Work.CaseTests cases.entry) + weight self.old) }
     {
-        let Some((first, rest)) = cases.split() else {
+        let Some((first, rest)) = cases.split_first() else {
             return Ok(());
         };
         self.two(Work::Optional(&first.test), Work::CaseTests(rest))
@@ -39,7 +39,7 @@ impl<'a> Walk<'a> {
         ensures outcome { OnOk result (outcome self.new ≡ done (Work.CaseBodies cases.entry) self.old) }
         ensures falls { OnOk result (weight self.new < weight_of (Work.CaseBodies cases.entry) + weight self.old) }
     {
-        let Some((first, rest)) = cases.split() else {
+        let Some((first, rest)) = cases.split_first() else {
             return Ok(());
         };
         self.two(

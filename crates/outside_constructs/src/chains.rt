@@ -8,9 +8,9 @@ ghost use Rattle.std.specs.Prelude.{◌≡◌, ◌+◌, ◌*◌, ◌<◌, OnOk};
 ghost use Rattle.outside_constructs.specs.Left.{done, met, outcome, weight};
 ghost use Rattle.outside_constructs.specs.Works.{weight_of};
 
-use crate::rest::Rest;
 use crate::walk::Walk;
 use crate::work::Work;
+use borrowed_parts::Rest;
 use es6_ast::{Expression, Link};
 use sqlite_items::{Boxed, Items};
 use std::alloc::AllocError;
@@ -68,7 +68,7 @@ impl<'a> Walk<'a> {
         ensures outcome { OnOk result (outcome self.new ≡ done (Work.Links links.entry) self.old) }
         ensures falls { OnOk result (weight self.new < weight_of (Work.Links links.entry) + weight self.old) }
     {
-        let Some((first, rest)) = links.split() else {
+        let Some((first, rest)) = links.split_first() else {
             return Ok(());
         };
         self.one(Work::Links(rest))?;

@@ -7,9 +7,9 @@ ghost use Rattle.es6_ast.specs.Outside.{expression_found};
 ghost use Rattle.es6_sizes.specs.Sizes.{argument_size, element_size, expression_size, template_size};
 ghost use Rattle.module_scopes.specs.Parts.{argument_found, element_found, template_found};
 
-use crate::rest::Rest;
 use crate::walk::Walk;
 use crate::work::Work;
+use borrowed_parts::Rest;
 use es6_ast::{Argument, Element, Expression, Operand, Template, TemplatePart};
 use sqlite_items::Boxed;
 use std::alloc::AllocError;
@@ -142,7 +142,7 @@ impl<'a> Walk<'a> {
         ensures outcome { OnOk result (outcome self.new ≡ done (Work.Expressions expressions.entry) self.old) }
         ensures falls { OnOk result (weight self.new < weight_of (Work.Expressions expressions.entry) + weight self.old) }
     {
-        let Some((first, rest)) = expressions.split() else {
+        let Some((first, rest)) = expressions.split_first() else {
             return Ok(());
         };
         self.two(Work::Whole(first), Work::Expressions(rest))
@@ -152,7 +152,7 @@ impl<'a> Walk<'a> {
         ensures outcome { OnOk result (outcome self.new ≡ done (Work.Elements elements.entry) self.old) }
         ensures falls { OnOk result (weight self.new < weight_of (Work.Elements elements.entry) + weight self.old) }
     {
-        let Some((first, rest)) = elements.split() else {
+        let Some((first, rest)) = elements.split_first() else {
             return Ok(());
         };
         self.one(Work::Elements(rest))?;
@@ -173,7 +173,7 @@ impl<'a> Walk<'a> {
         ensures outcome { OnOk result (outcome self.new ≡ done (Work.Arguments arguments.entry) self.old) }
         ensures falls { OnOk result (weight self.new < weight_of (Work.Arguments arguments.entry) + weight self.old) }
     {
-        let Some((first, rest)) = arguments.split() else {
+        let Some((first, rest)) = arguments.split_first() else {
             return Ok(());
         };
         self.one(Work::Arguments(rest))?;
@@ -194,7 +194,7 @@ impl<'a> Walk<'a> {
         ensures outcome { OnOk result (outcome self.new ≡ done (Work.Operands operands.entry) self.old) }
         ensures falls { OnOk result (weight self.new < weight_of (Work.Operands operands.entry) + weight self.old) }
     {
-        let Some((first, rest)) = operands.split() else {
+        let Some((first, rest)) = operands.split_first() else {
             return Ok(());
         };
         self.two(Work::Whole(&first.value), Work::Operands(rest))
@@ -212,7 +212,7 @@ impl<'a> Walk<'a> {
         ensures outcome { OnOk result (outcome self.new ≡ done (Work.TemplateParts parts.entry) self.old) }
         ensures falls { OnOk result (weight self.new < weight_of (Work.TemplateParts parts.entry) + weight self.old) }
     {
-        let Some((first, rest)) = parts.split() else {
+        let Some((first, rest)) = parts.split_first() else {
             return Ok(());
         };
         self.two(Work::Whole(&first.value), Work::TemplateParts(rest))

@@ -8,9 +8,9 @@ ghost use Rattle.es6_ast.specs.Findings.{joined};
 ghost use Rattle.es6_sizes.specs.Sizes.{arrow_size, block_size, class_size, parameter_size};
 ghost use Rattle.module_scopes.specs.Parts.{arrow_found, block_found, parameter_found};
 
-use crate::rest::Rest;
 use crate::walk::Walk;
 use crate::work::Work;
+use borrowed_parts::Rest;
 use es6_ast::{
     Arrow, ArrowBody, Block, Class, ClassMember, Expression, Function, Parameter, Statement,
 };
@@ -78,7 +78,7 @@ impl<'a> Walk<'a> {
         ensures outcome { OnOk result (outcome self.new ≡ done (Work.Parameters parameters.entry) self.old) }
         ensures falls { OnOk result (weight self.new < weight_of (Work.Parameters parameters.entry) + weight self.old) }
     {
-        let Some((first, rest)) = parameters.split() else {
+        let Some((first, rest)) = parameters.split_first() else {
             return Ok(());
         };
         self.one(Work::Parameters(rest))?;
@@ -130,7 +130,7 @@ impl<'a> Walk<'a> {
         ensures outcome { OnOk result (outcome self.new ≡ done (Work.Members members.entry) self.old) }
         ensures falls { OnOk result (weight self.new < weight_of (Work.Members members.entry) + weight self.old) }
     {
-        let Some((first, rest)) = members.split() else {
+        let Some((first, rest)) = members.split_first() else {
             return Ok(());
         };
         self.one(Work::Members(rest))?;

@@ -11,7 +11,6 @@ mod items;
 mod names;
 mod objects;
 mod outside;
-mod rest;
 mod scopes;
 mod stack;
 mod statements;

@@ -9,9 +9,9 @@ ghost use Rattle.es6_ast.specs.Outside.{is_proto};
 ghost use Rattle.es6_sizes.specs.Sizes.{method_size, property_size};
 ghost use Rattle.module_scopes.specs.Parts.{method_found, property_found};
 
-use crate::rest::Rest;
 use crate::walk::Walk;
 use crate::work::Work;
+use borrowed_parts::Rest;
 use es6_ast::{Key, Method, Property};
 use shared_text::Units;
 use std::alloc::AllocError;
@@ -54,7 +54,7 @@ impl<'a> Walk<'a> {
         ensures outcome { OnOk result (outcome self.new ≡ done (Work.Properties properties.entry) self.old) }
         ensures falls { OnOk result (weight self.new < weight_of (Work.Properties properties.entry) + weight self.old) }
     {
-        let Some((first, rest)) = properties.split() else {
+        let Some((first, rest)) = properties.split_first() else {
             return Ok(());
         };
         self.one(Work::Properties(rest))?;

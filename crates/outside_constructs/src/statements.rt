@@ -10,9 +10,9 @@ ghost use Rattle.std.specs.Prelude.{◌++◌, map};
 ghost use Rattle.es6_sizes.specs.Sizes.{block_size, case_size, catch_size, expression_size, for_first_size, for_target_size, maybe_size, sizes, statement_size};
 ghost use Rattle.module_scopes.specs.Parts.{block_found, case_found, catch_found, for_first_found, for_target_found};
 
-use crate::rest::Rest;
 use crate::walk::Walk;
 use crate::work::Work;
+use borrowed_parts::Rest;
 use es6_ast::{Block, Case, Catch, Condition, Expression, ForFirst, ForTarget, Statement};
 use sqlite_items::{Boxed, Items};
 use std::alloc::AllocError;
@@ -90,7 +90,7 @@ impl<'a> Walk<'a> {
         ensures outcome { OnOk result (outcome self.new ≡ done (Work.Statements statements.entry) self.old) }
         ensures falls { OnOk result (weight self.new < weight_of (Work.Statements statements.entry) + weight self.old) }
     {
-        let Some((first, rest)) = statements.split() else {
+        let Some((first, rest)) = statements.split_first() else {
             return Ok(());
         };
         self.one(Work::Statements(rest))?;
@@ -114,7 +114,7 @@ impl<'a> Walk<'a> {
         ensures outcome { OnOk result (outcome self.new ≡ done (Work.Conditions conditions.entry) self.old) }
         ensures falls { OnOk result (weight self.new < weight_of (Work.Conditions conditions.entry) + weight self.old) }
     {
-        let Some((first, rest)) = conditions.split() else {
+        let Some((first, rest)) = conditions.split_first() else {
             return Ok(());
         };
         self.three(

@@ -9,9 +9,9 @@ ghost use Rattle.es6_sizes.specs.Sizes.{array_part_size, object_part_size};
 ghost use Rattle.module_scopes.specs.Parts.{array_part_found, object_part_found};
 ghost use Rattle.outside_constructs.specs.Left.{meets};
 
-use crate::rest::Rest;
 use crate::walk::Walk;
 use crate::work::Work;
+use borrowed_parts::Rest;
 use es6_ast::{ArrayPart, Expression, ObjectPart, Part, Pattern};
 use std::alloc::AllocError;
 
@@ -44,7 +44,7 @@ impl<'a> Walk<'a> {
         ensures outcome { OnOk result (outcome self.new ≡ done (Work.AssignedElements parts.entry) self.old) }
         ensures falls { OnOk result (weight self.new < weight_of (Work.AssignedElements parts.entry) + weight self.old) }
     {
-        let Some((first, rest)) = parts.split() else {
+        let Some((first, rest)) = parts.split_first() else {
             return Ok(());
         };
         self.one(Work::AssignedElements(rest))?;
@@ -71,7 +71,7 @@ impl<'a> Walk<'a> {
         ensures outcome { OnOk result (outcome self.new ≡ done (Work.AssignedProperties parts.entry) self.old) }
         ensures falls { OnOk result (weight self.new < weight_of (Work.AssignedProperties parts.entry) + weight self.old) }
     {
-        let Some((first, rest)) = parts.split() else {
+        let Some((first, rest)) = parts.split_first() else {
             return Ok(());
         };
         self.one(Work::AssignedProperties(rest))?;
@@ -129,7 +129,7 @@ impl<'a> Walk<'a> {
         ensures outcome { OnOk result (outcome self.new ≡ done (Work.BoundElements parts.entry) self.old) }
         ensures falls { OnOk result (weight self.new < weight_of (Work.BoundElements parts.entry) + weight self.old) }
     {
-        let Some((first, rest)) = parts.split() else {
+        let Some((first, rest)) = parts.split_first() else {
             return Ok(());
         };
         self.one(Work::BoundElements(rest))?;
@@ -153,7 +153,7 @@ impl<'a> Walk<'a> {
         ensures outcome { OnOk result (outcome self.new ≡ done (Work.BoundProperties parts.entry) self.old) }
         ensures falls { OnOk result (weight self.new < weight_of (Work.BoundProperties parts.entry) + weight self.old) }
     {
-        let Some((first, rest)) = parts.split() else {
+        let Some((first, rest)) = parts.split_first() else {
             return Ok(());
         };
         self.one(Work::BoundProperties(rest))?;
@@ -181,7 +181,7 @@ impl<'a> Walk<'a> {
         ensures outcome { OnOk result (outcome self.new ≡ done (Work.Parts parts.entry) self.old) }
         ensures falls { OnOk result (weight self.new < weight_of (Work.Parts parts.entry) + weight self.old) }
     {
-        let Some((first, rest)) = parts.split() else {
+        let Some((first, rest)) = parts.split_first() else {
             return Ok(());
         };
         self.three(

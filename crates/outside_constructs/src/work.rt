@@ -1,6 +1,6 @@
 //! What is left to do of a walk through a module.
 
-use crate::rest::Rest;
+use borrowed_parts::Rest;
 use es6_ast::{
     Argument, ArrayPart, ArrowBody, Block, Case, Catch, ClassMember, Condition, Element,
     Expression, ForFirst, ForTarget, Function, Key, Link, ObjectPart, Operand, Parameter, Part,
