@@ -5,13 +5,13 @@ ghost use Rattle.std.specs.Option.{option_map};
 ghost use Rattle.es6_ast.specs.Findings.{joined, maybe, when};
 ghost use Rattle.es6_ast.specs.Early.{argument_found, assigned_by, deleted, element_found, expression_found, link_found, no_simple, operand_found, pattern_found, property_found, restricted};
 ghost use Rattle.es6_sizes.specs.Sizes.{argument_size, element_size, expression_size, link_size, maybe_size, operand_size, pattern_size, property_size, sizes};
-ghost use Rattle.early_errors.specs.Parts.{expression_left};
-ghost use Rattle.early_errors.specs.Tasks.{Splits, inside};
-ghost use Rattle.early_errors.specs.Works.{state};
+ghost use Rattle.early_walk.specs.Parts.{expression_left};
+ghost use Rattle.early_walk.specs.Tasks.{Splits, inside};
+ghost use Rattle.early_walk.specs.Works.{state};
 
-use crate::place::Place;
-use crate::walk::Walk;
-use crate::{assignments, functions};
+use crate::assignments;
+use early_statements::functions;
+use early_walk::{Place, Walk};
 use es_text::Span;
 use es6_ast::{
     Argument, AssignOperator, Element, Expression, Link, Operand, Pattern, Property, UnaryOperator,

@@ -3,22 +3,10 @@
 #![tactic(auto)]
 
 mod assignments;
-mod bindings;
 mod expressions;
-mod functions;
-mod items;
-mod left;
 mod lists;
-mod met;
 mod module;
-mod place;
-mod rules;
-mod seen;
-mod statements;
 mod steps;
-mod vars;
-mod walk;
-mod work;
 
 pub use early_findings::Finding;
 pub use module::first_early;

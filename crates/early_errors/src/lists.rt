@@ -4,13 +4,12 @@ ghost use Rattle.std.specs.Prelude.{suc, map, OnOk};
 ghost use Rattle.es6_ast.specs.Findings.{joined};
 ghost use Rattle.es6_ast.specs.Early.{argument_found, element_found, link_found, property_found};
 ghost use Rattle.es6_sizes.specs.Sizes.{argument_size, element_size, link_size, property_size, sizes};
-ghost use Rattle.early_errors.specs.Parts.{arguments_left, elements_left, expressions_left, links_left, operands_left, properties_left, template_parts_left};
-ghost use Rattle.early_errors.specs.Tasks.{Splits, inside};
-ghost use Rattle.early_errors.specs.Works.{state};
+ghost use Rattle.early_walk.specs.Parts.{arguments_left, elements_left, expressions_left, links_left, operands_left, properties_left, template_parts_left};
+ghost use Rattle.early_walk.specs.Tasks.{Splits, inside};
+ghost use Rattle.early_walk.specs.Works.{state};
 
-use crate::functions;
-use crate::place::Place;
-use crate::walk::Walk;
+use early_statements::functions;
+use early_walk::{Place, Walk};
 use es6_ast::{Argument, Element, Expression, Link, Operand, Property, TemplatePart};
 use std::alloc::AllocError;
 

@@ -1,19 +1,17 @@
 //! The parts that are left, one at a time.
 
 ghost use Rattle.std.specs.Prelude.{OnOk};
-ghost use Rattle.early_errors.specs.Parts.{optional_block_left, optional_catch_left, optional_left, optional_statement_left};
-ghost use Rattle.early_errors.specs.Tasks.{Splits};
-ghost use Rattle.early_errors.specs.Works.{branch_task, leaf_task, state, task_of};
+ghost use Rattle.early_walk.specs.Parts.{optional_block_left, optional_catch_left, optional_left, optional_statement_left};
+ghost use Rattle.early_walk.specs.Tasks.{Splits};
+ghost use Rattle.early_walk.specs.Works.{branch_task, leaf_task, state, task_of};
 
 use crate::assignments::{assigned, assigned_array, assigned_object};
-use crate::bindings::{bound, bound_array, bound_object, parameters, variables};
 use crate::expressions::expression;
-use crate::functions::{body, function, members};
 use crate::lists::{arguments, elements, expressions, links, operands, properties, template_parts};
-use crate::place::Place;
-use crate::statements::{block, cases, catch, conditions, statement, statements};
-use crate::walk::Walk;
-use crate::work::{Branch, Leaf, Todo, Work};
+use early_statements::bindings::{bound, bound_array, bound_object, parameters, variables};
+use early_statements::functions::{body, function, members};
+use early_statements::statements::{block, cases, catch, conditions, statement, statements};
+use early_walk::{Branch, Leaf, Place, Todo, Walk, Work};
 use es6_ast::{Block, Catch, Expression, Statement};
 use sqlite_items::Boxed;
 use std::alloc::AllocError;

@@ -3,8 +3,8 @@ use Rattle.es6_ast.specs.declared.operators.AssignOperator.{AssignOperator}
 use Rattle.es6_ast.specs.declared.operators.AssignOperator.TheVariants as assign
 use Rattle.es6_ast.specs.Early.{Inside, TargetsFound, assigned_by, pattern_found}
 use Rattle.es6_sizes.specs.Sizes.{pattern_size}
-use Rattle.early_errors.specs.Tasks.{Splits, inside}
-use Rattle.early_errors.specs.Works.{state}
+use Rattle.early_walk.specs.Tasks.{Splits, inside}
+use Rattle.early_walk.specs.Works.{state}
 use Rattle.early_errors.proofs.assignments.assigned_by.Goals as goal
 
 by_other : (operator : AssignOperator) (found : TargetsFound) → ¬ operator ≡ assign.Assign → assigned_by operator found ≡ found.updated

@@ -1,6 +1,6 @@
 use Rattle.std.proofs.Common.{◌≡◌}
-use Rattle.early_errors.specs.Tasks.{outcome, weights}
-use Rattle.early_errors.specs.Works.{state}
+use Rattle.early_walk.specs.Tasks.{outcome, weights}
+use Rattle.early_walk.specs.Works.{state}
 use Rattle.early_errors.proofs.module.finish.Given as goal
 
 abbrev pub invariant-loop-todo : goal.invariant-loop-todo

@@ -2,8 +2,8 @@ use Rattle.std.proofs.Common.{◌≡◌, None, drop, map}
 use Rattle.es6_ast.specs.Findings.{joined}
 use Rattle.es6_ast.specs.Early.{item_found}
 use Rattle.early_findings.specs.Pairs.{least_with}
-use Rattle.early_errors.specs.Tasks.{Rests}
-use Rattle.early_errors.specs.Works.{state}
+use Rattle.early_walk.specs.Tasks.{Rests}
+use Rattle.early_walk.specs.Works.{state}
 use Rattle.early_errors.proofs.module.items_walked.Given as goal
 
 abbrev pub invariant-loop-item : goal.invariant-loop-item

@@ -1,4 +1,0 @@
-pub mod Late
-mod Layers
-pub mod Order
-mod Stacks
