@@ -1,4 +1,5 @@
-//! Reads the expressions and statements of modules (ECMA-262, 6th edition, 12 to 14, and for `**` the 7th edition, 12.6).
+//! Reads the expressions and statements of modules (ECMA-262, 6th edition, 12 to 14, and for `**` the 7th edition, 12.6), and
+//! refines expressions to patterns and to parameters (12.14.5, 14.2).
 #![tactic(auto)]
 
 mod fault;
@@ -8,6 +9,7 @@ mod parse;
 mod readers;
 mod statement_limit;
 
+pub use es6_refine::{RefineFault, refine_parameters, refine_pattern};
 pub use fault::{ParseFault, fault_of, place_of};
 pub use parse::{Context, parse_expression, parse_statement};
 pub use readers::{
