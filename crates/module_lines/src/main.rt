@@ -10,6 +10,7 @@ mod fault;
 mod goal;
 mod parts;
 
+use borrowed_parts::Rest;
 use early_errors::{Finding, first_early, first_outside};
 use es6_ast::Module;
 use es6_lexer::{Token, lex6};
@@ -19,7 +20,7 @@ use goal::Goal;
 use std::alloc::Global;
 use std::env;
 use std::io::{self, BufReader, BufWriter, Read, Write};
-use tree_lines::{List, Show, node, write_nodes};
+use tree_lines::{Show, node, write_nodes};
 
 /// The most bytes of a module.
 const LIMIT: usize = 4_194_304;
@@ -58,7 +59,7 @@ fn write_tree<W: Write>(
         return writeln!(out, "Module with {count} items");
     }
     node(out, "Module", module.span)?;
-    write_nodes(out, alloc, Show::Items(List::of(&module.items)))
+    write_nodes(out, alloc, Show::Items(Rest::of(&module.items)))
 }
 
 fn write_module<W: Write>(

@@ -1,13 +1,16 @@
 //! An expression or a statement by itself, and what an expression is refined to.
 
 use crate::fault::write_fault;
+use borrowed_parts::Rest;
 use es6_ast::Expression;
-use es6_expr::{Context, ParseFault, parse_expression, parse_statement};
+use es6_expr::{
+    Context, ParseFault, RefineFault, parse_expression, parse_statement, refine_parameters,
+    refine_pattern,
+};
 use es6_lexer::Token;
-use es6_refine::{RefineFault, refine_parameters, refine_pattern};
 use std::alloc::Global;
 use std::io::{self, Write};
-use tree_lines::{List, Show, write_nodes};
+use tree_lines::{Show, write_nodes};
 
 /// Outside functions and generators, where nothing is open yet.
 const OUTSIDE: Context = Context {
@@ -75,7 +78,7 @@ pub fn write_pattern<W: Write>(out: &mut W, alloc: Global, tokens: &[Token]) -> 
 pub fn write_parameters<W: Write>(out: &mut W, alloc: Global, tokens: &[Token]) -> io::Result<()> {
     match expression_of(alloc, tokens) {
         Ok((expression, _)) => match refine_parameters(alloc, expression) {
-            Ok(parameters) => write_nodes(out, alloc, Show::Parameters(List::of(&parameters))),
+            Ok(parameters) => write_nodes(out, alloc, Show::Parameters(Rest::of(&parameters))),
             Err(fault) => write_refusal(out, alloc, fault),
         },
         Err(fault) => write_fault(out, fault),

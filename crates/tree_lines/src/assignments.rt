@@ -1,7 +1,7 @@
 //! Conditional expressions, arrow functions, assignments, `yield` and sequences (ECMA-262, 6th edition, 12.13 to 12.15, 14.2, 14.4).
 
-use crate::list::List;
 use crate::show::{Show, Stack, leave, leave_two, node, node_with};
+use borrowed_parts::Rest;
 use es6_ast::{Arrow, ArrowBody, AssignOperator, Expression};
 use std::io::{self, Write};
 
@@ -29,7 +29,7 @@ fn arrow<'a, W: Write>(out: &mut W, stack: &mut Stack<'a>, arrow: &'a Arrow) -> 
         ArrowBody::ValueBody(value) => Show::Expression(value.get()),
         ArrowBody::BlockBody(block) => Show::Block(block),
     };
-    leave_two(stack, Show::Parameters(List::of(&arrow.parameters)), body)
+    leave_two(stack, Show::Parameters(Rest::of(&arrow.parameters)), body)
 }
 
 /// Expressions of these kinds.
@@ -79,7 +79,7 @@ pub fn assignment<'a, W: Write>(
             leave_two(
                 stack,
                 Show::Expression(first.get()),
-                Show::Expressions(List::of(&rest)),
+                Show::Expressions(Rest::of(&rest)),
             )
         }
         _ => Ok(()),

@@ -1,8 +1,8 @@
 //! Expressions and their parts.
 
-use crate::list::List;
 use crate::operators;
 use crate::show::{Show, Stack, leave, leave_two, node, node_named, node_of_units, node_with};
+use borrowed_parts::Rest;
 use es_text::Span;
 use es6_ast::{
     Argument, Element, Expression, Key, Link, Literal, Property, Template, TemplatePart,
@@ -51,11 +51,11 @@ pub fn expression<'a, W: Write>(
         } => {
             let word = if *ends_in_comma { "comma" } else { "plain" };
             node_with(out, "ArrayList", *span, word)?;
-            leave(stack, Show::Elements(List::of(&elements)))
+            leave(stack, Show::Elements(Rest::of(&elements)))
         }
         Expression::ObjectList { span, properties } => {
             node(out, "ObjectList", *span)?;
-            leave(stack, Show::Properties(List::of(&properties)))
+            leave(stack, Show::Properties(Rest::of(&properties)))
         }
         Expression::Function(function) => leave(stack, Show::Function(function.get())),
         Expression::Class(class) => leave(stack, Show::Class(class.get())),
@@ -80,7 +80,7 @@ fn left_hand_side<'a, W: Write>(
             leave_two(
                 stack,
                 Show::Expression(head.get()),
-                Show::Links(List::of(&links)),
+                Show::Links(Rest::of(&links)),
             )
         }
         Expression::SuperMember { span, name } => {
@@ -93,7 +93,7 @@ fn left_hand_side<'a, W: Write>(
         }
         Expression::SuperCall { span, arguments } => {
             node(out, "SuperCall", *span)?;
-            leave(stack, Show::Arguments(List::of(&arguments)))
+            leave(stack, Show::Arguments(Rest::of(&arguments)))
         }
         Expression::New {
             span,
@@ -104,7 +104,7 @@ fn left_hand_side<'a, W: Write>(
             leave_two(
                 stack,
                 Show::Expression(callee.get()),
-                Show::Arguments(List::of(&arguments)),
+                Show::Arguments(Rest::of(&arguments)),
             )
         }
         other => operators::with_operators(out, stack, other),
@@ -121,14 +121,13 @@ pub fn template<'a, W: Write>(
     leave_two(
         stack,
         Show::Stretch(&template.first),
-        Show::TemplateParts(List::of(&template.rest)),
+        Show::TemplateParts(Rest::of(&template.rest)),
     )
 }
 
 /// The first of a template's values with the stretch behind it, and the others.
-pub fn template_parts<'a>(stack: &mut Stack<'a>, list: List<'a, TemplatePart>) -> io::Result<()> {
-    if let Some(first) = list.first() {
-        let rest = list.rest();
+pub fn template_parts<'a>(stack: &mut Stack<'a>, list: Rest<'a, TemplatePart>) -> io::Result<()> {
+    if let Some((first, rest)) = list.split_first() {
         stack.push(Show::TemplateParts(rest))?;
         leave_two(
             stack,
@@ -157,10 +156,9 @@ fn argument<'a, W: Write>(
 pub fn arguments<'a, W: Write>(
     out: &mut W,
     stack: &mut Stack<'a>,
-    list: List<'a, Argument>,
+    list: Rest<'a, Argument>,
 ) -> io::Result<()> {
-    if let Some(first) = list.first() {
-        let rest = list.rest();
+    if let Some((first, rest)) = list.split_first() {
         stack.push(Show::Arguments(rest))?;
         argument(out, stack, first)?;
     }
@@ -171,10 +169,9 @@ pub fn arguments<'a, W: Write>(
 pub fn elements<'a, W: Write>(
     out: &mut W,
     stack: &mut Stack<'a>,
-    list: List<'a, Element>,
+    list: Rest<'a, Element>,
 ) -> io::Result<()> {
-    if let Some(first) = list.first() {
-        let rest = list.rest();
+    if let Some((first, rest)) = list.split_first() {
         stack.push(Show::Elements(rest))?;
         match first {
             Element::Hole => writeln!(out, "Hole")?,
@@ -212,10 +209,9 @@ fn property<'a, W: Write>(
 pub fn properties<'a, W: Write>(
     out: &mut W,
     stack: &mut Stack<'a>,
-    list: List<'a, Property>,
+    list: Rest<'a, Property>,
 ) -> io::Result<()> {
-    if let Some(first) = list.first() {
-        let rest = list.rest();
+    if let Some((first, rest)) = list.split_first() {
         stack.push(Show::Properties(rest))?;
         property(out, stack, first)?;
     }
@@ -234,7 +230,7 @@ fn link<'a, W: Write>(out: &mut W, stack: &mut Stack<'a>, link: &'a Link) -> io:
         }
         Link::Call { span, arguments } => {
             node(out, "Call", *span)?;
-            leave(stack, Show::Arguments(List::of(&arguments)))
+            leave(stack, Show::Arguments(Rest::of(&arguments)))
         }
         Link::Tagged(template) => {
             node(out, "Tagged", template.span)?;
@@ -247,10 +243,9 @@ fn link<'a, W: Write>(out: &mut W, stack: &mut Stack<'a>, link: &'a Link) -> io:
 pub fn links<'a, W: Write>(
     out: &mut W,
     stack: &mut Stack<'a>,
-    list: List<'a, Link>,
+    list: Rest<'a, Link>,
 ) -> io::Result<()> {
-    if let Some(first) = list.first() {
-        let rest = list.rest();
+    if let Some((first, rest)) = list.split_first() {
         stack.push(Show::Links(rest))?;
         link(out, stack, first)?;
     }

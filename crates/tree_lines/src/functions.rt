@@ -1,7 +1,7 @@
 //! Functions, methods and classes.
 
-use crate::list::List;
 use crate::show::{Show, Stack, leave, leave_two, node, node_with};
+use borrowed_parts::Rest;
 use es6_ast::{Class, ClassMember, Function, Method, MethodKind};
 use std::io::{self, Write};
 
@@ -19,8 +19,8 @@ pub fn function<'a, W: Write>(
     node_with(out, "Function", function.span, word)?;
     leave_two(
         stack,
-        Show::Parameters(List::of(&function.parameters)),
-        Show::Statements(List::of(&function.body)),
+        Show::Parameters(Rest::of(&function.parameters)),
+        Show::Statements(Rest::of(&function.body)),
     )?;
     match &function.name {
         None => Ok(()),
@@ -54,7 +54,7 @@ pub fn method<'a, W: Write>(
 /// A class.
 pub fn class<'a, W: Write>(out: &mut W, stack: &mut Stack<'a>, class: &'a Class) -> io::Result<()> {
     node(out, "Class", class.span)?;
-    leave(stack, Show::Members(List::of(&class.members)))?;
+    leave(stack, Show::Members(Rest::of(&class.members)))?;
     if let Some(heritage) = &class.heritage {
         leave(stack, Show::Expression(heritage.get()))?;
     }
@@ -68,10 +68,9 @@ pub fn class<'a, W: Write>(out: &mut W, stack: &mut Stack<'a>, class: &'a Class)
 pub fn members<'a, W: Write>(
     out: &mut W,
     stack: &mut Stack<'a>,
-    list: List<'a, ClassMember>,
+    list: Rest<'a, ClassMember>,
 ) -> io::Result<()> {
-    if let Some(first) = list.first() {
-        let rest = list.rest();
+    if let Some((first, rest)) = list.split_first() {
         let word = if first.is_static { "static" } else { "plain" };
         node_with(out, "ClassMember", first.span, word)?;
         leave_two(stack, Show::Method(&first.method), Show::Members(rest))?;

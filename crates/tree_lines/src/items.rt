@@ -1,8 +1,8 @@
 //! Imports, exports and the whole module.
 
-use crate::list::List;
 use crate::show::{Show, Stack, leave, leave_two, node, node_of_units};
 use crate::statements;
+use borrowed_parts::Rest;
 use es_text::Span;
 use es6_ast::{DefaultExport, ExportName, Identifier, ImportName, ImportedNames, Item, Specifier};
 use std::io::{self, Write};
@@ -11,10 +11,9 @@ use std::io::{self, Write};
 pub fn items<'a, W: Write>(
     out: &mut W,
     stack: &mut Stack<'a>,
-    list: List<'a, Item>,
+    list: Rest<'a, Item>,
 ) -> io::Result<()> {
-    if let Some(first) = list.first() {
-        let rest = list.rest();
+    if let Some((first, rest)) = list.split_first() {
         stack.push(Show::Items(rest))?;
         item(out, stack, first)?;
     }
@@ -38,7 +37,7 @@ fn item<'a, W: Write>(out: &mut W, stack: &mut Stack<'a>, item: &'a Item) -> io:
             if let Some(from) = from {
                 leave(stack, Show::Specifier(from))?;
             }
-            leave(stack, Show::ExportNames(List::of(&names)))
+            leave(stack, Show::ExportNames(Rest::of(&names)))
         }
         Item::ExportAll { span, from } => {
             node(out, "ExportAll", *span)?;
@@ -65,7 +64,7 @@ fn leave_names<'a>(
         ImportedNames::Namespace(name) => {
             leave_two(stack, Show::Word("Namespace"), Show::Identifier(name))?;
         }
-        ImportedNames::Listed(list) => leave(stack, Show::ImportNames(List::of(&list)))?,
+        ImportedNames::Listed(list) => leave(stack, Show::ImportNames(Rest::of(&list)))?,
     }
     match default {
         None => Ok(()),
@@ -96,10 +95,9 @@ fn default_export<'a, W: Write>(
 pub fn import_names<'a, W: Write>(
     out: &mut W,
     stack: &mut Stack<'a>,
-    list: List<'a, ImportName>,
+    list: Rest<'a, ImportName>,
 ) -> io::Result<()> {
-    if let Some(first) = list.first() {
-        let rest = list.rest();
+    if let Some((first, rest)) = list.split_first() {
         node(out, "ImportName", first.span)?;
         stack.push(Show::ImportNames(rest))?;
         leave_two(
@@ -115,10 +113,9 @@ pub fn import_names<'a, W: Write>(
 pub fn export_names<'a, W: Write>(
     out: &mut W,
     stack: &mut Stack<'a>,
-    list: List<'a, ExportName>,
+    list: Rest<'a, ExportName>,
 ) -> io::Result<()> {
-    if let Some(first) = list.first() {
-        let rest = list.rest();
+    if let Some((first, rest)) = list.split_first() {
         node(out, "ExportName", first.span)?;
         stack.push(Show::ExportNames(rest))?;
         leave_two(

@@ -5,11 +5,9 @@ mod assignments;
 mod expressions;
 mod functions;
 mod items;
-mod list;
 mod operators;
 mod patterns;
 mod show;
 mod statements;
 
-pub use list::List;
 pub use show::{Show, node, write_nodes};

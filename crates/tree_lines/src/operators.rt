@@ -1,8 +1,8 @@
 //! Expressions with operators (ECMA-262, 6th edition, 12.4 to 12.13).
 
 use crate::assignments;
-use crate::list::List;
 use crate::show::{Show, Stack, leave, leave_two, node, node_with};
+use borrowed_parts::Rest;
 use es6_ast::{BinaryOperator, Expression, Operand, UnaryOperator, UpdateOperator};
 use std::io::{self, Write};
 
@@ -95,7 +95,7 @@ pub fn with_operators<'a, W: Write>(
             leave_two(
                 stack,
                 Show::Expression(first.get()),
-                Show::Operands(List::of(&rest)),
+                Show::Operands(Rest::of(&rest)),
             )
         }
         other => assignments::assignment(out, stack, other),
@@ -106,10 +106,9 @@ pub fn with_operators<'a, W: Write>(
 pub fn operands<'a, W: Write>(
     out: &mut W,
     stack: &mut Stack<'a>,
-    list: List<'a, Operand>,
+    list: Rest<'a, Operand>,
 ) -> io::Result<()> {
-    if let Some(first) = list.first() {
-        let rest = list.rest();
+    if let Some((first, rest)) = list.split_first() {
         let word = binary_word(first.operator);
         writeln!(out, "Operand {word}")?;
         leave_two(stack, Show::Expression(&first.value), Show::Operands(rest))?;

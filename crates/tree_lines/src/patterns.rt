@@ -1,7 +1,7 @@
 //! Patterns, their parts, and parameters.
 
-use crate::list::List;
 use crate::show::{Show, Stack, leave, leave_two, node};
+use borrowed_parts::Rest;
 use es6_ast::{ArrayPart, ObjectPart, Parameter, Part, Pattern};
 use std::io::{self, Write};
 
@@ -15,11 +15,11 @@ pub fn pattern<'a, W: Write>(
         Pattern::Target(target) => leave(stack, Show::Expression(target.get())),
         Pattern::ArrayPattern { span, parts } => {
             node(out, "ArrayPattern", *span)?;
-            leave(stack, Show::ArrayParts(List::of(&parts)))
+            leave(stack, Show::ArrayParts(Rest::of(&parts)))
         }
         Pattern::ObjectPattern { span, parts } => {
             node(out, "ObjectPattern", *span)?;
-            leave(stack, Show::ObjectParts(List::of(&parts)))
+            leave(stack, Show::ObjectParts(Rest::of(&parts)))
         }
     }
 }
@@ -37,10 +37,9 @@ pub fn part<'a, W: Write>(out: &mut W, stack: &mut Stack<'a>, part: &'a Part) ->
 pub fn array_parts<'a, W: Write>(
     out: &mut W,
     stack: &mut Stack<'a>,
-    list: List<'a, ArrayPart>,
+    list: Rest<'a, ArrayPart>,
 ) -> io::Result<()> {
-    if let Some(first) = list.first() {
-        let rest = list.rest();
+    if let Some((first, rest)) = list.split_first() {
         stack.push(Show::ArrayParts(rest))?;
         match first {
             ArrayPart::SkippedPart => writeln!(out, "SkippedPart")?,
@@ -58,10 +57,9 @@ pub fn array_parts<'a, W: Write>(
 pub fn object_parts<'a, W: Write>(
     out: &mut W,
     stack: &mut Stack<'a>,
-    list: List<'a, ObjectPart>,
+    list: Rest<'a, ObjectPart>,
 ) -> io::Result<()> {
-    if let Some(first) = list.first() {
-        let rest = list.rest();
+    if let Some((first, rest)) = list.split_first() {
         stack.push(Show::ObjectParts(rest))?;
         match first {
             ObjectPart::NamedPart(part) => leave(stack, Show::Part(part))?,
@@ -78,10 +76,9 @@ pub fn object_parts<'a, W: Write>(
 pub fn parameters<'a, W: Write>(
     out: &mut W,
     stack: &mut Stack<'a>,
-    list: List<'a, Parameter>,
+    list: Rest<'a, Parameter>,
 ) -> io::Result<()> {
-    if let Some(first) = list.first() {
-        let rest = list.rest();
+    if let Some((first, rest)) = list.split_first() {
         stack.push(Show::Parameters(rest))?;
         match first {
             Parameter::SingleParameter(part) => leave(stack, Show::Part(part))?,

@@ -1,7 +1,7 @@
 //! What is still to be printed of a tree. A node prints its own line and leaves its parts, so that no text is too deep.
 
-use crate::list::List;
 use crate::{expressions, functions, items, operators, patterns, statements};
+use borrowed_parts::Rest;
 use es_text::Span;
 use es6_ast::{
     Argument, ArrayPart, Block, Case, Catch, Class, ClassMember, Condition, Element, ExportName,
@@ -19,37 +19,37 @@ pub enum Show<'a> {
     Identifier(&'a Identifier),
     Stretch(&'a Stretch),
     Expression(&'a Expression),
-    Expressions(List<'a, Expression>),
-    Arguments(List<'a, Argument>),
-    Elements(List<'a, Element>),
-    Properties(List<'a, Property>),
-    Links(List<'a, Link>),
-    Operands(List<'a, Operand>),
+    Expressions(Rest<'a, Expression>),
+    Arguments(Rest<'a, Argument>),
+    Elements(Rest<'a, Element>),
+    Properties(Rest<'a, Property>),
+    Links(Rest<'a, Link>),
+    Operands(Rest<'a, Operand>),
     Template(&'a Template),
-    TemplateParts(List<'a, TemplatePart>),
+    TemplateParts(Rest<'a, TemplatePart>),
     Key(&'a Key),
     Pattern(&'a Pattern),
     Part(&'a Part),
-    Parts(List<'a, Part>),
-    ArrayParts(List<'a, ArrayPart>),
-    ObjectParts(List<'a, ObjectPart>),
-    Parameters(List<'a, Parameter>),
+    Parts(Rest<'a, Part>),
+    ArrayParts(Rest<'a, ArrayPart>),
+    ObjectParts(Rest<'a, ObjectPart>),
+    Parameters(Rest<'a, Parameter>),
     Function(&'a Function),
     Method(&'a Method),
     Class(&'a Class),
-    Members(List<'a, ClassMember>),
+    Members(Rest<'a, ClassMember>),
     /// a statement under another one
     Under(&'a Boxed<Statement>),
     Statement(&'a Statement),
-    Statements(List<'a, Statement>),
+    Statements(Rest<'a, Statement>),
     Block(&'a Block),
-    Conditions(List<'a, Condition>),
-    Cases(List<'a, Case>),
+    Conditions(Rest<'a, Condition>),
+    Cases(Rest<'a, Case>),
     Catch(&'a Catch),
-    Items(List<'a, Item>),
+    Items(Rest<'a, Item>),
     Specifier(&'a Specifier),
-    ImportNames(List<'a, ImportName>),
-    ExportNames(List<'a, ExportName>),
+    ImportNames(Rest<'a, ImportName>),
+    ExportNames(Rest<'a, ExportName>),
 }
 
 /// The parts that are still to be printed, the next one last.
@@ -150,8 +150,7 @@ pub fn step<'a, W: Write>(out: &mut W, stack: &mut Stack<'a>, show: Show<'a>) ->
 fn first_of<'a, W: Write>(out: &mut W, stack: &mut Stack<'a>, list: Show<'a>) -> io::Result<()> {
     match list {
         Show::Expressions(list) => {
-            if let Some(first) = list.first() {
-                let rest = list.rest();
+            if let Some((first, rest)) = list.split_first() {
                 stack.push(Show::Expressions(rest))?;
                 stack.push(Show::Expression(first))?;
             }
@@ -159,8 +158,7 @@ fn first_of<'a, W: Write>(out: &mut W, stack: &mut Stack<'a>, list: Show<'a>) ->
         }
         Show::Statements(list) => statements::statements(out, stack, list),
         Show::Parts(list) => {
-            if let Some(first) = list.first() {
-                let rest = list.rest();
+            if let Some((first, rest)) = list.split_first() {
                 stack.push(Show::Parts(rest))?;
                 stack.push(Show::Part(first))?;
             }

@@ -1,7 +1,7 @@
 //! Statements.
 
-use crate::list::List;
 use crate::show::{Show, Stack, leave, leave_two, node, node_with};
+use borrowed_parts::Rest;
 use es6_ast::{
     Block, Case, Catch, Condition, Expression, ForFirst, ForTarget, Identifier, Statement,
     VariableKind,
@@ -19,17 +19,17 @@ fn kind_word(kind: VariableKind) -> &'static str {
 /// A block.
 pub fn block<'a, W: Write>(out: &mut W, stack: &mut Stack<'a>, block: &'a Block) -> io::Result<()> {
     node(out, "Block", block.span)?;
-    leave(stack, Show::Statements(List::of(&block.statements)))
+    leave(stack, Show::Statements(Rest::of(&block.statements)))
 }
 
 /// The first statement of a list, and the others.
 pub fn statements<'a, W: Write>(
     out: &mut W,
     stack: &mut Stack<'a>,
-    list: List<'a, Statement>,
+    list: Rest<'a, Statement>,
 ) -> io::Result<()> {
-    if let Some(first) = list.first() {
-        stack.push(Show::Statements(list.rest()))?;
+    if let Some((first, rest)) = list.split_first() {
+        stack.push(Show::Statements(rest))?;
         statement(out, stack, first)?;
     }
     Ok(())
@@ -45,7 +45,7 @@ pub fn statement<'a, W: Write>(
         Statement::Block(inner) => block(out, stack, inner),
         Statement::Variables { span, kind, parts } => {
             node_with(out, "Variables", *span, kind_word(*kind))?;
-            leave(stack, Show::Parts(List::of(&parts)))
+            leave(stack, Show::Parts(Rest::of(&parts)))
         }
         Statement::Empty { span } => node(out, "Empty", *span),
         Statement::Debugger { span } => node(out, "Debugger", *span),
@@ -78,7 +78,7 @@ pub fn statement<'a, W: Write>(
             leave_two(
                 stack,
                 Show::Expression(subject),
-                Show::Cases(List::of(&cases)),
+                Show::Cases(Rest::of(&cases)),
             )
         }
         Statement::FunctionDeclaration(function) => leave(stack, Show::Function(function.get())),
@@ -104,7 +104,7 @@ fn with_statements<'a, W: Write>(
             if let Some(otherwise) = otherwise {
                 leave_two(stack, Show::Word("Else"), Show::Under(otherwise))?;
             }
-            leave(stack, Show::Conditions(List::of(&more)))?;
+            leave(stack, Show::Conditions(Rest::of(&more)))?;
             condition(out, stack, first)
         }
         Statement::Labelled { span, label, body } => {
@@ -212,10 +212,9 @@ fn condition<'a, W: Write>(
 pub fn conditions<'a, W: Write>(
     out: &mut W,
     stack: &mut Stack<'a>,
-    list: List<'a, Condition>,
+    list: Rest<'a, Condition>,
 ) -> io::Result<()> {
-    if let Some(first) = list.first() {
-        let rest = list.rest();
+    if let Some((first, rest)) = list.split_first() {
         stack.push(Show::Conditions(rest))?;
         condition(out, stack, first)?;
     }
@@ -231,7 +230,7 @@ fn for_first<'a, W: Write>(
         ForFirst::NoFirst => Ok(()),
         ForFirst::FirstVariables { span, kind, parts } => {
             node_with(out, "FirstVariables", *span, kind_word(*kind))?;
-            leave(stack, Show::Parts(List::of(&parts)))
+            leave(stack, Show::Parts(Rest::of(&parts)))
         }
         ForFirst::FirstExpression(value) => {
             writeln!(out, "FirstExpression")?;
@@ -262,14 +261,13 @@ fn for_target<'a, W: Write>(
 pub fn cases<'a, W: Write>(
     out: &mut W,
     stack: &mut Stack<'a>,
-    list: List<'a, Case>,
+    list: Rest<'a, Case>,
 ) -> io::Result<()> {
-    if let Some(first) = list.first() {
-        let rest = list.rest();
+    if let Some((first, rest)) = list.split_first() {
         node(out, "Case", first.span)?;
         leave_two(
             stack,
-            Show::Statements(List::of(&first.body)),
+            Show::Statements(Rest::of(&first.body)),
             Show::Cases(rest),
         )?;
         leave_marked(stack, "Test", &first.test)?;
