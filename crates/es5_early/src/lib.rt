@@ -15,8 +15,6 @@ mod pair;
 mod properties;
 mod statements;
 mod targets;
-#[cfg(test)]
-mod tests;
 
 use es5_ast::Script;
 use finder::Finder;

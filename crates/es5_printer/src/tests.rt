@@ -1,15 +1,11 @@
-//! Printed statements. That each is spelled by its own tree is proved; the rows show where spaces, lines, parentheses and
-//! marks stand.
+//! A printed mark. It stands here since no text gives a tree with a site; the crate script_tests has the other tests.
 
 use crate::mark::Mark;
 use crate::print::print_stats;
 use crate::sheet::Sheet;
 use es_outside::Site;
 use es_text::{Place, Span};
-use es5_ast::{
-    BinaryOperator5, Block5, Condition5, Expr5, ForFirst5, Function5, Identifier5, Link5, Operand5,
-    Stat5, UnaryOperator5,
-};
+use es5_ast::{Expr5, Link5, Stat5};
 use shared_text::Name;
 use sqlite_items::{Boxed, Items};
 use std::alloc::{AllocError, Global};
@@ -27,20 +23,8 @@ fn printed(alloc: Global, stat: Stat5) -> Result<(Vec<u8>, Vec<Mark>), AllocErro
     Ok(out.into_parts())
 }
 
-fn text_of(alloc: Global, stat: Stat5) -> Result<Vec<u8>, AllocError> {
-    let (bytes, _marks) = printed(alloc, stat)?;
-    Ok(bytes)
-}
-
 fn name(alloc: Global, text: &[u8]) -> Result<Expr5, AllocError> {
     Ok(Expr5::Name {
-        span: SPAN,
-        name: Name::of_bytes(alloc, text)?,
-    })
-}
-
-fn identifier(alloc: Global, text: &[u8]) -> Result<Identifier5, AllocError> {
-    Ok(Identifier5 {
         span: SPAN,
         name: Name::of_bytes(alloc, text)?,
     })
@@ -70,80 +54,6 @@ fn call(
         head: Boxed::new(alloc, head)?,
         links,
     })
-}
-
-fn function(alloc: Global) -> Result<Expr5, AllocError> {
-    let function = Function5 {
-        span: SPAN,
-        name: None,
-        parameters: Items::new(alloc),
-        body: Items::new(alloc),
-    };
-    Ok(Expr5::Function(Boxed::new(alloc, function)?))
-}
-
-#[test]
-fn a_statement_begins_with_no_function_or_object(rt: HostRuntime) -> Result<(), Fail> {
-    let alloc = rt.alloc();
-    let called = call(alloc, function(alloc)?, Items::new(alloc), None)?;
-    assert_eq!(rt;
-        text_of(alloc, statement(called))?.as_slice(),
-        b"(function() {\n}());\n".as_slice()
-    );
-    let object = Expr5::ObjectList {
-        span: SPAN,
-        properties: Items::new(alloc),
-    };
-    assert_eq!(rt;
-        text_of(alloc, statement(object))?.as_slice(),
-        b"({ });\n".as_slice()
-    );
-    Ok(())
-}
-
-#[test]
-fn two_minuses_stay_apart(rt: HostRuntime) -> Result<(), Fail> {
-    let alloc = rt.alloc();
-    let mut x = name(alloc, b"x")?;
-    for _ in 0..2 {
-        x = Expr5::Unary {
-            span: SPAN,
-            operator: UnaryOperator5::Minus,
-            operand: Boxed::new(alloc, x)?,
-        };
-    }
-    assert_eq!(rt;
-        text_of(alloc, statement(x))?.as_slice(),
-        b"- - x;\n".as_slice()
-    );
-    Ok(())
-}
-
-#[test]
-fn a_for_header_has_no_bare_in(rt: HostRuntime) -> Result<(), Fail> {
-    let alloc = rt.alloc();
-    let mut rest = Items::new(alloc);
-    rest.push(Operand5 {
-        operator: BinaryOperator5::In,
-        value: name(alloc, b"b")?,
-    })?;
-    let test = Expr5::Binary {
-        span: SPAN,
-        first: Boxed::new(alloc, name(alloc, b"a")?)?,
-        rest,
-    };
-    let stat = Stat5::For {
-        span: SPAN,
-        first: ForFirst5::FirstExpression(test),
-        test: None,
-        update: None,
-        body: Boxed::new(alloc, Stat5::Empty { span: SPAN })?,
-    };
-    assert_eq!(rt;
-        text_of(alloc, stat)?.as_slice(),
-        b"for((a in b);;);\n".as_slice()
-    );
-    Ok(())
 }
 
 #[test]

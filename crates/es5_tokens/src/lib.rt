@@ -9,8 +9,6 @@ mod punctuator;
 mod quoted;
 mod reader;
 mod shape;
-#[cfg(test)]
-mod tests;
 mod token;
 
 pub use reader::tokens5;

@@ -10,8 +10,6 @@ mod number;
 mod punctuator;
 mod quoted;
 mod shape;
-#[cfg(test)]
-mod tests;
 mod token;
 mod values;
 

@@ -2,7 +2,5 @@
 #![tactic(auto)]
 
 mod access;
-#[cfg(test)]
-mod tests;
 
 pub use access::{Got, PutAnswer, get, has, is_above, put};

@@ -9,8 +9,6 @@ mod length;
 mod object;
 mod prop;
 mod table;
-#[cfg(test)]
-mod tests;
 
 pub use class::Class;
 pub use heap::Heap;

@@ -5,8 +5,6 @@ mod conversion;
 mod functions;
 mod operators;
 mod primitives;
-#[cfg(test)]
-mod tests;
 
 pub use conversion::{Conversion, Hint, Need, Tried, key_of_word, text_of_word};
 pub use functions::{

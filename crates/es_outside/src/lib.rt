@@ -16,8 +16,6 @@ mod names;
 mod primitive;
 mod sink;
 mod talk;
-#[cfg(test)]
-mod tests;
 
 pub use events::{Ending, Event, Seen, Site};
 pub use fault_count::FaultCount;

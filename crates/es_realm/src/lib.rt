@@ -9,8 +9,6 @@ pub mod names;
 mod realm;
 mod start;
 mod table;
-#[cfg(test)]
-mod tests;
 
 pub use access::{
     Read, Write, definition_exit, delete_key, own_of_text, read_object, read_value, write_length,

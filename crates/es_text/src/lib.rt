@@ -5,8 +5,6 @@
 #![tactic(auto)]
 
 mod lines;
-#[cfg(test)]
-mod tests;
 mod units;
 
 pub use lines::{Lines, offsets_and_places};

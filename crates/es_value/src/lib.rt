@@ -7,8 +7,6 @@
 mod arithmetic;
 mod bits;
 mod convert;
-#[cfg(test)]
-mod tests;
 mod text;
 mod value;
 

@@ -4,8 +4,6 @@
 mod lexer;
 mod names;
 mod reader;
-#[cfg(test)]
-mod tests;
 mod token;
 
 pub use lexer::tokens;

@@ -18,6 +18,3 @@ pub use fault::MapFault;
 pub use line::{HEAD, map_of_script, map_text};
 pub use map::{Map, Segment, Target, Text};
 pub use print::write_map;
-
-#[cfg(test)]
-mod tests;

@@ -1,5 +1,5 @@
 //! Reads and writes, with the answers that the standard gives.
-use crate::{Got, PutAnswer, get, has, is_above, put};
+use es_access::{Got, PutAnswer, get, has, is_above, put};
 use es_heap::{Class, Heap, HeapFault, Key, Prop};
 use es_value::{ObjId, Str, Value};
 use std::alloc::{AllocError, Global};

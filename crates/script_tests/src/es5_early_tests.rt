@@ -2,14 +2,15 @@
 //! independent parser (acorn at the 5.1 edition) gives: for a `break` or `continue` with a label that of the word, which begins
 //! the statement, and not of the label.
 
-use super::*;
 use es_text::Span;
 use es5_ast::{
     AssignOperator5, Declared5, Expr5, Function5, Identifier5, Key5, Link5, Literal5, PlacedKey5,
-    Property5, Stat5, UnaryOperator5,
+    Property5, Script, Stat5, UnaryOperator5,
 };
+use es5_early::{Pair, Rule, first_pair};
 use shared_text::{Name, Units};
 use sqlite_items::{Boxed, Items};
+use std::alloc::{AllocError, Global};
 use std::test::Fail;
 
 /// Makes nodes that begin somewhere. Where they end doesn't matter here.

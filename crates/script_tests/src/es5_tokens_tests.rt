@@ -2,9 +2,8 @@
 
 ghost use Rattle.std.specs.Prelude.{◌≤◌, length};
 
-use crate::token::{Token, TokenKind};
-use crate::tokens5;
 use es_text::chars_of;
+use es5_tokens::{Token, TokenKind, tokens5};
 use std::alloc::{AllocError, Global};
 use std::process::Abort;
 use std::test::Fail;

@@ -1,6 +1,6 @@
 //! Texts whose units, lines and places are known.
 
-use crate::{Lines, Place, TextFault, units_of};
+use es_text::{Lines, Place, TextFault, units_of};
 use std::test::Fail;
 
 fn at(line: u64, column: u64) -> Option<Place> {

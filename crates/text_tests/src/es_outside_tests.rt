@@ -1,4 +1,4 @@
-use crate::{
+use es_outside::{
     FaultCount, FileAnswer, Files, Host, HostAnswer, HostNames, Hosts, HostsRefused, HostsRefused2,
     ListHost, MemoryFiles, MemorySink, Prim, Prims, Sink, SinkFailed, Units, write_all,
 };

@@ -1,5 +1,5 @@
-use crate::{Map, MapFault, Target, Text, map_of_script, map_text, read_map, write_map};
 use es_text::Place;
+use source_map::{Map, MapFault, Target, Text, map_of_script, map_text, read_map, write_map};
 use sqlite_items::Items;
 use std::alloc::{AllocError, Global};
 use std::test::Fail;

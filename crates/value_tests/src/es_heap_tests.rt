@@ -1,5 +1,5 @@
 //! Operations on objects, with the answers that the standard gives.
-use crate::{Class, Heap, HeapFault, Key, Prop, array_index};
+use es_heap::{Class, Heap, HeapFault, Key, Prop, array_index};
 use es_value::{ObjId, Str, Value};
 use std::alloc::{AllocError, Global};
 use std::test::Fail;

@@ -2,8 +2,7 @@
 
 ghost use Rattle.std.specs.Prelude.{◌≤◌, length};
 
-use crate::lex6;
-use crate::token::{NumberToken, Token, TokenKind};
+use es6_lexer::{NumberToken, Token, TokenKind, lex6};
 use std::alloc::{AllocError, Global};
 use std::process::Abort;
 use std::test::Fail;

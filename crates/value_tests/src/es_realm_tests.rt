@@ -1,15 +1,24 @@
 //! Look-ups in fresh realms, with the exits.
-use crate::{
-    Edition, Read, Realm5, Realm6, Write, delete_key, read_object, read_value, write_object,
-};
 use es_heap::{Class, Heap, HeapFault, Key, Prop};
 use es_outside::HostNames;
-use es_value::{ObjId, Value, same};
+use es_realm::{
+    Edition, Read, Realm5, Realm6, Write, delete_key, read_object, read_value, write_object,
+};
+use es_value::{ObjId, Str, Value, same};
 use std::alloc::{AllocError, Global};
 use std::test::Fail;
 
+/// The text of a word of ASCII.
+fn text_of(alloc: Global, word: &str) -> Result<Str, AllocError> {
+    let mut units = Vec::new(alloc);
+    for byte in word.as_bytes() {
+        units.push(u16::from(*byte))?;
+    }
+    Str::of_vec(alloc, units)
+}
+
 fn key_of(alloc: Global, word: &str) -> Result<Key, AllocError> {
-    Ok(Key::Text(crate::start::ascii(alloc, word)?))
+    Ok(Key::Text(text_of(alloc, word)?))
 }
 
 /// The exit at which a read leaves, or 0.
@@ -92,14 +101,14 @@ fn library_stays(rt: HostRuntime) -> Result<(), Fail> {
     )?;
     assert_eq!(rt; written, Write::Leaves(7));
     let list = heap.make(alloc, Some(realm.array_prototype), Class::Array)?;
-    let text = Value::Text(crate::start::ascii(alloc, "2")?);
+    let text = Value::Text(text_of(alloc, "2")?);
     let length = key_of(alloc, "length")?;
     let written = write_object(Edition::Fifth, &mut heap, alloc, list, length, text)?;
     assert_eq!(rt; written, Write::Done);
     let read = read_object(Edition::Fifth, &heap, list, &key_of(alloc, "length")?)?;
     assert!(rt; has_value(&read, &Value::Number(2)));
-    let of_text = Value::Text(crate::start::ascii(alloc, "abc")?);
+    let of_text = Value::Text(text_of(alloc, "abc")?);
     let unit = read_value(alloc, Edition::Fifth, &heap, &of_text, &key_of(alloc, "1")?)?;
-    assert!(rt; has_value(&unit, &Value::Text(crate::start::ascii(alloc, "b")?)));
+    assert!(rt; has_value(&unit, &Value::Text(text_of(alloc, "b")?)));
     Ok(())
 }

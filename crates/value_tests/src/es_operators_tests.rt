@@ -1,5 +1,5 @@
 //! Conversions between primitives and values.
-use crate::{of_prim, to_prim};
+use es_operators::{of_prim, to_prim};
 use es_outside::Prim;
 use es_value::{ObjId, Value, same};
 use std::test::Fail;

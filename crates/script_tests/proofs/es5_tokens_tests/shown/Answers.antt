@@ -1,7 +1,7 @@
 use Rattle.std.proofs.Common.{◌≡◌, ap, length, ◌∙◌, arith}
 use Rattle.es5_ast.specs.Lexical.{width}
 use Rattle.es5_tokens.proofs.Widths.{width_chars}
-use Rattle.es5_tokens.proofs.tests.shown.Goals as goal
+use Rattle.script_tests.proofs.es5_tokens_tests.shown.Goals as goal
 
 pub tokens5-requires : goal.tokens5-requires
 tokens5-requires c =

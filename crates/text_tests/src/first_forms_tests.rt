@@ -1,5 +1,5 @@
 //! What the reader makes of texts, with trees and places worked out by hand.
-use crate::{ReadFault, Token, TokenKind, read_module, tokens};
+use first_forms::{ReadFault, Token, TokenKind, read_module, tokens};
 use first_trees::{Call, DeclarationKind, Expression, Item, Module, Sum, Term};
 use shared_text::Name;
 use sqlite_items::Items;

@@ -1,5 +1,5 @@
 //! Values that the standard and engines give.
-use crate::{
+use es_value::{
     Exit, Str, Value, add, and, compare, concat, div, mul, not, or, power, rem, same, shl, shr,
     sub, to_number, to_text, ushr, xor,
 };
