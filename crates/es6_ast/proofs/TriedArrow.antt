@@ -26,8 +26,9 @@ use Rattle.es6_ast.specs.declared.tree.Part.{roll-Part}
 use Rattle.es6_ast.specs.declared.module.Module.{Module}
 use Rattle.es6_ast.specs.declared.module.Item.{Item}
 use Rattle.es6_ast.specs.declared.module.Item.TheVariants as item
+use Rattle.es6_ast.specs.declared.settings.Flags.{Flags}
 use Rattle.es6_ast.specs.Tokens.{Read, Filled}
-use Rattle.es6_ast.specs.Grammar.{IsName, name, IsExpression, at_level, IsNode, reference, literal, binary_chain, arrow, AreLinks, no_link, AreOperands, no_operand, next_operand, IsTarget, bound_name, IsPart, part_alone, part_with_default, AreParameters, last_parameter, next_parameter, AreArrowParameters, parenthesized, IsArrowBody, value_body, IsListed, listed_declaration, IsDeclaration, lexical_declaration, AreVariables, last_variable, IsVariable, initialized_variable, Flags, name_target}
+use Rattle.es6_ast.specs.Grammar.{IsName, name, IsExpression, at_level, IsNode, reference, literal, binary_chain, arrow, AreLinks, no_link, AreOperands, no_operand, next_operand, IsTarget, bound_name, IsPart, part_alone, part_with_default, AreParameters, last_parameter, next_parameter, AreArrowParameters, parenthesized, IsArrowBody, value_body, IsListed, listed_declaration, IsDeclaration, lexical_declaration, AreVariables, last_variable, IsVariable, initialized_variable, name_target}
 use Rattle.es6_ast.specs.Modules.{IsItem, statement_item, AreItems, no_item, next_item, IsModule, module_}
 use Rattle.es_outside.specs.HostNames.{reserved_words}
 

@@ -24,8 +24,9 @@ use Rattle.es6_ast.specs.declared.tree.Part.{roll-Part}
 use Rattle.es6_ast.specs.declared.module.Module.{Module}
 use Rattle.es6_ast.specs.declared.module.Item.{Item}
 use Rattle.es6_ast.specs.declared.module.Item.TheVariants as item
+use Rattle.es6_ast.specs.declared.settings.Flags.{Flags}
 use Rattle.es6_ast.specs.Tokens.{Read, Filled}
-use Rattle.es6_ast.specs.Grammar.{IsName, name, IsExpression, at_level, IsNode, reference, yield_value, AreLinks, no_link, IsKey, word_key, IsTarget, bound_name, IsPart, part_alone, AreParameters, last_parameter, IsSignature, signature, IsMethod, generator_method, IsClass, named_class, IsClassTail, base_class, AreMembers, no_member, instance_member, AreStatements, no_statement, next_statement, IsListed, listed_statement, listed_declaration, IsDeclaration, class_declaration, IsStatement, expression, Flags, name_target, method_of}
+use Rattle.es6_ast.specs.Grammar.{IsName, name, IsExpression, at_level, IsNode, reference, yield_value, AreLinks, no_link, IsKey, word_key, IsTarget, bound_name, IsPart, part_alone, AreParameters, last_parameter, IsSignature, signature, IsMethod, generator_method, IsClass, named_class, IsClassTail, base_class, AreMembers, no_member, instance_member, AreStatements, no_statement, next_statement, IsListed, listed_statement, listed_declaration, IsDeclaration, class_declaration, IsStatement, expression, name_target, method_of}
 use Rattle.es6_ast.specs.Modules.{IsItem, statement_item, AreItems, no_item, next_item, IsModule, module_}
 use Rattle.es_outside.specs.HostNames.{reserved_words}
 

@@ -20,8 +20,9 @@ use Rattle.es6_ast.specs.declared.tree.Part.{roll-Part}
 use Rattle.es6_ast.specs.declared.module.Module.{Module}
 use Rattle.es6_ast.specs.declared.module.Item.{Item}
 use Rattle.es6_ast.specs.declared.module.Item.TheVariants as item
+use Rattle.es6_ast.specs.declared.settings.Flags.{Flags}
 use Rattle.es6_ast.specs.Tokens.{Read, Filled}
-use Rattle.es6_ast.specs.Grammar.{IsName, name, IsExpression, at_level, IsNode, reference, AreLinks, no_link, IsPattern, array_pattern, IsTarget, bound_name, nested_pattern, IsPart, part_alone, AreArrayParts, rest_part, next_array_part, IsRest, bound_rest, IsListed, listed_statement, IsStatement, expression, for_of, IsForTarget, declared_target, Flags, name_target}
+use Rattle.es6_ast.specs.Grammar.{IsName, name, IsExpression, at_level, IsNode, reference, AreLinks, no_link, IsPattern, array_pattern, IsTarget, bound_name, nested_pattern, IsPart, part_alone, AreArrayParts, rest_part, next_array_part, IsRest, bound_rest, IsListed, listed_statement, IsStatement, expression, for_of, IsForTarget, declared_target, name_target}
 use Rattle.es6_ast.specs.Modules.{IsItem, statement_item, AreItems, no_item, next_item, IsModule, module_}
 use Rattle.es_outside.specs.HostNames.{reserved_words}
 

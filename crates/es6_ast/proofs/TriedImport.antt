@@ -14,8 +14,9 @@ use Rattle.es6_ast.specs.declared.module.ImportName.{ImportName}
 use Rattle.es6_ast.specs.declared.module.Item.TheVariants as item
 use Rattle.es6_ast.specs.declared.module.ImportedNames.TheVariants.{Listed}
 use Rattle.es6_ast.specs.declared.module.DefaultExport.TheVariants.{DefaultValue}
+use Rattle.es6_ast.specs.declared.settings.Flags.{Flags}
 use Rattle.es6_ast.specs.Tokens.{Read, Filled}
-use Rattle.es6_ast.specs.Grammar.{IsName, name, IsAnyName, any_name, IsExpression, at_level, IsNode, reference, AreLinks, no_link, Flags}
+use Rattle.es6_ast.specs.Grammar.{IsName, name, IsAnyName, any_name, IsExpression, at_level, IsNode, reference, AreLinks, no_link}
 use Rattle.es6_ast.specs.Modules.{IsSpecifier, specifier, IsFrom, from, IsImport, renamed_import, AreImports, last_import, AreNames, listed, IsClause, names_alone, IsItem, import_from, default_value, AreItems, no_item, next_item, IsModule, module_}
 use Rattle.es_outside.specs.HostNames.{reserved_words}
 

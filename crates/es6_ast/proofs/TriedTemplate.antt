@@ -17,8 +17,9 @@ use Rattle.es6_ast.specs.declared.tree.Template.{Template as Template'}
 use Rattle.es6_ast.specs.declared.module.Module.{Module}
 use Rattle.es6_ast.specs.declared.module.Item.{Item}
 use Rattle.es6_ast.specs.declared.module.Item.TheVariants as item
+use Rattle.es6_ast.specs.declared.settings.Flags.{Flags}
 use Rattle.es6_ast.specs.Tokens.{Read, Filled}
-use Rattle.es6_ast.specs.Grammar.{IsName, name, IsExpression, at_level, IsNode, reference, chain, AreLinks, no_link, tag_link, IsTemplate, parted_template, AreTemplateParts, last_template_part, IsListed, listed_statement, IsStatement, expression, Flags}
+use Rattle.es6_ast.specs.Grammar.{IsName, name, IsExpression, at_level, IsNode, reference, chain, AreLinks, no_link, tag_link, IsTemplate, parted_template, AreTemplateParts, last_template_part, IsListed, listed_statement, IsStatement, expression}
 use Rattle.es6_ast.specs.Modules.{IsItem, statement_item, AreItems, no_item, next_item, IsModule, module_}
 use Rattle.es_outside.specs.HostNames.{reserved_words}
 

@@ -8,6 +8,8 @@ use Rattle.es6_lexer.specs.declared.token.NumberToken.TheVariants.{Whole, TooLar
 use Rattle.es6_lexer.specs.declared.token.LexicalKind.{LexicalKind}
 use Rattle.es6_lexer.specs.declared.token.Punctuator.TheVariants.{Slash, SlashAssign, Exclamation}
 use Rattle.es6_ast.specs.declared.module.Module.{Module}
+use Rattle.es6_ast.specs.declared.settings.Stop.{Stop}
+use Rattle.es6_ast.specs.declared.settings.Stop.TheVariants.{Syntax, Lexical, Outside, Depth}
 use Rattle.es6_ast.specs.Semicolons.{SpellsModule}
 use Rattle.es6_ast.specs.Depth.{open_constructs}
 
@@ -55,24 +57,19 @@ pub data IsOutside (tokens : List Token) (p : ℕ) (t : Token) : ℕ → Type 0 
   large_number : t.kind ≡ Number TooLarge → WouldLive tokens p t (Number (Whole (pos 0))) → IsOutside tokens p t 4
   with : t.kind ≡ Word (codes "with") → WouldLive tokens p t (Word (codes "debugger")) → IsOutside tokens p t 5
 
--- what is reported at the stop: of two that hold, the one that stands earlier here
-pub data StopKind : Type 0 where
-  TooDeep : StopKind
-  LexicalFault : LexicalKind → StopKind
-  OutsideProfile : ℕ → StopKind
-  SyntaxFault : StopKind
-
-pub data IsStopKind (tokens : List Token) (p : ℕ) (t : Token) : StopKind → Type 0 where
-  too_deep : IsTooDeep tokens p → IsStopKind tokens p t TooDeep
-  lexical_fault : (kind : LexicalKind) → IsDead tokens p → t.kind ≡ Fault kind → IsStopKind tokens p t (LexicalFault kind)
-  outside_profile : (rule : ℕ) → IsDead tokens p → IsOutside tokens p t rule → IsStopKind tokens p t (OutsideProfile rule)
-  syntax_fault : IsDead tokens p → ((kind : LexicalKind) → t.kind ≡ Fault kind → ⊥) → ((rule : ℕ) → IsOutside tokens p t rule → ⊥) → IsStopKind tokens p t SyntaxFault
+-- What is reported at the stop. No two of these hold: a token with which some module goes on isn't dead, and the others differ in
+-- the token's kind.
+pub data IsReported (tokens : List Token) (p : ℕ) (t : Token) : Stop → Type 0 where
+  too_deep : IsTooDeep tokens p → IsReported tokens p t Depth
+  lexical_fault : (kind : LexicalKind) → IsDead tokens p → t.kind ≡ Fault kind → IsReported tokens p t (Lexical kind)
+  outside_profile : (rule : ℕ) → IsDead tokens p → IsOutside tokens p t rule → IsReported tokens p t (Outside rule)
+  syntax_fault : IsDead tokens p → ((kind : LexicalKind) → t.kind ≡ Fault kind → ⊥) → ((rule : ℕ) → IsOutside tokens p t rule → ⊥) → IsReported tokens p t Syntax
 
 -- a reader of the tokens stops at the offset, with this to report
-pub record StopsAt (tokens : List Token) (at : ℕ) (kind : StopKind) : Type 0 where
+pub record StopsAt (tokens : List Token) (at : ℕ) (stop : Stop) : Type 0 where
   pub index : ℕ
   pub token : Token
   pub there : slice_get tokens index ≡ Some token
-  pub stop : IsStop tokens index
-  pub reported : IsStopKind tokens index token kind
+  pub stops : IsStop tokens index
+  pub reported : IsReported tokens index token stop
   pub place : at ≡ token.span.begin

@@ -216,11 +216,11 @@ is_restricted name = is_among (codes "eval" ∷ codes "arguments" ∷ []) name
 abbrev pub bound : Identifier → List Pair
 bound x = when (is_restricted x.name) 7 x.span.begin
 
--- E8 (12.14.1, 12.4.1, 13.7.5.1)
+-- E8 (12.14.1, 12.14.5.1, 12.4.1, 12.5.1, 13.7.5.1)
 abbrev pub restricted : AsTarget → List Pair
 restricted x = maybe (λ n. when (is_restricted n.name) 8 n.span.begin) x.name
 
--- E10 (12.14.1, 12.14.5.1, 12.4.1, 13.7.5.1): the first part that no pattern spells, or where none may stand the target
+-- E10 (12.14.1, 12.14.5.1, 12.4.1, 12.5.1, 13.7.5.1): the first part that no pattern spells, or where none may stand the target
 abbrev pub misfits : Option ℕ → List Pair
 misfits m = maybe (λ at. when true 10 at) m
 
@@ -387,8 +387,8 @@ abbrev pub element_step : Layer Element-F → ArgumentFound
 element_step layer.Hole = record { element = NoElement; pairs = nothing }
 element_step (layer.Present x) = x
 
--- the pairs of an expression: E16 (14.4.1, 14.2.1), E17 and E18 (14.1.2, 14.3.1, 14.5.1, 15.2.1.1) and E19 (14.1.2, 15.2.1.1)
--- among them
+-- the pairs of an expression: E16 (14.4.1, 14.2.1), E17 and E18 (12.2.6.1, 14.1.2, 14.3.1, 14.5.1, 15.2.1.1) and E19 (14.1.2,
+-- 15.2.1.1) among them
 abbrev pub expression_pairs : Layer Expression-F → Inside
 expression_pairs (layer.This span) = nothing
 expression_pairs (layer.Name span name) = nothing

@@ -26,7 +26,7 @@ pub record Elsewhere : Type 0 where
   pub from : List ℕ
   pub name : List ℕ
 
--- a name that an import binds, and what it imports (15.2.2.2); a namespace is a binding of the module itself
+-- a name that an import binds, and what it imports (ImportEntries, 15.2.2.3); a namespace is a binding of the module itself
 pub record ImportEntry : Type 0 where
   pub local : List ℕ
   pub imported : Elsewhere

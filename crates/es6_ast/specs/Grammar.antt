@@ -63,16 +63,11 @@ use Rattle.es6_ast.specs.declared.tree.Operand.{Operand, roll-Operand}
 use Rattle.es6_ast.specs.declared.tree.Part.{Part, roll-Part}
 use Rattle.es6_ast.specs.declared.tree.Template.{Template as Template', roll-Template}
 use Rattle.es6_ast.specs.declared.tree.TemplatePart.{TemplatePart, roll-TemplatePart}
+use Rattle.es6_ast.specs.declared.settings.Flags.{Flags}
 use Rattle.es6_ast.specs.Tokens.{Filling, Read, Inserted, Filled, IsWord, IsMark, IsOnLine, is_word, is_left_brace, is_star, begins, across, is_identifier}
 use Rattle.es6_ast.specs.Targets.{is_simple, is_pattern}
 
--- The parameters of productions (5.1.5): whether `in` is an operator, whether `yield` begins an expression, and whether
--- `return` stands.
-pub record Flags : Type 0 where
-  pub has_in : Bool
-  pub has_yield : Bool
-  pub has_return : Bool
-
+-- The parameters of productions (5.1.5)
 abbrev pub of_module : Flags
 of_module = record { has_in = true; has_yield = false; has_return = false }
 

@@ -17,7 +17,7 @@ use Rattle.es6_ast.specs.Early.{early_pairs}
 use Rattle.es6_ast.specs.Outside.{outside_pairs}
 use Rattle.es6_ast.specs.Endings.{wants, AllResolve}
 
--- the specifiers of a module, in text order (ModuleRequests, 15.2.1.5)
+-- the specifiers of a module, in text order (ModuleRequests, 15.2.1.10, of an import 15.2.2.5, of an export 15.2.3.10)
 abbrev pub from_of : Option Specifier → List Specifier
 from_of None = []
 from_of (Some from) = from ∷ []

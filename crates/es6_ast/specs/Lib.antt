@@ -1,5 +1,6 @@
 pub mod Tokens
 pub mod Targets
+pub mod Settings
 pub mod Grammar
 pub mod Modules
 pub mod Semicolons

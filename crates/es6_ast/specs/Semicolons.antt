@@ -8,8 +8,9 @@ use Rattle.es6_lexer.specs.declared.token.Punctuator.TheVariants.{RightBrace}
 use Rattle.es6_ast.specs.declared.tree.Expression.{Expression}
 use Rattle.es6_ast.specs.declared.tree.Statement.{Statement}
 use Rattle.es6_ast.specs.declared.module.Module.{Module}
+use Rattle.es6_ast.specs.declared.settings.Flags.{Flags}
 use Rattle.es6_ast.specs.Tokens.{Inserted, Filled, read, end_of}
-use Rattle.es6_ast.specs.Grammar.{Flags, IsExpression, IsListed}
+use Rattle.es6_ast.specs.Grammar.{IsExpression, IsListed}
 use Rattle.es6_ast.specs.Modules.{IsModule}
 
 -- some row of the grammar begins with these tokens

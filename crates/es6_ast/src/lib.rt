@@ -7,6 +7,7 @@
 mod graph;
 mod module;
 mod operators;
+mod settings;
 mod tree;
 
 pub use graph::{EndOf, Graph, LoadedModule, Request};
@@ -15,6 +16,7 @@ pub use operators::{
     AssignOperator, BinaryOperator, Literal, MethodKind, UnaryOperator, UpdateOperator,
     VariableKind,
 };
+pub use settings::{Flags, Role, Shape, Stand, Stop};
 pub use tree::{
     Argument, ArrayPart, Arrow, ArrowBody, Block, Case, Catch, Class, ClassMember, Condition,
     Element, Expression, ForFirst, ForTarget, Function, Identifier, Key, Link, Method, ObjectPart,

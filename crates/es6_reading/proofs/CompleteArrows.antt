@@ -9,12 +9,16 @@ use Rattle.es6_ast.specs.declared.tree.Expression.TheVariants as expr
 use Rattle.es6_ast.specs.declared.tree.Parameter.{Parameter}
 use Rattle.es6_ast.specs.declared.tree.Parameter.TheVariants.{SingleParameter, RestParameter}
 use Rattle.es6_ast.specs.declared.tree.Part.{Part}
+use Rattle.es6_ast.specs.declared.settings.Flags.{Flags}
+use Rattle.es6_ast.specs.declared.settings.Role.TheVariants.{Leading}
+use Rattle.es6_ast.specs.declared.settings.Shape.{Shape}
+use Rattle.es6_ast.specs.declared.settings.Shape.TheVariants.{Bare, Grouped}
 use Rattle.es6_ast.specs.Tokens.{Filled, IsMark, IsOnLine, across}
-use Rattle.es6_ast.specs.Grammar.{Flags, name_target, name_alone, IsName}
-use Rattle.es6_reading.specs.Parser.{next_is, Shape, Bare, Grouped}
+use Rattle.es6_ast.specs.Grammar.{name_target, name_alone, IsName}
+use Rattle.es6_reading.specs.Parser.{next_is}
 use Rattle.es6_reading.specs.Words.{begins_operand}
 use Rattle.es6_reading.specs.Refine.{Fits, refined_map, refine_part, parameters_of, parts_of, refine_parameters}
-use Rattle.es6_reading.specs.Expressions.{Leading, sequenced, parameters_before}
+use Rattle.es6_reading.specs.Expressions.{sequenced, parameters_before}
 use Rattle.es6_reading.proofs.RefineParameters.{IsNoSequence, one-alone}
 use Rattle.es6_reading.proofs.Enough.{Sure, sure-then, sure-both, map-refined, cons-refined}
 use Rattle.es6_reading.proofs.CompleteTokens.{parenthesis-begins}

@@ -16,9 +16,12 @@ use Rattle.es6_ast.specs.declared.tree.Pattern.{Pattern}
 use Rattle.es6_ast.specs.declared.tree.Arrow.{roll-Arrow}
 use Rattle.es6_ast.specs.declared.tree.ArrowBody.{ArrowBody}
 use Rattle.es6_ast.specs.declared.tree.ArrowBody.TheVariants.{ValueBody, BlockBody}
+use Rattle.es6_ast.specs.declared.settings.Flags.{Flags}
+use Rattle.es6_ast.specs.declared.settings.Shape.{Shape}
+use Rattle.es6_ast.specs.declared.settings.Shape.TheVariants.{Other}
 use Rattle.es6_ast.specs.Tokens.{Filling, Read, Inserted, Filled, IsWord, IsMark, IsOnLine, begin_of, across}
-use Rattle.es6_ast.specs.Grammar.{Flags, of_function, of_arrow, assign_kind}
-use Rattle.es6_reading.specs.Parser.{next_is, is_mark, mark, word, next_mark, Shape, Other, is_left}
+use Rattle.es6_ast.specs.Grammar.{of_function, of_arrow, assign_kind}
+use Rattle.es6_reading.specs.Parser.{next_is, is_mark, mark, word, next_mark, is_left}
 use Rattle.es6_reading.specs.Words.{unless, assign_at, is_arrow, arrow_at, unary_operators, operand_words, begins_operand, begins_unary, begins_expression}
 use Rattle.es6_reading.specs.Refine.{Fits, target_before}
 use Rattle.es6_reading.specs.Expressions.{fitting, parameters_before, arrow_if, arrow_body, assigned_with, after_conditional, star_at, ends_value, ends_yield, after_yield, without_yield, assignment}

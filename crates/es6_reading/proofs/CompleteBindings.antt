@@ -8,9 +8,10 @@ use Rattle.es6_ast.specs.declared.tree.Pattern.TheVariants as pattern
 use Rattle.es6_ast.specs.declared.tree.ArrayPart.{ArrayPart}
 use Rattle.es6_ast.specs.declared.tree.ArrayPart.TheVariants.{SkippedPart, SinglePart, RestPart}
 use Rattle.es6_ast.specs.declared.tree.Part.{Part, roll-Part}
+use Rattle.es6_ast.specs.declared.settings.Flags.{Flags}
 use Rattle.es6_ast.specs.Tokens.{Filled, IsMark, across}
 use Rattle.es6_ast.specs.Grammar as g
-use Rattle.es6_ast.specs.Grammar.{Flags, with_in, name_target, IsName}
+use Rattle.es6_ast.specs.Grammar.{with_in, name_target, IsName}
 use Rattle.es6_reading.specs.Parser.{next_is, mark}
 use Rattle.es6_reading.specs.Words.{free_name, begins_operand}
 use Rattle.es6_reading.specs.Parts.{rest_part, array_parts, binding_pattern, binding, initialized, one_part}

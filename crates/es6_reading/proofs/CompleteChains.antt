@@ -11,11 +11,17 @@ use Rattle.es6_ast.specs.declared.tree.Argument.{Argument}
 use Rattle.es6_ast.specs.declared.tree.Link.{Link}
 use Rattle.es6_ast.specs.declared.tree.Link.TheVariants as link
 use Rattle.es6_ast.specs.declared.tree.Template.{Template}
+use Rattle.es6_ast.specs.declared.settings.Flags.{Flags}
+use Rattle.es6_ast.specs.declared.settings.Role.{Role}
+use Rattle.es6_ast.specs.declared.settings.Role.TheVariants.{Callee}
+use Rattle.es6_ast.specs.declared.settings.Shape.{Shape}
+use Rattle.es6_ast.specs.declared.settings.Shape.TheVariants.{LeftHandSide}
+use Rattle.es6_ast.specs.Settings.{has_calls}
 use Rattle.es6_ast.specs.Tokens.{Filled, IsWord, IsMark, across}
-use Rattle.es6_ast.specs.Grammar.{Flags, with_in, chain_level, IsAnyName}
-use Rattle.es6_reading.specs.Parser.{next_is, mark, word, next_mark, Shape, LeftHandSide}
+use Rattle.es6_ast.specs.Grammar.{with_in, chain_level, IsAnyName}
+use Rattle.es6_reading.specs.Parser.{next_is, mark, word, next_mark}
 use Rattle.es6_reading.specs.Words.{stretch_at, begins_operand, operand_words, is_template_head}
-use Rattle.es6_reading.specs.Expressions.{Role, Callee, has_calls, after_callee, after_new, super_call, after_super, head, member_link, index_link, call_link, links, chain}
+use Rattle.es6_reading.specs.Expressions.{after_callee, after_new, super_call, after_super, head, member_link, index_link, call_link, links, chain}
 use Rattle.es6_reading.proofs.Posts.{Misses}
 use Rattle.es6_reading.proofs.Meanings.{is-mark-true}
 use Rattle.es6_reading.proofs.Spans.{Moves, ◌⟫◌, span-across}

@@ -2,16 +2,20 @@
 use Rattle.std.proofs.Common.{◌≡◌, ℕ, suc, ◌≤◌, Bool, true, false, ◌&&◌, ◌||◌, List, [], ◌∷◌, None, refl, ap, ◌∙◌, arith}
 use Rattle.std.proofs.lemmas.Bool.{false≢true}
 use Rattle.es6_ast.specs.declared.tree.Expression.{Expression}
+use Rattle.es6_ast.specs.declared.settings.Flags.{Flags}
+use Rattle.es6_ast.specs.declared.settings.Role.{Role}
+use Rattle.es6_ast.specs.declared.settings.Role.TheVariants.{Leading, Among, Heritage, Callee}
+use Rattle.es6_ast.specs.declared.settings.Shape.{Shape}
+use Rattle.es6_ast.specs.Settings.{has_calls}
 use Rattle.es6_ast.specs.Tokens.{Filled, Read}
-use Rattle.es6_ast.specs.Grammar.{Flags}
 use Rattle.es6_lexer.specs.declared.token.TokenKind.TheVariants as kinds
 use Rattle.es6_lexer.specs.declared.token.Punctuator.{Punctuator as Mark}
 use Rattle.es6_lexer.specs.declared.token.Punctuator.TheVariants as marks
 use Rattle.es_outside.specs.HostNames.{reserved_words}
-use Rattle.es6_reading.specs.Parser.{next_is, mark, Shape, Reading, is_left}
+use Rattle.es6_reading.specs.Parser.{next_is, mark, Reading, is_left}
 use Rattle.es6_reading.proofs.Posts.{Misses}
 use Rattle.es6_reading.specs.Words.{unary_at, unary_operators, operand_words, begins_operand, begins_unary, begins_expression}
-use Rattle.es6_reading.specs.Expressions.{Role, Leading, Among, Heritage, Callee, has_calls, binary_from}
+use Rattle.es6_reading.specs.Expressions.{binary_from}
 use Rattle.es6_reading.specs.Modules.{readers}
 use Rattle.es6_reading.proofs.Reading.{Eventually, deeper}
 use Rattle.es6_reading.proofs.Exactly.{ReadsExactly}

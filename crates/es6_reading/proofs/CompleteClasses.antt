@@ -8,13 +8,14 @@ use Rattle.es6_ast.specs.declared.tree.ClassMember.{ClassMember, roll-ClassMembe
 use Rattle.es6_ast.specs.declared.tree.Expression.{Expression}
 use Rattle.es6_ast.specs.declared.tree.Identifier.{Identifier}
 use Rattle.es6_ast.specs.declared.tree.Method.{Method}
+use Rattle.es6_ast.specs.declared.settings.Flags.{Flags}
+use Rattle.es6_ast.specs.declared.settings.Role.TheVariants.{Heritage}
 use Rattle.es6_ast.specs.Tokens.{Filled, IsWord, IsMark, across, is_identifier}
 use Rattle.es6_ast.specs.Grammar as g
-use Rattle.es6_ast.specs.Grammar.{Flags, IsName}
+use Rattle.es6_ast.specs.Grammar.{IsName}
 use Rattle.es6_reading.specs.Parser.{next_is, mark, word, next_mark}
 use Rattle.es6_reading.specs.Words.{name_if, free_name}
 use Rattle.es6_reading.specs.Parts.{one_member, members, heritage, rest_of_class, named_class, begins_class_tail, class_after_word}
-use Rattle.es6_reading.specs.Expressions.{Heritage}
 use Rattle.es6_reading.specs.Modules.{readers}
 use Rattle.es6_reading.proofs.Posts.{Misses}
 use Rattle.es6_reading.proofs.Meanings.{is-mark-true}

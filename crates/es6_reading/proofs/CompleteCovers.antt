@@ -8,12 +8,16 @@ use Rattle.es6_ast.specs.declared.tree.Expression.TheVariants as expr
 use Rattle.es6_ast.specs.declared.tree.Identifier.{Identifier}
 use Rattle.es6_ast.specs.declared.tree.Parameter.{Parameter}
 use Rattle.es6_ast.specs.declared.tree.Rest.{Rest}
+use Rattle.es6_ast.specs.declared.settings.Flags.{Flags}
+use Rattle.es6_ast.specs.declared.settings.Role.TheVariants.{Leading}
+use Rattle.es6_ast.specs.declared.settings.Shape.TheVariants.{Covered}
+use Rattle.es6_ast.specs.Settings.{is_leading}
 use Rattle.es6_ast.specs.Tokens.{Filled, IsMark, IsOnLine, begin_of, across}
-use Rattle.es6_ast.specs.Grammar.{Flags, with_in, IsName}
-use Rattle.es6_reading.specs.Parser.{Input, Outcome, Took, Parser, after, returns, on, on_taken, next_is, mark, next_mark, Covered}
+use Rattle.es6_ast.specs.Grammar.{with_in, IsName}
+use Rattle.es6_reading.specs.Parser.{Input, Outcome, Took, Parser, after, returns, on, on_taken, next_is, mark, next_mark}
 use Rattle.es6_reading.specs.Words.{is_arrow, begins_expression}
 use Rattle.es6_reading.specs.Refine.{Refined, Fits, Misfit, TooNested, refined_map, parameters_of, parts_of, rest_parameter, parameters_in, refine_parameters}
-use Rattle.es6_reading.specs.Expressions.{Leading, is_leading, Held, held_parts, sequenced, covered, covered_rest, rest_after, held_group, grouped}
+use Rattle.es6_reading.specs.Expressions.{Held, held_parts, sequenced, covered, covered_rest, rest_after, held_group, grouped}
 use Rattle.es6_reading.proofs.Posts.{Misses}
 use Rattle.es6_reading.proofs.Meanings.{is-mark-true, mark-misses}
 use Rattle.es6_reading.proofs.Spans.{Moves, ◌⟫◌, span-across}

@@ -16,12 +16,19 @@ use Rattle.es6_ast.specs.declared.tree.Statement.{Statement}
 use Rattle.es6_ast.specs.declared.tree.Statement.TheVariants as stat
 use Rattle.es6_ast.specs.declared.tree.Function.{Function}
 use Rattle.es6_ast.specs.declared.tree.Class.{Class}
+use Rattle.es6_ast.specs.declared.settings.Flags.{Flags}
+use Rattle.es6_ast.specs.declared.settings.Role.{Role}
+use Rattle.es6_ast.specs.declared.settings.Role.TheVariants.{Among}
+use Rattle.es6_ast.specs.declared.settings.Stand.{Stand}
+use Rattle.es6_ast.specs.declared.settings.Stand.TheVariants.{Listed, Labelled}
+use Rattle.es6_ast.specs.declared.settings.Shape.TheVariants.{Bare}
+use Rattle.es6_ast.specs.Settings.{has_calls}
 use Rattle.es6_ast.specs.Tokens.{Filled, Filling, Read, IsWord, IsMark, is_star, across, begin_of, is_identifier}
 use Rattle.es6_ast.specs.Grammar as g
-use Rattle.es6_ast.specs.Grammar.{Flags, IsName, NotStar, is_lexical, kind_word}
-use Rattle.es6_reading.specs.Parser.{Input, Outcome, Parser, after, next_is, is_mark, mark, word, next_mark, next_word, choose, Bare, Stand, Listed, Labelled, Inner}
+use Rattle.es6_ast.specs.Grammar.{IsName, NotStar, is_lexical, kind_word}
+use Rattle.es6_reading.specs.Parser.{Input, Outcome, Parser, after, next_is, is_mark, mark, word, next_mark, next_word, choose, Inner}
 use Rattle.es6_reading.specs.Words.{name_if, free_name, begins_operand}
-use Rattle.es6_reading.specs.Expressions.{Role, Among, has_calls, primary, head}
+use Rattle.es6_reading.specs.Expressions.{primary, head}
 use Rattle.es6_reading.specs.Parts.{star, named_function, function_after_word, class_after_word}
 use Rattle.es6_reading.specs.Statements.{variables_statement, labelled, label_of, label_or_end, expression_statement, function_declaration, class_declaration, labelled_function, jump_statement, compound_statement, statement}
 use Rattle.es6_reading.proofs.Posts.{Misses}

@@ -16,10 +16,11 @@ use Rattle.es6_ast.specs.declared.tree.Statement.TheVariants as stat
 use Rattle.es6_ast.specs.declared.module.Item.{Item}
 use Rattle.es6_ast.specs.declared.module.Item.TheVariants as item
 use Rattle.es6_ast.specs.declared.module.DefaultExport.TheVariants.{DefaultFunction, DefaultClass, DefaultValue}
+use Rattle.es6_ast.specs.declared.settings.Flags.{Flags}
+use Rattle.es6_ast.specs.declared.settings.Stand.TheVariants.{Listed, Labelled}
 use Rattle.es6_ast.specs.Tokens.{Filled, IsWord, across}
 use Rattle.es6_ast.specs.Grammar as g
-use Rattle.es6_ast.specs.Grammar.{Flags, IsEnd, of_module, NotStar, NotWord, IsStatement}
-use Rattle.es6_reading.specs.Parser.{Listed, Labelled}
+use Rattle.es6_ast.specs.Grammar.{IsEnd, of_module, NotStar, NotWord, IsStatement}
 use Rattle.es6_reading.specs.Refine.{Open}
 use Rattle.es6_reading.specs.Statements.{compound_statement, statement}
 use Rattle.es6_reading.specs.Modules.{export_item, exported_declaration, export_declaration, is_end}

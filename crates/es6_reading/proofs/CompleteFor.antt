@@ -16,9 +16,11 @@ use Rattle.es6_ast.specs.declared.tree.ForFirst.{ForFirst}
 use Rattle.es6_ast.specs.declared.tree.ForFirst.TheVariants.{NoFirst, FirstVariables, FirstExpression}
 use Rattle.es6_ast.specs.declared.tree.ForTarget.{ForTarget}
 use Rattle.es6_ast.specs.declared.tree.ForTarget.TheVariants.{Declared, Assigned}
+use Rattle.es6_ast.specs.declared.settings.Flags.{Flags}
+use Rattle.es6_ast.specs.declared.settings.Stand.TheVariants.{Under}
 use Rattle.es6_ast.specs.Tokens.{Filled, IsWord, IsMark, is_word, across}
-use Rattle.es6_ast.specs.Grammar.{Flags, with_in, without_in, IsEnd, kind_word}
-use Rattle.es6_reading.specs.Parser.{Input, next_is, mark, word, next_word, choose, is_left, Under, Inner}
+use Rattle.es6_ast.specs.Grammar.{with_in, without_in, IsEnd, kind_word}
+use Rattle.es6_reading.specs.Parser.{Input, next_is, mark, word, next_word, choose, is_left, Inner}
 use Rattle.es6_reading.specs.Words.{look_up, kind_at, unary_operators, operand_words, begins_operand, begins_unary, begins_expression}
 use Rattle.es6_reading.specs.Refine.{Fits, target_before}
 use Rattle.es6_reading.specs.Parts.{initialized}

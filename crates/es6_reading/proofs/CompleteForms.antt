@@ -32,11 +32,13 @@ use Rattle.es6_ast.specs.declared.tree.ForFirst.TheVariants.{NoFirst}
 use Rattle.es6_ast.specs.declared.tree.ForTarget.{ForTarget}
 use Rattle.es6_ast.specs.declared.tree.ForTarget.TheVariants.{Declared, Assigned}
 use Rattle.es_text.specs.declared.Span.{Span}
+use Rattle.es6_ast.specs.declared.settings.Flags.{Flags}
+use Rattle.es6_ast.specs.declared.settings.Stand.TheVariants.{Listed}
 use Rattle.es6_ast.specs.Tokens.{Filled, Read, IsWord, IsMark, IsOnLine, across}
 use Rattle.es6_ast.specs.Targets.{is_pattern}
 use Rattle.es6_ast.specs.Grammar as g
-use Rattle.es6_ast.specs.Grammar.{Flags, with_in, without_in, of_function, is_plain, is_before, update_kind, assign_kind, level_left_hand_side, chain_level, kind_word, name_target, name_alone, NotStar, IsName, IsTarget, IsExpression, IsNode, AreOperands}
-use Rattle.es6_reading.specs.Parser.{next_is, mark, Listed}
+use Rattle.es6_ast.specs.Grammar.{with_in, without_in, of_function, is_plain, is_before, update_kind, assign_kind, level_left_hand_side, chain_level, kind_word, name_target, name_alone, NotStar, IsName, IsTarget, IsExpression, IsNode, AreOperands}
+use Rattle.es6_reading.specs.Parser.{next_is, mark}
 use Rattle.es6_reading.specs.Refine.{Fits, made_part, target_before, refine_pattern}
 use Rattle.es6_reading.specs.Statements.{OfHeader, ends_case}
 use Rattle.es6_reading.specs.Modules.{readers}

@@ -8,9 +8,10 @@ use Rattle.es6_ast.specs.declared.tree.Parameter.{Parameter}
 use Rattle.es6_ast.specs.declared.tree.Parameter.TheVariants.{SingleParameter, RestParameter}
 use Rattle.es6_ast.specs.declared.tree.Part.{Part}
 use Rattle.es6_ast.specs.declared.tree.Statement.{Statement}
+use Rattle.es6_ast.specs.declared.settings.Flags.{Flags}
 use Rattle.es6_ast.specs.Tokens.{Filled, IsWord, IsMark, across}
 use Rattle.es6_ast.specs.Grammar as g
-use Rattle.es6_ast.specs.Grammar.{Flags, of_function, name_target, IsName, IsStar}
+use Rattle.es6_ast.specs.Grammar.{of_function, name_target, IsName, IsStar}
 use Rattle.es6_reading.specs.Parser.{Took, Parser, after, on_taken, next_is, mark, next_mark, Inner}
 use Rattle.es6_reading.specs.Words.{begins_operand}
 use Rattle.es6_reading.specs.Parts.{rest_parameter, more_parameters, parameters, statements, function_body, signature, star, rest_of_function, named_function, function_after_word}

@@ -9,13 +9,17 @@ use Rattle.es6_ast.specs.declared.tree.Expression.TheVariants as expr
 use Rattle.es6_ast.specs.declared.tree.Function.{Function}
 use Rattle.es6_ast.specs.declared.tree.Parameter.{Parameter}
 use Rattle.es6_ast.specs.declared.tree.Template.{Template}
+use Rattle.es6_ast.specs.declared.settings.Flags.{Flags}
+use Rattle.es6_ast.specs.declared.settings.Role.{Role}
+use Rattle.es6_ast.specs.declared.settings.Shape.TheVariants.{Grouped, LeftHandSide}
+use Rattle.es6_ast.specs.Settings.{is_leading}
 use Rattle.es6_ast.specs.Tokens.{Filled, IsWord, IsMark, begin_of, across}
-use Rattle.es6_ast.specs.Grammar.{Flags, with_in}
-use Rattle.es6_reading.specs.Parser.{Input, Outcome, Took, Parser, after, returns, on, on_taken, next_is, mark, next_mark, Inner, Grouped, LeftHandSide, on_group}
+use Rattle.es6_ast.specs.Grammar.{with_in}
+use Rattle.es6_reading.specs.Parser.{Input, Outcome, Took, Parser, after, returns, on, on_taken, next_is, mark, next_mark, Inner, on_group}
 use Rattle.es6_reading.specs.Words.{begins_operand, begins_unary, begins_expression, unary_operators, operand_words}
 use Rattle.es6_reading.specs.Parts.{function_after_word, class_after_word, on_template}
 use Rattle.es6_reading.specs.Refine.{Fits}
-use Rattle.es6_reading.specs.Expressions.{Role, is_leading, Held, held_parts, sequenced, closed_group, held_group, grouped, bracketed, composed, primary, head, left, parameters_before}
+use Rattle.es6_reading.specs.Expressions.{Held, held_parts, sequenced, closed_group, held_group, grouped, bracketed, composed, primary, head, left, parameters_before}
 use Rattle.es6_reading.proofs.Meanings.{is-mark-true}
 use Rattle.es6_reading.proofs.Spans.{Moves, ◌⟫◌, span-across}
 use Rattle.es6_reading.proofs.Derived.{one}

@@ -13,9 +13,10 @@ use Rattle.es6_ast.specs.declared.module.Module.{Module}
 use Rattle.es6_ast.specs.declared.module.Item.{Item}
 use Rattle.es6_ast.specs.declared.module.Item.TheVariants as item
 use Rattle.es6_ast.specs.declared.module.DefaultExport.TheVariants.{DefaultFunction, DefaultClass, DefaultValue}
+use Rattle.es6_ast.specs.declared.settings.Stand.TheVariants.{Listed}
 use Rattle.es6_ast.specs.Tokens.{Filled, Read, IsWord, is_word, across}
 use Rattle.es6_ast.specs.Grammar.{IsEnd, of_module, NotWord}
-use Rattle.es6_reading.specs.Parser.{Input, Outcome, Took, Parser, returns, refused, after, next_is, if_next, mark, word, Listed, Inner}
+use Rattle.es6_reading.specs.Parser.{Input, Outcome, Took, Parser, returns, refused, after, next_is, if_next, mark, word, Inner}
 use Rattle.es6_reading.specs.Statements.{variables_statement, function_declaration, class_declaration}
 use Rattle.es6_reading.specs.Modules.{import_item, default_value, export_default, exported_declaration, export_declaration, export_item, statement_item, one_item, is_end, end_at, items, whole_module}
 use Rattle.es6_reading.proofs.Posts.{Misses}

@@ -16,8 +16,9 @@ use Rattle.es6_ast.specs.declared.tree.Parameter.{Parameter}
 use Rattle.es6_ast.specs.declared.tree.Property.{Property}
 use Rattle.es6_ast.specs.declared.tree.Property.TheVariants as property
 use Rattle.es6_ast.specs.declared.tree.Statement.{Statement}
+use Rattle.es6_ast.specs.declared.settings.Flags.{Flags}
 use Rattle.es6_ast.specs.Tokens.{Filled, Read, IsWord, IsMark, begin_of, across, is_identifier}
-use Rattle.es6_ast.specs.Grammar.{Flags, with_in, method_of}
+use Rattle.es6_ast.specs.Grammar.{with_in, method_of}
 use Rattle.es6_reading.specs.Parser.{next_is, mark, next_mark, Inner}
 use Rattle.es6_reading.specs.Words.{name_if, free_name, WordToken, TextToken, IntegerToken, key_in, key_at, accessor_at, accessor_name}
 use Rattle.es6_reading.specs.Parts.{key, computed_key, signature, method_after_key, generator_method}

@@ -5,11 +5,15 @@ use Rattle.es6_lexer.specs.declared.token.TokenKind.TheVariants as kinds
 use Rattle.es6_lexer.specs.declared.token.Punctuator.{Punctuator as Mark}
 use Rattle.es6_lexer.specs.declared.token.Punctuator.TheVariants as marks
 use Rattle.es6_ast.specs.declared.tree.Expression.{Expression}
+use Rattle.es6_ast.specs.declared.settings.Flags.{Flags}
+use Rattle.es6_ast.specs.declared.settings.Role.{Role}
+use Rattle.es6_ast.specs.declared.settings.Role.TheVariants.{Leading, Among}
+use Rattle.es6_ast.specs.declared.settings.Shape.{Shape}
+use Rattle.es6_ast.specs.Settings.{has_calls}
 use Rattle.es6_ast.specs.Tokens.{Filling, Filled, Read, begin_of}
-use Rattle.es6_ast.specs.Grammar.{Flags}
-use Rattle.es6_reading.specs.Parser.{Input, Took, Parser, returns, next_is, mark, word, next_mark, Shape, Reading, is_left, Inner, choose}
+use Rattle.es6_reading.specs.Parser.{Input, Took, Parser, returns, next_is, mark, word, next_mark, Reading, is_left, Inner, choose}
 use Rattle.es6_reading.specs.Words.{same_truth, stretch_if, stretch_in, stretch_at, is_template_head, is_arrow, unary_at, before_at, after_at, assign_at, binary_at, begins_operand, begins_unary, unary_operators, operand_words}
-use Rattle.es6_reading.specs.Expressions.{Role, Leading, Among, has_calls, head, links, chain, postfix, update, unary, power, raised, operands, binary_from, conditional, without_yield, after_conditional, assignment, sequence}
+use Rattle.es6_reading.specs.Expressions.{head, links, chain, postfix, update, unary, power, raised, operands, binary_from, conditional, without_yield, after_conditional, assignment, sequence}
 use Rattle.es_outside.specs.HostNames.{reserved_words}
 use Rattle.es6_reading.proofs.Posts.{Misses}
 use Rattle.es6_reading.proofs.Reading.{Eventually, always, then_, both, turn, begin, on-miss-is}

@@ -10,8 +10,9 @@ use Rattle.es6_ast.specs.declared.tree.Argument.{Argument}
 use Rattle.es6_ast.specs.declared.tree.Argument.TheVariants.{Single, Spread}
 use Rattle.es6_ast.specs.declared.tree.Template.{Template, roll-Template}
 use Rattle.es6_ast.specs.declared.tree.TemplatePart.{TemplatePart, roll-TemplatePart}
+use Rattle.es6_ast.specs.declared.settings.Flags.{Flags}
 use Rattle.es6_ast.specs.Tokens.{Filled, Read, IsMark, begin_of, across}
-use Rattle.es6_ast.specs.Grammar.{Flags, with_in}
+use Rattle.es6_ast.specs.Grammar.{with_in}
 use Rattle.es6_reading.specs.Parser.{Input, Parser, mark}
 use Rattle.es6_reading.specs.Words.{stretch_at, stretch_in}
 use Rattle.es6_reading.specs.Parts.{template_parts, parted_template, on_template}

@@ -9,10 +9,12 @@ use Rattle.es6_ast.specs.declared.tree.Identifier.{Identifier}
 use Rattle.es6_ast.specs.declared.tree.Expression.{Expression}
 use Rattle.es6_ast.specs.declared.tree.Statement.{Statement}
 use Rattle.es6_ast.specs.declared.tree.Statement.TheVariants as stat
+use Rattle.es6_ast.specs.declared.settings.Flags.{Flags}
+use Rattle.es6_ast.specs.declared.settings.Stand.TheVariants.{Under}
 use Rattle.es6_ast.specs.Tokens.{Filling, Read, Inserted, Filled, IsWord, IsMark, IsOnLine, across, is_identifier}
 use Rattle.es6_ast.specs.Grammar as g
-use Rattle.es6_ast.specs.Grammar.{Flags, with_in, IsEnd, IsDoWhileEnd, ends, IsName, IsLabel}
-use Rattle.es6_reading.specs.Parser.{word, ends_block, Under, Inner, inserts_anywhere, refused, choose, on_taken, kept_if, after, Took, Parser, semicolon_of_do_while}
+use Rattle.es6_ast.specs.Grammar.{with_in, IsEnd, IsDoWhileEnd, ends, IsName, IsLabel}
+use Rattle.es6_reading.specs.Parser.{word, ends_block, Inner, inserts_anywhere, refused, choose, on_taken, kept_if, after, Took, Parser, semicolon_of_do_while}
 use Rattle.es6_reading.specs.Words.{name_if, free_name, free_name_in, unary_operators, operand_words, begins_operand, begins_unary, begins_expression}
 use Rattle.es6_reading.specs.Statements.{do_statement, while_statement, label_if, label_at, optional_label, continue_statement, break_statement, is_inserted, goes_on, returned, return_statement, begins_line, throw_statement, debugger_statement}
 use Rattle.es6_reading.proofs.Spans.{◌⟫◌, span-across}

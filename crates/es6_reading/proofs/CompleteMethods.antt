@@ -12,8 +12,9 @@ use Rattle.es6_ast.specs.declared.tree.Part.{Part}
 use Rattle.es6_ast.specs.declared.tree.Property.{Property}
 use Rattle.es6_ast.specs.declared.tree.Property.TheVariants as property
 use Rattle.es6_ast.specs.declared.tree.Statement.{Statement}
+use Rattle.es6_ast.specs.declared.settings.Flags.{Flags}
 use Rattle.es6_ast.specs.Tokens.{Filled, IsWord, IsMark, begin_of, across, is_word}
-use Rattle.es6_ast.specs.Grammar.{Flags, of_function, method_of}
+use Rattle.es6_ast.specs.Grammar.{of_function, method_of}
 use Rattle.es6_reading.specs.Parser.{next_is, mark, word, next_mark, group}
 use Rattle.es6_reading.specs.Words.{any_name_in, accessor_in, accessor_at, accessor_name}
 use Rattle.es6_reading.specs.Parts.{no_parameter, one_parameter, accessor_parameters, accessor_kind, accessor, generator_method, method_after_accessor_word, method, member_of, member_after_static, one_member}

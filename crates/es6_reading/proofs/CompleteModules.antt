@@ -8,11 +8,11 @@ use Rattle.es6_ast.specs.declared.tree.Statement.{Statement}
 use Rattle.es6_ast.specs.declared.operators.VariableKind.TheVariants.{Var}
 use Rattle.es6_ast.specs.declared.module.Module.{Module}
 use Rattle.es6_ast.specs.declared.module.Item.{Item}
+use Rattle.es6_ast.specs.declared.settings.Stand.TheVariants.{Listed}
 use Rattle.es6_ast.specs.Tokens.{Filled, Read}
 use Rattle.es6_ast.specs.Grammar.{of_module, IsExpression, level_assignment, IsFunction, IsClass, IsDeclaration, IsStatement, IsListed}
 use Rattle.es6_ast.specs.Modules as m
 use Rattle.es6_ast.specs.Modules.{IsItem, AreItems, IsModule}
-use Rattle.es6_reading.specs.Parser.{Listed}
 use Rattle.es6_reading.specs.Laws.{IsComplete}
 use Rattle.es6_reading.proofs.CompleteImports.{alone-exact, clause-exact}
 use Rattle.es6_reading.proofs.CompleteExports.{export-all-exact, export-from-exact, export-names-exact}

@@ -6,13 +6,16 @@ use Rattle.es6_ast.specs.declared.tree.Expression.TheVariants as expr
 use Rattle.es6_ast.specs.declared.tree.Identifier.{Identifier}
 use Rattle.es6_ast.specs.declared.tree.Property.{Property}
 use Rattle.es6_ast.specs.declared.tree.Property.TheVariants as property
+use Rattle.es6_ast.specs.declared.settings.Flags.{Flags}
+use Rattle.es6_ast.specs.declared.settings.Role.{Role}
+use Rattle.es6_ast.specs.declared.settings.Shape.TheVariants.{LeftHandSide}
 use Rattle.es6_ast.specs.Tokens.{Filled, IsWord, IsMark, across, is_identifier}
 use Rattle.es6_ast.specs.Grammar as g
-use Rattle.es6_ast.specs.Grammar.{Flags, with_in, IsName}
-use Rattle.es6_reading.specs.Parser.{Input, Parser, on, on_taken, next_is, mark, next_mark, Inner, LeftHandSide}
+use Rattle.es6_ast.specs.Grammar.{with_in, IsName}
+use Rattle.es6_reading.specs.Parser.{Input, Parser, on, on_taken, next_is, mark, next_mark, Inner}
 use Rattle.es6_reading.specs.Words.{name_if, free_name, any_name_in, accessor_at, accessor_name}
 use Rattle.es6_reading.specs.Modules.{readers}
-use Rattle.es6_reading.specs.Expressions.{Role, properties, bracketed, composed, primary, head, shorthand, after_name, ends_name, after_accessor_word, one_property}
+use Rattle.es6_reading.specs.Expressions.{properties, bracketed, composed, primary, head, shorthand, after_name, ends_name, after_accessor_word, one_property}
 use Rattle.es6_reading.proofs.Posts.{Misses}
 use Rattle.es6_reading.proofs.Meanings.{is-mark-true, some_same, accessor-means}
 use Rattle.es6_reading.proofs.Spans.{◌⟫◌, span-across}

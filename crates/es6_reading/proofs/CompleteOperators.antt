@@ -7,11 +7,14 @@ use Rattle.es6_ast.specs.declared.operators.BinaryOperator.{BinaryOperator}
 use Rattle.es6_ast.specs.declared.tree.Expression.{Expression}
 use Rattle.es6_ast.specs.declared.tree.Expression.TheVariants as expr
 use Rattle.es6_ast.specs.declared.tree.Operand.{Operand, roll-Operand}
+use Rattle.es6_ast.specs.declared.settings.Flags.{Flags}
+use Rattle.es6_ast.specs.declared.settings.Role.TheVariants.{Leading, Among}
+use Rattle.es6_ast.specs.declared.settings.Shape.TheVariants.{Other}
 use Rattle.es6_ast.specs.Tokens.{Filled, Read, IsMark, IsOnLine, across}
-use Rattle.es6_ast.specs.Grammar.{Flags, with_in, is_in, is_before, unary_kind, update_kind, binary_kind, binary_level}
-use Rattle.es6_reading.specs.Parser.{mark, Other}
+use Rattle.es6_ast.specs.Grammar.{with_in, is_in, is_before, unary_kind, update_kind, binary_kind, binary_level}
+use Rattle.es6_reading.specs.Parser.{mark}
 use Rattle.es6_reading.specs.Words.{unary_at, before_at, after_at, binary_at}
-use Rattle.es6_reading.specs.Expressions.{Leading, Among, postfix, prefixed, updated, update, unary, raised, power, operands, binary_from, branches, conditional, more_parts, parts, assignment, sequence}
+use Rattle.es6_reading.specs.Expressions.{postfix, prefixed, updated, update, unary, raised, power, operands, binary_from, branches, conditional, more_parts, parts, assignment, sequence}
 use Rattle.es6_reading.proofs.Posts.{Misses}
 use Rattle.es6_reading.proofs.Spans.{◌⟫◌, span-across}
 use Rattle.es6_reading.proofs.Derived.{one}

@@ -10,9 +10,10 @@ use Rattle.es6_ast.specs.declared.tree.ObjectPart.TheVariants.{NamedPart, KeyedP
 use Rattle.es6_ast.specs.declared.tree.Part.{Part, roll-Part}
 use Rattle.es6_ast.specs.declared.tree.Key.{Key}
 use Rattle.es6_ast.specs.declared.tree.Key.TheVariants.{WordKey}
+use Rattle.es6_ast.specs.declared.settings.Flags.{Flags}
 use Rattle.es6_ast.specs.Tokens.{Filled, IsWord, IsMark, begin_of, across, is_identifier}
 use Rattle.es6_ast.specs.Grammar as g
-use Rattle.es6_ast.specs.Grammar.{Flags, with_in, name_target, name_alone, IsName}
+use Rattle.es6_ast.specs.Grammar.{with_in, name_target, name_alone, IsName}
 use Rattle.es6_reading.specs.Parser.{mark, next_mark, Inner}
 use Rattle.es6_reading.specs.Words.{name_if, free_name}
 use Rattle.es6_reading.specs.Parts.{object_parts, binding_pattern, binding, one_part, keyed_part, named_part, one_object_part}

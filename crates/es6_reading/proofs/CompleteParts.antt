@@ -5,9 +5,10 @@ use Rattle.es6_lexer.specs.declared.token.Punctuator.TheVariants as marks
 use Rattle.es6_ast.specs.declared.tree.Expression.{Expression, out-Expression}
 use Rattle.es6_ast.specs.declared.tree.Expression.TheVariants as expr
 use Rattle.es6_ast.specs.declared.tree.Identifier.{Identifier}
+use Rattle.es6_ast.specs.declared.settings.Flags.{Flags}
 use Rattle.es6_ast.specs.Tokens.{Filled, IsMark, across}
 use Rattle.es6_ast.specs.Grammar as g
-use Rattle.es6_ast.specs.Grammar.{Flags, with_in, IsName, IsNode, IsSuperCall}
+use Rattle.es6_ast.specs.Grammar.{with_in, IsName, IsNode, IsSuperCall}
 use Rattle.es6_reading.specs.Refine.{parts_of}
 use Rattle.es6_reading.specs.Expressions.{sequenced}
 use Rattle.es6_reading.proofs.RefineParameters.{IsNoSequence, one-alone}

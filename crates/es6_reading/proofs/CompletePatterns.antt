@@ -20,9 +20,10 @@ use Rattle.es6_ast.specs.declared.tree.Property.{Property, out-Property}
 use Rattle.es6_ast.specs.declared.tree.Property.TheVariants as property
 use Rattle.es6_ast.specs.declared.tree.Key.{Key}
 use Rattle.es6_ast.specs.declared.tree.Part.{Part}
+use Rattle.es6_ast.specs.declared.settings.Flags.{Flags}
 use Rattle.es6_ast.specs.Tokens.{Filled, IsMark, across}
 use Rattle.es6_ast.specs.Targets.{is_simple}
-use Rattle.es6_ast.specs.Grammar.{Flags, with_in, level_left_hand_side, name_target, name_alone, IsName, IsExpression, IsTarget}
+use Rattle.es6_ast.specs.Grammar.{with_in, level_left_hand_side, name_target, name_alone, IsName, IsExpression, IsTarget}
 use Rattle.es6_reading.specs.Parser.{mark}
 use Rattle.es6_reading.specs.Refine.{Fits, span_of, made_part, rest_of, else_itself, array_parts_of, property_part, object_parts_of, refine, refine_pattern, target_before}
 use Rattle.es6_reading.proofs.Posts.{Misses}

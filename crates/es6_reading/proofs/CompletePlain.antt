@@ -8,9 +8,12 @@ use Rattle.es6_ast.specs.declared.tree.Identifier.{Identifier}
 use Rattle.es6_ast.specs.declared.tree.Expression.{Expression}
 use Rattle.es6_ast.specs.declared.tree.Statement.{Statement}
 use Rattle.es6_ast.specs.declared.tree.Statement.TheVariants as stat
+use Rattle.es6_ast.specs.declared.settings.Flags.{Flags}
+use Rattle.es6_ast.specs.declared.settings.Stand.{Stand}
+use Rattle.es6_ast.specs.declared.settings.Stand.TheVariants.{Listed, Under, Labelled}
 use Rattle.es6_ast.specs.Tokens.{Filling, Read, Inserted, Filled, IsMark, is_word, is_left_brace, across, begin_of}
-use Rattle.es6_ast.specs.Grammar.{Flags, IsEnd, ends, NotBrace, NotWord}
-use Rattle.es6_reading.specs.Parser.{Input, Parser, next_is, is_mark, mark, word, next_mark, next_word, Stand, Listed, Under, Labelled, Inner, ends_block}
+use Rattle.es6_ast.specs.Grammar.{IsEnd, ends, NotBrace, NotWord}
+use Rattle.es6_reading.specs.Parser.{Input, Parser, next_is, is_mark, mark, word, next_mark, next_word, Inner, ends_block}
 use Rattle.es6_reading.specs.Words.{lexical_kind_at, unary_operators, operand_words, begins_operand, begins_unary, begins_expression}
 use Rattle.es6_reading.specs.Statements.{is_inserted, ends_case, expression_end, label_of, label_or_end, expression_statement, on_more, begins_declaration, plain_statement, jump_statement, compound_statement, statement}
 use Rattle.es6_reading.specs.Modules.{is_end_kind}

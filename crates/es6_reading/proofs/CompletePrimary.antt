@@ -10,12 +10,15 @@ use Rattle.es6_ast.specs.declared.tree.Identifier.{Identifier}
 use Rattle.es6_ast.specs.declared.tree.Expression.{Expression}
 use Rattle.es6_ast.specs.declared.tree.Expression.TheVariants as expr
 use Rattle.es6_ast.specs.declared.tree.Element.{Element}
+use Rattle.es6_ast.specs.declared.settings.Flags.{Flags}
+use Rattle.es6_ast.specs.declared.settings.Role.{Role}
+use Rattle.es6_ast.specs.declared.settings.Shape.TheVariants.{Bare, LeftHandSide}
 use Rattle.es6_ast.specs.Tokens.{Filled, Read, IsWord, IsMark, across, is_identifier}
 use Rattle.es6_ast.specs.Grammar as g
-use Rattle.es6_ast.specs.Grammar.{Flags, with_in, literal_kind, IsName, IsAnyName}
-use Rattle.es6_reading.specs.Parser.{mark, word, Bare, LeftHandSide, Inner}
+use Rattle.es6_ast.specs.Grammar.{with_in, literal_kind, IsName, IsAnyName}
+use Rattle.es6_reading.specs.Parser.{mark, word, Inner}
 use Rattle.es6_reading.specs.Words.{name_if, free_name}
-use Rattle.es6_reading.specs.Expressions.{Role, elements, bracketed, composed, primary, after_super, head}
+use Rattle.es6_reading.specs.Expressions.{elements, bracketed, composed, primary, after_super, head}
 use Rattle.es6_reading.proofs.Spans.{◌⟫◌, span-across}
 use Rattle.es6_reading.proofs.Derived.{one}
 use Rattle.es6_reading.proofs.Reading.{always, both, begin}

@@ -16,10 +16,13 @@ use Rattle.es6_ast.specs.declared.tree.Pattern.{Pattern}
 use Rattle.es6_ast.specs.declared.tree.Block.{Block, roll-Block}
 use Rattle.es6_ast.specs.declared.tree.Condition.{Condition, roll-Condition}
 use Rattle.es6_ast.specs.declared.tree.Part.{Part, roll-Part}
+use Rattle.es6_ast.specs.declared.settings.Flags.{Flags}
+use Rattle.es6_ast.specs.declared.settings.Stand.{Stand}
+use Rattle.es6_ast.specs.declared.settings.Stand.TheVariants.{Listed, Under}
 use Rattle.es6_ast.specs.Tokens.{Filling, Read, Inserted, Filled, IsWord, IsMark, is_word, across}
 use Rattle.es6_ast.specs.Grammar as g
-use Rattle.es6_ast.specs.Grammar.{Flags, with_in, IsEnd, ends, name_target, name_alone, IsName, NotWord}
-use Rattle.es6_reading.specs.Parser.{Parser, next_is, is_mark, mark, word, next_mark, next_word, Stand, Listed, Under, Inner}
+use Rattle.es6_ast.specs.Grammar.{with_in, IsEnd, ends, name_target, name_alone, IsName, NotWord}
+use Rattle.es6_reading.specs.Parser.{Parser, next_is, is_mark, mark, word, next_mark, next_word, Inner}
 use Rattle.es6_reading.specs.Words.{name_if, free_name, assign_at, assign_operators}
 use Rattle.es6_reading.specs.Parts.{binding, initialized, block, statements}
 use Rattle.es6_reading.specs.Expressions.{ends_yield}

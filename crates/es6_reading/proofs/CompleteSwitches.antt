@@ -12,10 +12,12 @@ use Rattle.es6_ast.specs.declared.tree.Pattern.{Pattern}
 use Rattle.es6_ast.specs.declared.tree.Block.{Block}
 use Rattle.es6_ast.specs.declared.tree.Case.{Case, roll-Case}
 use Rattle.es6_ast.specs.declared.tree.Catch.{Catch, roll-Catch}
+use Rattle.es6_ast.specs.declared.settings.Flags.{Flags}
+use Rattle.es6_ast.specs.declared.settings.Stand.TheVariants.{Listed}
 use Rattle.es6_ast.specs.Tokens.{Filling, Read, Inserted, Filled, IsWord, IsMark, is_word, across}
 use Rattle.es6_ast.specs.Grammar as g
-use Rattle.es6_ast.specs.Grammar.{Flags, with_in, AreCases}
-use Rattle.es6_reading.specs.Parser.{Parser, choose, if_next, next_is, is_mark, mark, word, next_word, Listed}
+use Rattle.es6_ast.specs.Grammar.{with_in, AreCases}
+use Rattle.es6_reading.specs.Parser.{Parser, choose, if_next, next_is, is_mark, mark, word, next_word}
 use Rattle.es6_reading.specs.Statements.{is_inserted, ends_case, in_case, case_clause, default_clause, cases, switch_statement, catch_parameter, handler, after_handler, only_finally, try_statement}
 use Rattle.es6_reading.specs.Modules.{readers}
 use Rattle.es6_reading.proofs.Meanings.{same_bytes, is-mark-true}

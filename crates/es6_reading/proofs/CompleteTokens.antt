@@ -17,8 +17,9 @@ use Rattle.es6_ast.specs.declared.operators.AssignOperator.{AssignOperator}
 use Rattle.es6_ast.specs.declared.operators.AssignOperator.TheVariants as assign
 use Rattle.es6_ast.specs.declared.operators.Literal.{Literal}
 use Rattle.es6_ast.specs.declared.operators.Literal.TheVariants as literals
+use Rattle.es6_ast.specs.declared.settings.Flags.{Flags}
 use Rattle.es6_ast.specs.Tokens.{Filling, Read, Inserted, Filled, IsWord, IsMark, is_word, is_identifier}
-use Rattle.es6_ast.specs.Grammar.{Flags, IsEnd, ends, is_in, is_before, unary_kind, update_kind, assign_kind, binary_kind, binary_level, literal_kind}
+use Rattle.es6_ast.specs.Grammar.{IsEnd, ends, is_in, is_before, unary_kind, update_kind, assign_kind, binary_kind, binary_level, literal_kind}
 use Rattle.es6_reading.specs.Parser.{is_mark, kept_if, mark, word, next_is, next_mark}
 use Rattle.es6_reading.specs.Words.{same_kind, look_up, unary_operators, unary_at, before_at, unless, after_at, assign_operators, assign_at, binary_operators, operator_of_level, binary_at, is_arrow, is_template_head, operand_words, begins_operand, begins_unary, begins_expression}
 use Rattle.es6_reading.specs.Expressions.{ends_yield}

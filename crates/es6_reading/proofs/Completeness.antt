@@ -31,10 +31,12 @@ use Rattle.es6_ast.specs.declared.tree.Catch.{Catch}
 use Rattle.es6_ast.specs.declared.tree.Condition.{Condition}
 use Rattle.es6_ast.specs.declared.tree.ForFirst.{ForFirst}
 use Rattle.es6_ast.specs.declared.tree.ForTarget.{ForTarget}
+use Rattle.es6_ast.specs.declared.settings.Flags.{Flags}
+use Rattle.es6_ast.specs.declared.settings.Stand.{Stand}
+use Rattle.es6_ast.specs.declared.settings.Stand.TheVariants.{Listed, Under, Labelled}
 use Rattle.es6_ast.specs.Tokens.{Filled, IsMark, IsOnLine}
 use Rattle.es6_ast.specs.Grammar as g
-use Rattle.es6_ast.specs.Grammar.{Flags, with_in, of_function, IsExpression, IsNode, IsSuperCall, IsNewCallee, AreElements, IsArgument, AreArguments, AreLinks, AreOperands, AreMore, IsTemplate, AreTemplateParts, AreProperties, IsProperty, IsKey, IsAssigned, IsPattern, IsTarget, IsPart, AreArrayParts, IsRest, AreObjectParts, IsObjectPart, AreParameters, AreArrowParameters, IsArrowBody, IsFunction, IsSignature, IsMethod, IsClass, IsClassTail, AreMembers, AreStatements, IsListed, IsDeclaration, AreVariables, IsVariable, IsStatement, IsBlock, IsIf, IsCondition, IsForFirst, IsForTarget, IsOptional, AreCases, AreInCase, IsCatch}
-use Rattle.es6_reading.specs.Parser.{Stand, Listed, Under, Labelled}
+use Rattle.es6_ast.specs.Grammar.{with_in, of_function, IsExpression, IsNode, IsSuperCall, IsNewCallee, AreElements, IsArgument, AreArguments, AreLinks, AreOperands, AreMore, IsTemplate, AreTemplateParts, AreProperties, IsProperty, IsKey, IsAssigned, IsPattern, IsTarget, IsPart, AreArrayParts, IsRest, AreObjectParts, IsObjectPart, AreParameters, AreArrowParameters, IsArrowBody, IsFunction, IsSignature, IsMethod, IsClass, IsClassTail, AreMembers, AreStatements, IsListed, IsDeclaration, AreVariables, IsVariable, IsStatement, IsBlock, IsIf, IsCondition, IsForFirst, IsForTarget, IsOptional, AreCases, AreInCase, IsCatch}
 use Rattle.es6_reading.specs.Parts.{template_parts}
 use Rattle.es6_reading.proofs.Reading.{Eventually}
 use Rattle.es6_reading.proofs.Exactly.{ReadsExactly}

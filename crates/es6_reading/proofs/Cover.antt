@@ -9,10 +9,11 @@ use Rattle.es6_ast.specs.declared.tree.Pattern.{Pattern}
 use Rattle.es6_ast.specs.declared.tree.Pattern.TheVariants as pattern
 use Rattle.es6_ast.specs.declared.tree.Argument.TheOpen as layer
 use Rattle.es6_ast.specs.declared.tree.Argument.TheOpen.{Expression-F}
+use Rattle.es6_ast.specs.declared.settings.Flags.{Flags}
 use Rattle.es6_ast.specs.Tokens.{Filled}
 use Rattle.es6_ast.specs.Targets.{as_target, is_pattern, misfit}
 use Rattle.es6_ast.specs.Grammar as g
-use Rattle.es6_ast.specs.Grammar.{Flags, is_plain, level_left_hand_side, IsExpression, IsAssigned}
+use Rattle.es6_ast.specs.Grammar.{is_plain, level_left_hand_side, IsExpression, IsAssigned}
 use Rattle.es6_reading.specs.Refine.{Open, Refined, Fits, Misfit, TooNested, refined_map, simple, refine, refine_pattern, refine_part, else_itself, target_before}
 use Rattle.es6_reading.specs.Refinements.{Places, no_misfit, first_misfit_at, too_deep, ComesFrom, ComeFromExpressions}
 use Rattle.es6_reading.proofs.RefineTargetOf.{layer_target, as_target-is}

@@ -9,10 +9,11 @@ use Rattle.es6_ast.specs.declared.tree.ArrayPart.TheVariants as array_part
 use Rattle.es6_ast.specs.declared.tree.ObjectPart.{ObjectPart, out-ObjectPart}
 use Rattle.es6_ast.specs.declared.tree.ObjectPart.TheVariants as object_part
 use Rattle.es6_ast.specs.declared.tree.Part.{Part}
+use Rattle.es6_ast.specs.declared.settings.Flags.{Flags}
 use Rattle.es6_ast.specs.Tokens.{Filled}
 use Rattle.es6_ast.specs.Targets.{is_simple}
 use Rattle.es6_ast.specs.Grammar as g
-use Rattle.es6_ast.specs.Grammar.{Flags, level_left_hand_side, level_primary, IsName, IsExpression, IsPattern, IsTarget, IsPart, IsRest, IsObjectPart, AreArrayParts, AreObjectParts}
+use Rattle.es6_ast.specs.Grammar.{level_left_hand_side, level_primary, IsName, IsExpression, IsPattern, IsTarget, IsPart, IsRest, IsObjectPart, AreArrayParts, AreObjectParts}
 use Rattle.es6_reading.specs.Refine.{binds_names, all_bind, array_part_binds, object_part_binds, rest_binds}
 use Rattle.es6_reading.proofs.RefineTargetOf.{as_target-is}
 use Rattle.es6_reading.proofs.Enough.{Sure, sure-now, sure-next, sure-then, sure-both, sure-within, then-refined}

@@ -8,9 +8,10 @@ use Rattle.es6_ast.specs.declared.tree.Expression.TheVariants as expr
 use Rattle.es6_ast.specs.declared.tree.Parameter.{Parameter}
 use Rattle.es6_ast.specs.declared.tree.Parameter.TheVariants.{SingleParameter, RestParameter}
 use Rattle.es6_ast.specs.declared.tree.Part.{Part}
+use Rattle.es6_ast.specs.declared.settings.Flags.{Flags}
 use Rattle.es6_ast.specs.Tokens.{Filled, IsMark, across}
 use Rattle.es6_ast.specs.Grammar as g
-use Rattle.es6_ast.specs.Grammar.{Flags, with_in, level_sequence, level_assignment, level_primary, name_target, IsName, IsExpression, AreMore, AreParameters, AreArrowParameters}
+use Rattle.es6_ast.specs.Grammar.{with_in, level_sequence, level_assignment, level_primary, name_target, IsName, IsExpression, AreMore, AreParameters, AreArrowParameters}
 use Rattle.es6_reading.specs.Refine.{refined_map, refine_part, parameters_of, parts_of, refine_parameters}
 use Rattle.es6_reading.specs.Refinements.{IsCover, empty_cover, rest_cover, held_cover, ComesFrom}
 use Rattle.es6_reading.proofs.RefineParameters.{IsNoSequence, one-alone}

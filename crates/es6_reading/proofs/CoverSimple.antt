@@ -5,10 +5,11 @@ use Rattle.es6_ast.specs.declared.tree.Expression.{Expression, out-Expression}
 use Rattle.es6_ast.specs.declared.tree.Expression.TheVariants as expr
 use Rattle.es6_ast.specs.declared.tree.Argument.TheOpen as layer
 use Rattle.es6_ast.specs.declared.tree.Argument.TheOpen.{Expression-F}
+use Rattle.es6_ast.specs.declared.settings.Flags.{Flags}
 use Rattle.es6_ast.specs.Tokens.{Filled, across}
 use Rattle.es6_ast.specs.Targets.{is_simple, no_target, ends_in_access}
 use Rattle.es6_ast.specs.Grammar as g
-use Rattle.es6_ast.specs.Grammar.{Flags, IsExpression, IsNode}
+use Rattle.es6_ast.specs.Grammar.{IsExpression, IsNode}
 use Rattle.es6_ast.proofs.TargetLaws.{pattern_misfit}
 use Rattle.es6_reading.specs.Refine.{Open, Refined, Fits, Misfit, TooNested, span_of, fits_if, is_access, held_at, simple, simple_in}
 use Rattle.es6_reading.proofs.RefineViews.{IsAnother, View, a_name, an_array, an_object, an_access, a_group, an_assignment, a_sequence, another}

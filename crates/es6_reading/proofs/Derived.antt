@@ -15,9 +15,14 @@ use Rattle.es6_ast.specs.declared.tree.Pattern.{Pattern}
 use Rattle.es6_ast.specs.declared.tree.Property.{Property}
 use Rattle.es6_ast.specs.declared.tree.Statement.{Statement}
 use Rattle.es6_ast.specs.declared.tree.Statement.TheVariants as stat
+use Rattle.es6_ast.specs.declared.settings.Flags.{Flags}
+use Rattle.es6_ast.specs.declared.settings.Stand.{Stand}
+use Rattle.es6_ast.specs.declared.settings.Stand.TheVariants.{Listed, Under, Labelled}
+use Rattle.es6_ast.specs.declared.settings.Shape.{Shape}
+use Rattle.es6_ast.specs.declared.settings.Shape.TheVariants.{Bare, Grouped, Covered, LeftHandSide, Other}
 use Rattle.es6_ast.specs.Tokens.{Read, Filled, IsWord, IsMark, across, is_identifier}
-use Rattle.es6_ast.specs.Grammar.{Flags, with_in, level_sequence, level_assignment, level_power, level_unary, level_left_hand_side, level_member, NotStar, name_alone, IsName, IsExpression, IsNewCallee, AreArrowParameters, IsPattern, IsTarget, IsPart, IsObjectPart, IsProperty, IsBlock, IsFunction, IsListed, IsStatement, AreMembers}
-use Rattle.es6_reading.specs.Parser.{Input, Parser, on, next_is, take_as, is_mark, mark, word, next_mark, Shape, Bare, Grouped, Covered, LeftHandSide, Other, is_left, is_covered, Reading, Stand, Listed, Under, Labelled, Inner, on_group}
+use Rattle.es6_ast.specs.Grammar.{with_in, level_sequence, level_assignment, level_power, level_unary, level_left_hand_side, level_member, NotStar, name_alone, IsName, IsExpression, IsNewCallee, AreArrowParameters, IsPattern, IsTarget, IsPart, IsObjectPart, IsProperty, IsBlock, IsFunction, IsListed, IsStatement, AreMembers}
+use Rattle.es6_reading.specs.Parser.{Input, Parser, on, next_is, take_as, is_mark, mark, word, next_mark, is_left, is_covered, Reading, Inner, on_group}
 use Rattle.es6_reading.specs.Words.{is_arrow, is_template_head}
 use Rattle.es6_reading.specs.Refine.{Fits}
 use Rattle.es6_reading.specs.Expressions.{parameters_before}

@@ -5,8 +5,9 @@ use Rattle.std.specs.Prelude.{is_some}
 use Rattle.es_text.specs.declared.Span.{Span}
 use Rattle.es6_lexer.specs.declared.token.Punctuator.{Punctuator as Mark}
 use Rattle.es6_lexer.specs.Punctuators.{spelling}
+use Rattle.es6_ast.specs.declared.settings.Stop.TheVariants.{Depth}
 use Rattle.es6_ast.specs.Tokens.{Filled, IsMark, begin_of, end_of}
-use Rattle.es6_reading.specs.Parser.{Input, Depth, Outcome, Took, Parser, after, ◌>>=◌, on, on_taken, choose, next_is, if_next, take_as, fails, returns, made, refused, is_mark, kept_if, mark, next_mark, from, Inner, on_group, group}
+use Rattle.es6_reading.specs.Parser.{Input, Outcome, Took, Parser, after, ◌>>=◌, on, on_taken, choose, next_is, if_next, take_as, fails, returns, made, refused, is_mark, kept_if, mark, next_mark, from, Inner, on_group, group}
 use Rattle.es6_reading.specs.Words.{is_arrow}
 use Rattle.es6_reading.specs.Parts.{on_opening}
 use Rattle.es6_reading.proofs.Posts.{Holds, took, fault, of_took, bind, weaken, Taken, taken, Misses, on-holds, choose-holds, if-holds, take-holds, refused-holds}

@@ -2,9 +2,10 @@
 use Rattle.std.proofs.Common.{◌≡◌, ℕ, Bool, true, false, List, [], ◌∷◌, ◌++◌, refl, sym, ap, subst, ◌∙◌, append_assoc}
 use Rattle.std.proofs.lemmas.Bool.{false≢true, true≢false}
 use Rattle.es_text.specs.declared.Span.{Span}
+use Rattle.es6_ast.specs.declared.settings.Flags.{Flags}
+use Rattle.es6_ast.specs.declared.settings.Stand.{Stand}
 use Rattle.es6_ast.specs.Tokens.{Filled}
-use Rattle.es6_ast.specs.Grammar.{Flags}
-use Rattle.es6_reading.specs.Parser.{Input, Took, Parser, after, ◌>>=◌, on_taken, choose, next_is, returns, refused, made, Stand, Inner, is_insertable, inserts, inserts_anywhere, ending, semicolon, semicolon_of_do_while}
+use Rattle.es6_reading.specs.Parser.{Input, Took, Parser, after, ◌>>=◌, on_taken, choose, next_is, returns, refused, made, Inner, is_insertable, inserts, inserts_anywhere, ending, semicolon, semicolon_of_do_while}
 use Rattle.es6_reading.specs.Refine.{Refined, Fits, Misfit, TooNested}
 use Rattle.es6_reading.specs.Expressions.{fitting}
 use Rattle.es6_reading.proofs.Posts.{Holds, took, fault, bind, Misses, on-holds, choose-holds, if-holds, refused-holds}

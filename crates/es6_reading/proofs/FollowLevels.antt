@@ -17,15 +17,18 @@ use Rattle.es6_ast.specs.declared.tree.Key.TheVariants.{WordKey}
 use Rattle.es6_ast.specs.declared.tree.Parameter.{Parameter}
 use Rattle.es6_ast.specs.declared.tree.Property.{Property}
 use Rattle.es6_ast.specs.declared.tree.Property.TheVariants as property
+use Rattle.es6_ast.specs.declared.settings.Flags.{Flags}
+use Rattle.es6_ast.specs.declared.settings.Role.{Role}
+use Rattle.es6_ast.specs.declared.settings.Role.TheVariants.{Leading, Among}
 use Rattle.es6_ast.specs.Tokens.{Filled, begin_of}
-use Rattle.es6_ast.specs.Grammar.{Flags, with_in, of_function, of_arrow}
+use Rattle.es6_ast.specs.Grammar.{with_in, of_function, of_arrow}
 use Rattle.es6_reading.specs.Parser.{Input, Parser, returns, ◌>>=◌, refused, no_number, on, choose, next_is, if_next, mark, word, next_mark, from, made, Reading, is_left, is_covered, Inner}
-use Rattle.es6_reading.specs.Words.{free_name, accessor_at, accessor_name, unary_operators, unary_at, before_at, after_at, assign_operators, assign_at, binary_operators, binary_at, is_arrow, arrow_at}
+use Rattle.es6_reading.specs.Words.{free_name, accessor_at, accessor_name, unary_operators, unary_at, before_at, after_at, assign_operators, assign_at, binary_operators, binary_at, arrow_at}
 use Rattle.es6_reading.specs.Refine.{Refined, Fits, Misfit, TooNested, target_before}
 use Rattle.es6_reading.specs.Parts.{key, accessor, generator_method}
-use Rattle.es6_reading.specs.Expressions.{other, Role, Leading, Among, chain, postfix, prefixed, updated, update, unary, raised, power, operands, operated, binary_from, branches, conditional, parameters_before, arrow_body, before_arrow, arrow_if, assigned_with, after_conditional, star_at, ends_yield, after_yield, without_yield, assignment, parts, more_parts, sequence, value_of_key, method_of_key, after_key, shorthand, after_name, ends_name, after_accessor_word, one_property}
+use Rattle.es6_reading.specs.Expressions.{other, chain, postfix, prefixed, updated, update, unary, raised, power, operands, operated, binary_from, branches, conditional, parameters_before, arrow_body, before_arrow, arrow_if, assigned_with, after_conditional, star_at, ends_yield, after_yield, without_yield, assignment, parts, more_parts, sequence, value_of_key, method_of_key, after_key, shorthand, after_name, ends_name, after_accessor_word, one_property}
 use Rattle.es6_reading.proofs.Posts.{Holds, took, fault, weaken, on-holds, choose-holds, if-holds, refused-holds}
-use Rattle.es6_reading.proofs.Follows.{plus, semi, SameHead, nothing, same, Near, near, Never, stop, FollowedBy, Followed, FirmBy, bind-follows, same-followed, stands-less}
+use Rattle.es6_reading.proofs.Follows.{plus, semi, SameHead, nothing, same, Near, near, stop, FollowedBy, Followed, FirmBy, bind-follows, same-followed, stands-less}
 use Rattle.es6_reading.proofs.FollowChoices.{Runs, on-missed, near-next, on-follows, mark-follows, choose-follows, StopsAtSemi, stopped, firm-followed, if-value, if-follows, before-arrow-follows, from-follows, from-firm, made-follows, made-at-follows, returns-follows, spelled-follows, firm-same, firm-followed-by, hit-firm, strictly, then-strict, on-strict, from-strict}
 use Rattle.es6_reading.proofs.FollowEnds.{Follows, fitting-follows, kept-fits, kept-misfit}
 use Rattle.es6_reading.proofs.FollowParts.{follow-key, follow-method-after-key, method-after-key-stops, follow-accessor, follow-generator}

@@ -16,9 +16,13 @@ use Rattle.es6_ast.specs.declared.module.ImportedNames.{ImportedNames}
 use Rattle.es6_ast.specs.declared.module.ImportedNames.TheVariants.{NoNames}
 use Rattle.es6_ast.specs.declared.module.ImportName.{ImportName}
 use Rattle.es6_ast.specs.declared.module.ExportName.{ExportName}
+use Rattle.es6_ast.specs.declared.settings.Flags.{Flags}
+use Rattle.es6_ast.specs.declared.settings.Stand.{Stand}
+use Rattle.es6_ast.specs.declared.settings.Stand.TheVariants.{Listed, Under, Labelled}
+use Rattle.es6_ast.specs.declared.settings.Stop.TheVariants.{Syntax, Outside}
 use Rattle.es6_ast.specs.Tokens.{Filled, begin_of, is_identifier}
-use Rattle.es6_ast.specs.Grammar.{Flags, of_module}
-use Rattle.es6_reading.specs.Parser.{Input, Syntax, Outside, Parser, fails, ◌>>=◌, refused, on, choose, if_next, take_as, mark, word, next_mark, next_word, made, Stand, Listed, Under, Labelled, Inner}
+use Rattle.es6_ast.specs.Grammar.{of_module}
+use Rattle.es6_reading.specs.Parser.{Input, Parser, fails, ◌>>=◌, refused, on, choose, if_next, take_as, mark, word, next_mark, next_word, made, Inner}
 use Rattle.es6_reading.specs.Words.{text_at, lexical_kind_at}
 use Rattle.es6_reading.specs.Parts.{identifier, name_of_any_kind, block, function_after_word, class_after_word}
 use Rattle.es6_reading.specs.Statements.{if_statement, variables_statement, expression_end, labelled, label_of, label_or_end, expression_statement, function_declaration, class_declaration, on_declaration, labelled_function, on_more, begins_declaration, plain_statement, jump_statement, compound_statement, block_statement, statement}

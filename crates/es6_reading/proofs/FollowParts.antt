@@ -20,9 +20,11 @@ use Rattle.es6_ast.specs.declared.tree.Method.{Method}
 use Rattle.es6_ast.specs.declared.tree.Part.{Part, roll-Part}
 use Rattle.es6_ast.specs.declared.tree.Stretch.{Stretch}
 use Rattle.es6_ast.specs.declared.tree.Template.{Template, roll-Template}
+use Rattle.es6_ast.specs.declared.settings.Flags.{Flags}
+use Rattle.es6_ast.specs.declared.settings.Stand.TheVariants.{Listed}
 use Rattle.es6_ast.specs.Tokens.{Filled, begin_of}
-use Rattle.es6_ast.specs.Grammar.{Flags, with_in, of_function, name_target, method_of}
-use Rattle.es6_reading.specs.Parser.{Input, Parser, returns, ◌>>=◌, refused, no_number, on, if_next, take_as, mark, word, next_mark, made, Listed, Inner, on_group, group}
+use Rattle.es6_ast.specs.Grammar.{with_in, of_function, name_target, method_of}
+use Rattle.es6_reading.specs.Parser.{Input, Parser, returns, ◌>>=◌, refused, no_number, on, if_next, take_as, mark, word, next_mark, made, Inner, on_group, group}
 use Rattle.es6_reading.specs.Words.{any_name, free_name, key_at, accessor_at, accessor_name, stretch_at}
 use Rattle.es6_reading.specs.Parts.{identifier, name_of_any_kind, key_of, computed_key, key, rest_part, array_parts, object_parts, binding_pattern, binding, initialized, one_part, keyed_part, named_part, one_object_part, rest_parameter, more_parameters, parameters, statements, block, function_body, signature, star, rest_of_function, named_function, function_after_word, method_after_key, no_parameter, one_parameter, accessor_parameters, accessor_kind, accessor, generator_method, method_after_accessor_word, method, member_of, member_after_static, one_member, members, heritage, rest_of_class, named_class, begins_class_tail, class_after_word, template_parts, parted_template, on_template}
 use Rattle.es6_reading.proofs.Posts.{Holds, fault, no-number-holds}

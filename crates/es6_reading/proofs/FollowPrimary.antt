@@ -8,12 +8,16 @@ use Rattle.es6_ast.specs.declared.tree.Argument.TheVariants.{Single, Spread}
 use Rattle.es6_ast.specs.declared.tree.Link.{Link}
 use Rattle.es6_ast.specs.declared.tree.Parameter.{Parameter}
 use Rattle.es6_ast.specs.declared.tree.Rest.{Rest}
+use Rattle.es6_ast.specs.declared.settings.Flags.{Flags}
+use Rattle.es6_ast.specs.declared.settings.Role.{Role}
+use Rattle.es6_ast.specs.declared.settings.Role.TheVariants.{Leading, Among, Heritage, Callee}
+use Rattle.es6_ast.specs.Settings.{is_leading, has_calls}
 use Rattle.es6_ast.specs.Tokens.{Filled, begin_of}
-use Rattle.es6_ast.specs.Grammar.{Flags, with_in}
+use Rattle.es6_ast.specs.Grammar.{with_in}
 use Rattle.es6_reading.specs.Parser.{Input, Parser, after, returns, ◌>>=◌, refused, no_number, no_expression, on, choose, next_is, if_next, mark, word, next_mark, from, last_end, made, Reading, Inner}
 use Rattle.es6_reading.specs.Words.{free_name, literal_at}
 use Rattle.es6_reading.specs.Refine.{Refined, Fits, Misfit, TooNested, parameters_of}
-use Rattle.es6_reading.specs.Expressions.{Role, Leading, Among, Heritage, Callee, is_leading, has_calls, no_operand, argument, elements, more_arguments, arguments, properties, covered, covered_rest, rest_after, Held, held_alone, held_first, held_parts, closed_group, whole, held_group, grouped, bracketed, composed, primary, after_callee, after_new, super_call, after_super, head, member_link, index_link, call_link, on_link, links, chained, chain}
+use Rattle.es6_reading.specs.Expressions.{no_operand, argument, elements, more_arguments, arguments, properties, covered, covered_rest, rest_after, Held, held_alone, held_first, held_parts, closed_group, whole, held_group, grouped, bracketed, composed, primary, after_callee, after_new, super_call, after_super, head, member_link, index_link, call_link, on_link, links, chained, chain}
 use Rattle.es6_reading.proofs.Posts.{Holds, took, fault, bind, weaken, on-holds, if-holds, refused-holds, no-number-holds, no-expression-holds}
 use Rattle.es6_reading.proofs.Follows.{plus, semi, SameHead, nothing, same, Near, near, stop, gaps-each, FollowedBy, Followed, FirmBy, bind-followed, bind-firm, bind-follows, same-followed-by, returns-followed}
 use Rattle.es6_reading.proofs.FollowChoices.{Runs, on-missed, on-hit, on-follows, mark-follows, near-next, choose-follows, StopsAtSemi, stopped, if-value, if-arrow-follows, group-follows, only-group-follows, from-follows, from-firm, made-follows, made-at-follows, returns-follows, spelled-follows, firm-same, on-firm, take-firm, strict-then-firm}

@@ -17,9 +17,12 @@ use Rattle.es6_ast.specs.declared.tree.ForFirst.TheVariants.{NoFirst, FirstVaria
 use Rattle.es6_ast.specs.declared.tree.ForTarget.{ForTarget}
 use Rattle.es6_ast.specs.declared.tree.ForTarget.TheVariants.{Declared}
 use Rattle.es6_ast.specs.declared.tree.Part.{Part}
+use Rattle.es6_ast.specs.declared.settings.Flags.{Flags}
+use Rattle.es6_ast.specs.declared.settings.Stand.TheVariants.{Listed, Under}
+use Rattle.es6_ast.specs.declared.settings.Stop.TheVariants.{Outside}
 use Rattle.es6_ast.specs.Tokens.{Filled}
-use Rattle.es6_ast.specs.Grammar.{Flags, with_in, without_in}
-use Rattle.es6_reading.specs.Parser.{Input, Outside, Parser, returns, fails, ◌>>=◌, refused, on, choose, take_as, mark, word, next_word, made, is_left, Listed, Under, Inner, group, semicolon}
+use Rattle.es6_ast.specs.Grammar.{with_in, without_in}
+use Rattle.es6_reading.specs.Parser.{Input, Parser, returns, fails, ◌>>=◌, refused, on, choose, take_as, mark, word, next_word, made, is_left, Inner, group, semicolon}
 use Rattle.es6_reading.specs.Words.{kind_at}
 use Rattle.es6_reading.specs.Refine.{target_before}
 use Rattle.es6_reading.specs.Parts.{block, initialized}

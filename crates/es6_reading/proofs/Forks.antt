@@ -15,14 +15,20 @@ use Rattle.es6_ast.specs.declared.tree.Parameter.{Parameter}
 use Rattle.es6_ast.specs.declared.tree.Rest.{Rest as Dots}
 use Rattle.es6_ast.specs.declared.tree.Stretch.{Stretch}
 use Rattle.es6_ast.specs.declared.tree.Template.{Template}
+use Rattle.es6_ast.specs.declared.settings.Flags.{Flags}
+use Rattle.es6_ast.specs.declared.settings.Role.{Role}
+use Rattle.es6_ast.specs.declared.settings.Role.TheVariants.{Leading, Among, Heritage, Callee}
+use Rattle.es6_ast.specs.declared.settings.Stand.{Stand}
+use Rattle.es6_ast.specs.declared.settings.Stand.TheVariants.{Listed}
+use Rattle.es6_ast.specs.declared.settings.Stop.{Stop}
+use Rattle.es6_ast.specs.Settings.{is_leading, has_calls}
 use Rattle.es6_ast.specs.Tokens.{Filled, begin_of}
-use Rattle.es6_ast.specs.Grammar.{Flags, with_in, of_function, of_arrow}
+use Rattle.es6_ast.specs.Grammar.{with_in, of_function, of_arrow}
 use Rattle.es6_reading.specs.Parser as p
-use Rattle.es6_reading.specs.Parser.{Input, Stop, Outcome, Took, Fault, Parser, after, on, on_taken, choose, next_is, if_next, from, take_as, mark, refused, no_number, no_expression, ending, Reading, is_left, is_covered, Stand, Listed, Under, Labelled, Inner, on_group, semicolon, inserts, inserts_anywhere, returns, ◌>>=◌}
+use Rattle.es6_reading.specs.Parser.{Input, Outcome, Took, Fault, Parser, after, on, on_taken, choose, next_is, if_next, from, take_as, mark, refused, no_number, no_expression, ending, Reading, is_left, is_covered, Inner, on_group, semicolon, inserts, inserts_anywhere, returns, ◌>>=◌}
 use Rattle.es6_reading.specs.Refine.{Refined, Fits, Misfit, TooNested}
 use Rattle.es6_reading.specs.Parts as t6
 use Rattle.es6_reading.specs.Expressions as e
-use Rattle.es6_reading.specs.Expressions.{Role, Leading, Among, Heritage, Callee}
 use Rattle.es6_reading.proofs.Follows.{semi}
 use Rattle.es6_reading.proofs.FollowParts as parts'
 use Rattle.es6_reading.proofs.FollowPrimary as primary'
@@ -409,7 +415,7 @@ module _ (i : Inner) (h : Paired i) where
 
   grouped : (f : Flags) (role : Role) (at : ℕ) (s : Input) → Twin (e.grouped i f role at) s
   unfolding e.grouped
-  grouped f role at s = either (e.is_leading role) _ _ s (next _ _ _ (λ d at. refl) s (λ t c. covered at None None c) (begins (primary'.dots_from i f role at) s (λ dots. next _ _ _ (λ d at. refl) s (λ t c. covered_rest at dots None c) (held_group f role at s)))) (held_group f role at s)
+  grouped f role at s = either (is_leading role) _ _ s (next _ _ _ (λ d at. refl) s (λ t c. covered at None None c) (begins (primary'.dots_from i f role at) s (λ dots. next _ _ _ (λ d at. refl) s (λ t c. covered_rest at dots None c) (held_group f role at s)))) (held_group f role at s)
 
   bracketed : (f : Flags) (role : Role) (at : ℕ) (s : Input) → Twin (e.bracketed i f role at) s
   unfolding e.bracketed
@@ -429,7 +435,7 @@ module _ (i : Inner) (h : Paired i) where
 
   after_super : (f : Flags) (role : Role) (at : ℕ) (s : Input) → Twin (e.after_super i f role at) s
   unfolding e.after_super e.super_call
-  after_super f role at s = next _ _ _ (λ d at. refl) s (λ t c. bind _ (any_name c) λ n d. done) (group i marks.LeftBracket _ _ s (λ c. bind _ (h.sequence (with_in f) c) λ x d. bind _ (take _ (λ d at. refl) d) λ t k. done) (either (e.has_calls role) _ _ s (group i marks.LeftParenthesis _ _ s (λ c. bind _ (arguments f c) λ x d. done) (nowhere s)) (nowhere s)))
+  after_super f role at s = next _ _ _ (λ d at. refl) s (λ t c. bind _ (any_name c) λ n d. done) (group i marks.LeftBracket _ _ s (λ c. bind _ (h.sequence (with_in f) c) λ x d. bind _ (take _ (λ d at. refl) d) λ t k. done) (either (has_calls role) _ _ s (group i marks.LeftParenthesis _ _ s (λ c. bind _ (arguments f c) λ x d. done) (nowhere s)) (nowhere s)))
 
   head : (f : Flags) (role : Role) (at : ℕ) (s : Input) → Twin (e.head i f role at) s
   unfolding e.head
@@ -454,7 +460,7 @@ module _ (i : Inner) (h : Paired i) where
 
   pub chain : (f : Flags) (role : Role) (s : Input) → Twin (e.chain i f role) s
   unfolding e.chain
-  chain f role s = begins (primary'.chain_from i f role) s (λ place. bind _ (head f role _ s) λ x c. bind _ (links f (e.has_calls role) i.fuel c) λ ls d. done)
+  chain f role s = begins (primary'.chain_from i f role) s (λ place. bind _ (head f role _ s) λ x c. bind _ (links f (has_calls role) i.fuel c) λ ls d. done)
 
   postfix : (f : Flags) (role : Role) (s : Input) → Twin (e.postfix i f role) s
   unfolding e.postfix

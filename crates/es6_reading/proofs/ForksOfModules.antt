@@ -16,14 +16,18 @@ use Rattle.es6_ast.specs.declared.tree.Statement.{Statement}
 use Rattle.es6_ast.specs.declared.module.ExportName.{ExportName}
 use Rattle.es6_ast.specs.declared.module.ImportedNames.{ImportedNames}
 use Rattle.es6_ast.specs.declared.module.Module.{Module}
+use Rattle.es6_ast.specs.declared.settings.Flags.{Flags}
+use Rattle.es6_ast.specs.declared.settings.Role.TheVariants.{Among, Heritage, Callee}
+use Rattle.es6_ast.specs.declared.settings.Stand.{Stand}
+use Rattle.es6_ast.specs.declared.settings.Stand.TheVariants.{Listed, Under, Labelled}
+use Rattle.es6_ast.specs.declared.settings.Stop.TheVariants.{Depth, Outside}
 use Rattle.es6_ast.specs.Tokens.{Filled, is_identifier}
-use Rattle.es6_ast.specs.Grammar.{Flags, with_in, without_in, of_module}
-use Rattle.es6_reading.specs.Parser.{Input, Depth, Outside, Outcome, Took, Parser, fails, choose, next_is, if_next, next_word, no_number, no_expression, is_left, Stand, Listed, Under, Labelled, Inner}
+use Rattle.es6_ast.specs.Grammar.{with_in, without_in, of_module}
+use Rattle.es6_reading.specs.Parser.{Input, Outcome, Took, Parser, fails, choose, next_is, if_next, next_word, no_number, no_expression, is_left, Inner}
 use Rattle.es6_reading.specs.Words.{begins_operand}
 use Rattle.es6_reading.specs.Statements as s6
 use Rattle.es6_reading.specs.Modules as m6
 use Rattle.es6_reading.specs.Expressions as e
-use Rattle.es6_reading.specs.Expressions.{Among, Heritage, Callee}
 use Rattle.es6_reading.proofs.FollowStatements as statements'
 use Rattle.es6_reading.proofs.FollowModules as modules'
 use Rattle.es6_reading.proofs.Follows.{semi}

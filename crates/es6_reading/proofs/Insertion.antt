@@ -4,10 +4,12 @@ use Rattle.std.proofs.Common.{◌≡◌, ℕ, zero, suc, Bool, true, false, List
 use Rattle.es6_ast.specs.declared.module.Module.{Module}
 use Rattle.es6_ast.specs.declared.module.Item.{Item}
 use Rattle.es6_ast.specs.declared.tree.Statement.{Statement}
+use Rattle.es6_ast.specs.declared.settings.Flags.{Flags}
+use Rattle.es6_ast.specs.declared.settings.Role.TheVariants.{Among, Heritage, Callee}
+use Rattle.es6_ast.specs.declared.settings.Stand.{Stand}
 use Rattle.es6_ast.specs.Tokens.{Filled}
-use Rattle.es6_ast.specs.Grammar.{Flags}
-use Rattle.es6_reading.specs.Parser.{Input, Outcome, Took, Fault, Parser, returns, ◌>>=◌, refused, next_is, if_next, Reading, Stand, Inner}
-use Rattle.es6_reading.specs.Expressions.{Among, Heritage, Callee, expression_at_limit, operand_at_limit}
+use Rattle.es6_reading.specs.Parser.{Input, Outcome, Took, Fault, Parser, returns, ◌>>=◌, refused, next_is, if_next, Reading, Inner}
+use Rattle.es6_reading.specs.Expressions.{expression_at_limit, operand_at_limit}
 use Rattle.es6_reading.specs.Statements.{statement_at_limit}
 use Rattle.es6_reading.specs.Modules.{readers, one_item, is_end, end_at, items, whole_module}
 use Rattle.es6_reading.proofs.Posts.{Holds, took, fault, bind, weaken, if-holds, take-holds, refused-holds, no-expression-holds, no-number-holds}

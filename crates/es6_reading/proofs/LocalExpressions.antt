@@ -1,5 +1,5 @@
 -- Readers of expressions look at no token past the first one that they don't take, and read the same with more turns and room.
-use Rattle.std.proofs.Common.{◌≡◌, ℕ, zero, suc, Bool, true, false, List, ◌∷◌, Option, Some, None, refl, subst}
+use Rattle.std.proofs.Common.{◌≡◌, ℕ, zero, suc, Bool, true, false, List, ◌∷◌, Option, Some, None, refl}
 use Rattle.es6_lexer.specs.declared.token.Punctuator.TheVariants as marks
 use Rattle.es6_ast.specs.declared.operators.AssignOperator.{AssignOperator}
 use Rattle.es6_ast.specs.declared.operators.MethodKind.{MethodKind}
@@ -12,18 +12,23 @@ use Rattle.es6_ast.specs.declared.tree.Parameter.{Parameter}
 use Rattle.es6_ast.specs.declared.tree.Rest.{Rest as Dots}
 use Rattle.es6_ast.specs.declared.tree.Stretch.{Stretch}
 use Rattle.es6_ast.specs.declared.tree.Template.{Template}
-use Rattle.es6_ast.specs.Grammar.{Flags, with_in, of_function, of_arrow}
+use Rattle.es6_ast.specs.declared.settings.Flags.{Flags}
+use Rattle.es6_ast.specs.declared.settings.Role.{Role}
+use Rattle.es6_ast.specs.declared.settings.Role.TheVariants.{Leading, Among, Heritage, Callee}
+use Rattle.es6_ast.specs.declared.settings.Stand.{Stand}
+use Rattle.es6_ast.specs.declared.settings.Stand.TheVariants.{Listed, Under, Labelled}
+use Rattle.es6_ast.specs.Settings.{is_leading, has_calls}
+use Rattle.es6_ast.specs.Grammar.{with_in, of_function, of_arrow}
 use Rattle.es6_reading.specs.Parser as p
-use Rattle.es6_reading.specs.Parser.{Input, Parser, returns, refused, choose, Reading, is_left, is_covered, Stand, Listed, Under, Labelled, Inner, semicolon, inserts, inserts_anywhere, is_insertable, next_is}
+use Rattle.es6_reading.specs.Parser.{Input, Parser, returns, refused, choose, Reading, is_left, is_covered, Inner, semicolon, inserts, inserts_anywhere, is_insertable, next_is}
 use Rattle.es6_reading.specs.Refine.{Refined, Fits, Misfit, TooNested, target_before, parameters_of}
 use Rattle.es6_reading.specs.Parts as t6
 use Rattle.es6_reading.specs.Expressions as e
-use Rattle.es6_reading.specs.Expressions.{Role, Leading, Among, Heritage, Callee}
 use Rattle.es6_reading.proofs.FollowParts as parts'
 use Rattle.es6_reading.proofs.FollowPrimary as primary'
 use Rattle.es6_reading.proofs.FollowLevels as levels'
 use Rattle.es6_reading.proofs.RefineMore.{kept-before, kept-parameters-of, kept-parameters-before}
-use Rattle.es6_reading.proofs.Locality.{too_long, Local, bind, done, stops, nowhere, number, expression, either, next, take, looks, begins, insertable, Opens, opened, group, Turns, over, turn, endless, Deeper, as_before, nested_less, deeper}
+use Rattle.es6_reading.proofs.Locality.{too_long, Local, bind, done, stops, nowhere, number, expression, either, next, take, looks, begins, insertable, Gain, Modes, inserted, Opens, opened, group, Turns, over, turn, endless, Deeper, as_before, nested_less, deeper}
 
 -- where a statement stands; in a list it stands inside a construct
 pub data Inside (i : Inner) : Stand → Type 0 where
@@ -31,10 +36,10 @@ pub data Inside (i : Inner) : Stand → Type 0 where
   under_statement : Inside i Under
   under_label : Inside i Labelled
 
--- two readers, the second with so many more turns, and so many more constructs that may open
-pub record Grown (l : ℕ) (i j : Inner) : Type 0 where
-  pub mode : i.inserting ≡ j.inserting
-  pub fuel : Turns l i.fuel j.fuel
+-- two readers, the second with this gain
+pub record Grown (l : Gain) (i j : Inner) : Type 0 where
+  pub mode : Modes l i.inserting j.inserting
+  pub fuel : Turns l.more i.fuel j.fuel
   pub opens : Opens l i.may_open j.may_open
   pub sequence : (f : Flags) (s : Input) → Local l (i.sequence f) (j.sequence f) s
   pub assignment : (f : Flags) (s : Input) → Local l (i.assignment f) (j.assignment f) s
@@ -51,7 +56,7 @@ pub record Grown (l : ℕ) (i j : Inner) : Type 0 where
   pub member : (f : Flags) (s : Input) → Local l (i.member f) (j.member f) s
   pub statement : (f : Flags) (stand : Stand) → Inside i stand → (s : Input) → Local l (i.statement f stand) (j.statement f stand) s
 
-module _ {l : ℕ} where
+module _ {l : Gain} where
   pub identifier : (s : Input) → Local l (t6.identifier) (t6.identifier) s
   unfolding t6.identifier
   identifier s = begins parts'.identifier_from parts'.identifier_from s (λ place. bind _ _ (take _ s) λ x c. done)
@@ -90,7 +95,7 @@ module _ {l : ℕ} where
   unfolding e.covered_rest
   covered_rest at dots held s = bind _ _ (identifier s) λ n c. bind _ _ (take _ c) λ t d. covered at held _ d
 
-  rest_after : (at dots : ℕ) (held : Expression) {r r' : Refined (List Parameter)} → Deeper l r r' → (s : Input) → Local l (e.rest_after at dots held r) (e.rest_after at dots held r') s
+  rest_after : (at dots : ℕ) (held : Expression) {r r' : Refined (List Parameter)} → Deeper l.more r r' → (s : Input) → Local l (e.rest_after at dots held r) (e.rest_after at dots held r') s
   rest_after at dots held {r = Fits es} as_before s = next _ _ _ _ _ s (λ t c. covered_rest at dots (Some held) c) (nowhere s)
   rest_after at dots held {r = Misfit place} as_before s = nowhere s
   rest_after at dots held {r = TooNested} as_before s = stops
@@ -104,31 +109,31 @@ module _ {l : ℕ} where
   unfolding e.member_link
   member_link at s = bind _ _ (any_name s) λ n c. done
 
-  pub fitting : {A : Type 0} {r r' : Refined A} → Deeper l r r' → (s : Input) → Local l (e.fitting r) (e.fitting r') s
+  pub fitting : {A : Type 0} {r r' : Refined A} → Deeper l.more r r' → (s : Input) → Local l (e.fitting r) (e.fitting r') s
   fitting {r = Fits x} as_before s = done
   fitting {r = Misfit place} as_before s = nowhere s
   fitting {r = TooNested} as_before s = stops
   fitting (nested_less m) s = too_long m
 
-  pub semicolon_ : (i j : Inner) → i.inserting ≡ j.inserting → (s : Input) → Local l (semicolon i) (semicolon j) s
+  pub semicolon_ : (i j : Inner) → Modes l i.inserting j.inserting → (s : Input) → Local l (semicolon i) (semicolon j) s
   unfolding semicolon
-  semicolon_ i j e s = next _ _ _ _ _ s (λ t c. done) (subst (λ b. Local l (choose i.inserting inserts refused) (choose b inserts refused) s) e (either i.inserting _ _ _ _ s (insertable _ _ _ _ s done (nowhere s)) (nowhere s)))
+  semicolon_ i j e s = next _ _ _ _ _ s (λ t c. done) (inserted inserts inserts s e (insertable _ _ _ _ s done (nowhere s)))
 
-  pub do_while_end : (i j : Inner) → i.inserting ≡ j.inserting → (s : Input) → Local l (p.semicolon_of_do_while i) (p.semicolon_of_do_while j) s
+  pub do_while_end : (i j : Inner) → Modes l i.inserting j.inserting → (s : Input) → Local l (p.semicolon_of_do_while i) (p.semicolon_of_do_while j) s
   unfolding p.semicolon_of_do_while
-  do_while_end i j e s = next _ _ _ _ _ s (λ t c. done) (subst (λ b. Local l (choose i.inserting inserts_anywhere refused) (choose b inserts_anywhere refused) s) e (either i.inserting _ _ _ _ s (looks _ _ _ _ _ s done (nowhere s)) (nowhere s)))
+  do_while_end i j e s = next _ _ _ _ _ s (λ t c. done) (inserted inserts_anywhere inserts_anywhere s e (looks _ _ _ _ _ s done (nowhere s)))
 
-module _ {l : ℕ} (i j : Inner) (h : Grown l i j) where
+module _ {l : Gain} (i j : Inner) (h : Grown l i j) where
   key : (f : Flags) (s : Input) → Local l (t6.key i f) (t6.key j f) s
   unfolding t6.key t6.computed_key
   key f s = begins (parts'.key_from i f) (parts'.key_from j f) s (λ place. next _ _ _ _ _ s (λ k c. done) (group i j h.opens marks.LeftBracket _ _ _ _ s (λ c opens. bind _ _ (h.assignment (with_in f) c) λ x d. bind _ _ (take _ d) λ t k. done) (number s)))
 
-  array_parts : (f : Flags) {n m : ℕ} (w : Turns l n m) (s : Input) → Local l (t6.array_parts i f n) (t6.array_parts j f m) s
+  array_parts : (f : Flags) {n m : ℕ} (w : Turns l.more n m) (s : Input) → Local l (t6.array_parts i f n) (t6.array_parts j f m) s
   unfolding t6.array_parts
   array_parts f over s = endless (λ m. t6.array_parts j f m) l (λ c. refl) s
   array_parts f (turn {n = n} {m = m} w) s = begins (parts'.array_parts_from i f (t6.array_parts i f n)) (parts'.array_parts_from j f (t6.array_parts j f m)) s (λ place. next _ _ _ _ _ s (λ t c. done) (next _ _ _ _ _ s (λ t c. bind _ _ (array_parts f w c) λ x d. done) (next _ _ _ _ _ s (λ t c. rest_part _ c) (bind _ _ (h.part f s) λ q c. next _ _ _ _ _ c (λ t d. bind _ _ (array_parts f w d) λ x k. done) (bind _ _ (take _ c) λ t d. done)))))
 
-  object_parts : (f : Flags) {n m : ℕ} (w : Turns l n m) (s : Input) → Local l (t6.object_parts i f n) (t6.object_parts j f m) s
+  object_parts : (f : Flags) {n m : ℕ} (w : Turns l.more n m) (s : Input) → Local l (t6.object_parts i f n) (t6.object_parts j f m) s
   unfolding t6.object_parts
   object_parts f over s = endless (λ m. t6.object_parts j f m) l (λ c. refl) s
   object_parts f (turn w) s = next _ _ _ _ _ s (λ t c. done) (bind _ _ (h.object_part f s) λ q c. next _ _ _ _ _ c (λ t d. bind _ _ (object_parts f w d) λ x k. done) (bind _ _ (take _ c) λ t d. done))
@@ -161,7 +166,7 @@ module _ {l : ℕ} (i j : Inner) (h : Grown l i j) where
   unfolding t6.one_object_part
   object_part f s = begins (parts'.object_part_from i f) (parts'.object_part_from j f) s (λ place. next _ _ _ _ _ s (λ name c. next _ _ _ _ _ c (λ t d. keyed_part f _ _ d) (named_part f _ _ c)) (bind _ _ (key f s) λ k c. bind _ _ (take _ c) λ t d. keyed_part f _ k d))
 
-  more_parameters : (f : Flags) {n m : ℕ} (w : Turns l n m) (s : Input) → Local l (t6.more_parameters i f n) (t6.more_parameters j f m) s
+  more_parameters : (f : Flags) {n m : ℕ} (w : Turns l.more n m) (s : Input) → Local l (t6.more_parameters i f n) (t6.more_parameters j f m) s
   unfolding t6.more_parameters
   more_parameters f over s = endless (λ m. t6.more_parameters j f m) l (λ c. refl) s
   more_parameters f (turn {n = n} {m = m} w) s = begins (parts'.more_parameters_from i f (t6.more_parameters i f n)) (parts'.more_parameters_from j f (t6.more_parameters j f m)) s (λ place. next _ _ _ _ _ s (λ t c. bind _ _ (rest_parameter _ c) λ x d. done) (bind _ _ (h.part f s) λ q c. next _ _ _ _ _ c (λ t d. bind _ _ (more_parameters f w d) λ x k. done) (bind _ _ (take _ c) λ t d. done)))
@@ -170,7 +175,7 @@ module _ {l : ℕ} (i j : Inner) (h : Grown l i j) where
   unfolding t6.parameters
   parameters f s = next _ _ _ _ _ s (λ t c. done) (more_parameters f h.fuel s)
 
-  statements : i.may_open ≡ true → (f : Flags) {n m : ℕ} (w : Turns l n m) (s : Input) → Local l (t6.statements i f n) (t6.statements j f m) s
+  statements : i.may_open ≡ true → (f : Flags) {n m : ℕ} (w : Turns l.more n m) (s : Input) → Local l (t6.statements i f n) (t6.statements j f m) s
   unfolding t6.statements
   statements opens f over s = endless (λ m. t6.statements j f m) l (λ c. refl) s
   statements opens f (turn w) s = next _ _ _ _ _ s (λ t c. done) (bind _ _ (h.statement f Listed (in_list opens) s) λ x c. bind _ _ (statements opens f w c) λ y d. done)
@@ -228,7 +233,7 @@ module _ {l : ℕ} (i j : Inner) (h : Grown l i j) where
   unfolding t6.one_member t6.member_after_static
   member f s = begins (parts'.member_from i f) (parts'.member_from j f) s (λ place. next _ _ _ _ _ s (λ t c. looks _ _ _ _ _ c (bind _ _ (method_after_key _ false _ _ c) λ m d. done) (bind _ _ (method f c) λ m d. done)) (bind _ _ (method f s) λ m c. done))
 
-  members : (f : Flags) {n m : ℕ} (w : Turns l n m) (s : Input) → Local l (t6.members i f n) (t6.members j f m) s
+  members : (f : Flags) {n m : ℕ} (w : Turns l.more n m) (s : Input) → Local l (t6.members i f n) (t6.members j f m) s
   unfolding t6.members
   members f over s = endless (λ m. t6.members j f m) l (λ c. refl) s
   members f (turn w) s = next _ _ _ _ _ s (λ t c. done) (next _ _ _ _ _ s (λ t c. members f w c) (bind _ _ (h.member f s) λ m c. bind _ _ (members f w c) λ ms d. done))
@@ -249,7 +254,7 @@ module _ {l : ℕ} (i j : Inner) (h : Grown l i j) where
   unfolding t6.class_after_word
   class f lacks at s = either lacks _ _ _ _ s (looks _ _ _ _ _ s (rest_of_class f at None s) (named_class f at s)) (named_class f at s)
 
-  template_parts : (f : Flags) {n m : ℕ} (w : Turns l n m) (s : Input) → Local l (t6.template_parts i f n) (t6.template_parts j f m) s
+  template_parts : (f : Flags) {n m : ℕ} (w : Turns l.more n m) (s : Input) → Local l (t6.template_parts i f n) (t6.template_parts j f m) s
   unfolding t6.template_parts
   template_parts f over s = endless (λ m. t6.template_parts j f m) l (λ c. refl) s
   template_parts f (turn w) s = bind _ _ (h.sequence (with_in f) s) λ x c. next _ _ _ _ _ c (λ r d. done) (bind _ _ (take _ c) λ r d. bind _ _ (template_parts f w d) λ ms k. done)
@@ -265,12 +270,12 @@ module _ {l : ℕ} (i j : Inner) (h : Grown l i j) where
   unfolding e.argument
   argument f s = begins (primary'.argument_from i f) (primary'.argument_from j f) s (λ place. next _ _ _ _ _ s (λ t c. bind _ _ (h.assignment (with_in f) c) λ x d. done) (bind _ _ (h.assignment (with_in f) s) λ x c. done))
 
-  elements : (f : Flags) {n m : ℕ} (w : Turns l n m) (s : Input) → Local l (e.elements i f n) (e.elements j f m) s
+  elements : (f : Flags) {n m : ℕ} (w : Turns l.more n m) (s : Input) → Local l (e.elements i f n) (e.elements j f m) s
   unfolding e.elements
   elements f over s = endless (λ m. e.elements j f m) l (λ c. refl) s
   elements f (turn w) s = next _ _ _ _ _ s (λ t c. done) (next _ _ _ _ _ s (λ t c. bind _ _ (elements f w c) λ l d. done) (bind _ _ (argument f s) λ a c. next _ _ _ _ _ c (λ t d. next _ _ _ _ _ d (λ u k. done) (bind _ _ (elements f w d) λ l k. done)) (bind _ _ (take _ c) λ t d. done)))
 
-  more_arguments : (f : Flags) {n m : ℕ} (w : Turns l n m) (s : Input) → Local l (e.more_arguments i f n) (e.more_arguments j f m) s
+  more_arguments : (f : Flags) {n m : ℕ} (w : Turns l.more n m) (s : Input) → Local l (e.more_arguments i f n) (e.more_arguments j f m) s
   unfolding e.more_arguments
   more_arguments f over s = endless (λ m. e.more_arguments j f m) l (λ c. refl) s
   more_arguments f (turn w) s = bind _ _ (argument f s) λ a c. next _ _ _ _ _ c (λ t d. bind _ _ (more_arguments f w d) λ x k. done) (bind _ _ (take _ c) λ t d. done)
@@ -279,12 +284,12 @@ module _ {l : ℕ} (i j : Inner) (h : Grown l i j) where
   unfolding e.arguments
   arguments f s = next _ _ _ _ _ s (λ t c. done) (more_arguments f h.fuel s)
 
-  properties : (f : Flags) {n m : ℕ} (w : Turns l n m) (s : Input) → Local l (e.properties i f n) (e.properties j f m) s
+  properties : (f : Flags) {n m : ℕ} (w : Turns l.more n m) (s : Input) → Local l (e.properties i f n) (e.properties j f m) s
   unfolding e.properties
   properties f over s = endless (λ m. e.properties j f m) l (λ c. refl) s
   properties f (turn w) s = next _ _ _ _ _ s (λ t c. done) (bind _ _ (h.property f s) λ x c. next _ _ _ _ _ c (λ t d. bind _ _ (properties f w d) λ y k. done) (bind _ _ (take _ c) λ t d. done))
 
-  held_parts : (f : Flags) (role : Role) {n m : ℕ} (w : Turns l n m) (s : Input) → Local l (e.held_parts i f role n) (e.held_parts j f role m) s
+  held_parts : (f : Flags) (role : Role) {n m : ℕ} (w : Turns l.more n m) (s : Input) → Local l (e.held_parts i f role n) (e.held_parts j f role m) s
   unfolding e.held_parts
   held_parts f role over s = endless (λ m. e.held_parts j f role m) l (λ c. refl) s
   held_parts f role (turn w) s = bind _ _ (h.assignment (with_in f) s) λ x c. next _ _ _ _ _ c (λ t d. looks _ _ _ _ _ d done (bind _ _ (held_parts f role w d) λ y k. done)) done
@@ -296,7 +301,7 @@ module _ {l : ℕ} (i j : Inner) (h : Grown l i j) where
 
   grouped : (f : Flags) (role : Role) (at : ℕ) (s : Input) → Local l (e.grouped i f role at) (e.grouped j f role at) s
   unfolding e.grouped
-  grouped f role at s = either (e.is_leading role) _ _ _ _ s (next _ _ _ _ _ s (λ t c. covered at None None c) (begins (primary'.dots_from i f role at) (primary'.dots_from j f role at) s (λ dots. next _ _ _ _ _ s (λ t c. covered_rest at dots None c) (held_group f role at s)))) (held_group f role at s)
+  grouped f role at s = either (is_leading role) _ _ _ _ s (next _ _ _ _ _ s (λ t c. covered at None None c) (begins (primary'.dots_from i f role at) (primary'.dots_from j f role at) s (λ dots. next _ _ _ _ _ s (λ t c. covered_rest at dots None c) (held_group f role at s)))) (held_group f role at s)
 
   bracketed : (f : Flags) (role : Role) (at : ℕ) (s : Input) → Local l (e.bracketed i f role at) (e.bracketed j f role at) s
   unfolding e.bracketed
@@ -316,7 +321,7 @@ module _ {l : ℕ} (i j : Inner) (h : Grown l i j) where
 
   after_super : (f : Flags) (role : Role) (at : ℕ) (s : Input) → Local l (e.after_super i f role at) (e.after_super j f role at) s
   unfolding e.after_super e.super_call
-  after_super f role at s = next _ _ _ _ _ s (λ t c. bind _ _ (any_name c) λ n d. done) (group i j h.opens marks.LeftBracket _ _ _ _ s (λ c opens. bind _ _ (h.sequence (with_in f) c) λ x d. bind _ _ (take _ d) λ t k. done) (either (e.has_calls role) _ _ _ _ s (group i j h.opens marks.LeftParenthesis _ _ _ _ s (λ c opens. bind _ _ (arguments f c) λ x d. done) (nowhere s)) (nowhere s)))
+  after_super f role at s = next _ _ _ _ _ s (λ t c. bind _ _ (any_name c) λ n d. done) (group i j h.opens marks.LeftBracket _ _ _ _ s (λ c opens. bind _ _ (h.sequence (with_in f) c) λ x d. bind _ _ (take _ d) λ t k. done) (either (has_calls role) _ _ _ _ s (group i j h.opens marks.LeftParenthesis _ _ _ _ s (λ c opens. bind _ _ (arguments f c) λ x d. done) (nowhere s)) (nowhere s)))
 
   head : (f : Flags) (role : Role) (at : ℕ) (s : Input) → Local l (e.head i f role at) (e.head j f role at) s
   unfolding e.head
@@ -334,14 +339,14 @@ module _ {l : ℕ} (i j : Inner) (h : Grown l i j) where
   on_link f calls at p p' q q' s k g = next _ _ _ _ _ s (λ t c. bind _ _ (member_link _ c) λ x d. k x d) (group i j h.opens marks.LeftBracket _ _ _ _ s (λ c opens. bind _ _ (index f _ c) λ x d. k x d) (on_template f _ _ _ _ _ s (λ m c. k _ c)
       (either calls _ _ _ _ s (group i j h.opens marks.LeftParenthesis _ _ _ _ s (λ c opens. bind _ _ (call f _ c) λ x d. k x d) g) g)))
 
-  links : (f : Flags) (calls : Bool) {n m : ℕ} (w : Turns l n m) (s : Input) → Local l (e.links i f calls n) (e.links j f calls m) s
+  links : (f : Flags) (calls : Bool) {n m : ℕ} (w : Turns l.more n m) (s : Input) → Local l (e.links i f calls n) (e.links j f calls m) s
   unfolding e.links
   links f calls over s = endless (λ m. e.links j f calls m) l (λ c. refl) s
   links f calls (turn {n = n} {m = m} w) s = begins (primary'.links_from i f calls (e.links i f calls n)) (primary'.links_from j f calls (e.links j f calls m)) s (λ place. on_link f calls _ _ _ _ _ s (λ x c. bind _ _ (links f calls w c) λ ls d. done) done)
 
   pub chain : (f : Flags) (role : Role) (s : Input) → Local l (e.chain i f role) (e.chain j f role) s
   unfolding e.chain
-  chain f role s = begins (primary'.chain_from i f role) (primary'.chain_from j f role) s (λ place. bind _ _ (head f role _ s) λ x c. bind _ _ (links f (e.has_calls role) h.fuel c) λ ls d. done)
+  chain f role s = begins (primary'.chain_from i f role) (primary'.chain_from j f role) s (λ place. bind _ _ (head f role _ s) λ x c. bind _ _ (links f (has_calls role) h.fuel c) λ ls d. done)
 
   postfix : (f : Flags) (role : Role) (s : Input) → Local l (e.postfix i f role) (e.postfix j f role) s
   unfolding e.postfix
@@ -363,7 +368,7 @@ module _ {l : ℕ} (i j : Inner) (h : Grown l i j) where
   unfolding e.power e.raised
   power f role s = begins (levels'.power_from i f role) (levels'.power_from j f role) s (λ place. next _ _ _ _ _ s (λ op c. prefixed f _ op c) (bind _ _ (update f role s) λ x c. next _ _ _ _ _ c (λ t d. bind _ _ (h.power f d) λ y k. done) done))
 
-  operands : (f : Flags) (level : ℕ) (q q' : Parser Reading) (k : (s : Input) → Local l (q) (q') s) {n m : ℕ} (w : Turns l n m) (s : Input) → Local l (e.operands q f level n) (e.operands q' f level m) s
+  operands : (f : Flags) (level : ℕ) (q q' : Parser Reading) (k : (s : Input) → Local l (q) (q') s) {n m : ℕ} (w : Turns l.more n m) (s : Input) → Local l (e.operands q f level n) (e.operands q' f level m) s
   unfolding e.operands
   operands f level q q' k over s = endless (λ m. e.operands q' f level m) l (λ c. refl) s
   operands f level q q' k (turn w) s = next _ _ _ _ _ s (λ op c. bind _ _ (k c) λ x d. bind _ _ (operands f level q q' k w d) λ y m. done) done
@@ -381,7 +386,7 @@ module _ {l : ℕ} (i j : Inner) (h : Grown l i j) where
   unfolding e.arrow_body
   arrow_body f at es s = looks _ _ _ _ _ s (bind _ _ (h.block (of_function false) s) λ b c. done) (bind _ _ (h.assignment (of_arrow f) s) λ x c. done)
 
-  arrow_if : (f : Flags) (at : ℕ) (x : Reading) {r r' : Refined (List Parameter)} → Deeper l r r' → (s : Input) → Local l (e.arrow_if i f at x r) (e.arrow_if j f at x r') s
+  arrow_if : (f : Flags) (at : ℕ) (x : Reading) {r r' : Refined (List Parameter)} → Deeper l.more r r' → (s : Input) → Local l (e.arrow_if i f at x r) (e.arrow_if j f at x r') s
   arrow_if f at x {r = Fits es} as_before s = next _ _ _ _ _ s (λ t c. arrow_body f at es c) (nowhere s)
   arrow_if f at x {r = Misfit place} as_before s = either (is_covered x.shape) _ _ _ _ s (nowhere s) done
   arrow_if f at x {r = TooNested} as_before s = stops
@@ -407,7 +412,7 @@ module _ {l : ℕ} (i j : Inner) (h : Grown l i j) where
   unfolding e.assignment
   assignment f s = begins (levels'.assignment_from i f) (levels'.assignment_from j f) s (λ place. either f.has_yield _ _ _ _ s (next _ _ _ _ _ s (λ t c. after_yield f _ c) (without_yield f _ s)) (without_yield f _ s))
 
-  parts : (f : Flags) {n m : ℕ} (w : Turns l n m) (s : Input) → Local l (e.parts i f n) (e.parts j f m) s
+  parts : (f : Flags) {n m : ℕ} (w : Turns l.more n m) (s : Input) → Local l (e.parts i f n) (e.parts j f m) s
   unfolding e.parts
   parts f over s = endless (λ m. e.parts j f m) l (λ c. refl) s
   parts f (turn w) s = bind _ _ (assignment f s) λ x c. next _ _ _ _ _ c (λ t d. bind _ _ (parts f w d) λ y k. done) done

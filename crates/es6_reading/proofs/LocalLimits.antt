@@ -7,19 +7,24 @@ use Rattle.es_text.specs.declared.Span.{Span}
 use Rattle.es_outside.specs.HostNames.{reserved_words}
 use Rattle.es6_lexer.specs.declared.token.TokenKind.TheVariants as kinds
 use Rattle.es6_lexer.specs.declared.token.Punctuator.TheVariants as marks
+use Rattle.es6_ast.specs.declared.settings.Flags.{Flags}
+use Rattle.es6_ast.specs.declared.settings.Role.{Role}
+use Rattle.es6_ast.specs.declared.settings.Role.TheVariants.{Leading, Among, Heritage, Callee}
+use Rattle.es6_ast.specs.declared.settings.Stand.{Stand}
+use Rattle.es6_ast.specs.declared.settings.Stand.TheVariants.{Listed, Under, Labelled}
+use Rattle.es6_ast.specs.declared.settings.Stop.{Stop}
+use Rattle.es6_ast.specs.declared.settings.Stop.TheVariants.{Syntax, Outside, Depth}
 use Rattle.es6_ast.specs.Tokens.{Filling, Read, Filled, is_word}
-use Rattle.es6_ast.specs.Grammar.{Flags}
 use Rattle.es6_ast.specs.declared.tree.Statement.{Statement}
-use Rattle.es6_reading.specs.Parser.{Input, Stop, Syntax, Outside, Depth, Outcome, Fault, Parser, fails, after, expression_stop_in, number_stop_in, choose, next_is, on, if_next, is_mark, next_mark, mark, word, next_word, no_expression, no_number, Stand, Listed, Under, Labelled, Inner}
+use Rattle.es6_reading.specs.Parser.{Input, Outcome, Fault, Parser, fails, after, expression_stop_in, number_stop_in, choose, next_is, on, if_next, is_mark, next_mark, mark, word, next_word, no_expression, no_number, Inner}
 use Rattle.es6_reading.specs.Words.{free_name, literal_at, stretch_in, stretch_at, unary_at, before_at, is_any_word, is_template_head, operand_words, begins_operand, begins_unary, begins_expression}
 use Rattle.es6_reading.specs.Expressions as e
-use Rattle.es6_reading.specs.Expressions.{Role, Leading, Among, Heritage, Callee}
 use Rattle.es6_reading.specs.Statements as s6
 use Rattle.es6_reading.specs.Statements.{begins_declaration, begins_statement, statement_words, may_declare}
 use Rattle.es6_reading.proofs.CompleteTokens.{no-word, mark-miss, word-miss}
 use Rattle.es6_reading.proofs.Meanings.{word-is}
 use Rattle.es6_reading.proofs.Reading.{on-miss-is}
-use Rattle.es6_reading.proofs.Locality.{Slack, Local, LocalOf, too_deep, relay, same-next}
+use Rattle.es6_reading.proofs.Locality.{Slack, Gain, Local, LocalOf, too_deep, relay, same-next}
 
 none-if : {A : Type 0} (o : Option A) → is_some o ≡ false → o ≡ None
 none-if None h = refl
@@ -359,7 +364,7 @@ statement-limit i f Under n (t ∷ ts) last h = under-none i f t ts last h
 statement-limit i f Labelled n (t ∷ ts) last h = labelled-none i f t ts last h
 
 -- a reader where no construct may open any more, and one where some may
-pub at-limit : {A : Type 0} {l : ℕ} (test : Filled → Bool) (q p' : Parser A) → Slack l → ((ts : List Filled) (last : ℕ) → next_is test ts ≡ false → p' (record { tokens = ts; last = last }) ≡ q (record { tokens = ts; last = last }))
+pub at-limit : {A : Type 0} {l : Gain} (test : Filled → Bool) (q p' : Parser A) → Slack l.more → ((ts : List Filled) (last : ℕ) → next_is test ts ≡ false → p' (record { tokens = ts; last = last }) ≡ q (record { tokens = ts; last = last }))
     → (s : Input) → Local l q q s → Local l (if_next test (fails Depth) q) p' s
 at-limit {A = A} {l = l} test q p' m f s g = by (next_is test s.tokens) refl
   where

@@ -16,20 +16,23 @@ use Rattle.es6_ast.specs.declared.tree.Part.{Part}
 use Rattle.es6_ast.specs.declared.tree.Statement.{Statement}
 use Rattle.es6_ast.specs.declared.module.ExportName.{ExportName}
 use Rattle.es6_ast.specs.declared.module.ImportedNames.{ImportedNames}
+use Rattle.es6_ast.specs.declared.settings.Flags.{Flags}
+use Rattle.es6_ast.specs.declared.settings.Stand.{Stand}
+use Rattle.es6_ast.specs.declared.settings.Stand.TheVariants.{Listed, Under, Labelled}
 use Rattle.es6_ast.specs.Tokens.{Filled, is_identifier}
-use Rattle.es6_ast.specs.Grammar.{Flags, with_in, without_in, of_module}
-use Rattle.es6_reading.specs.Parser.{Input, Parser, is_left, Stand, Listed, Under, Labelled, Inner}
+use Rattle.es6_ast.specs.Grammar.{with_in, without_in, of_module}
+use Rattle.es6_reading.specs.Parser.{Input, Parser, is_left, Inner}
 use Rattle.es6_reading.specs.Refine.{target_before}
 use Rattle.es6_reading.specs.Statements as s6
 use Rattle.es6_reading.specs.Modules as m6
 use Rattle.es6_reading.proofs.FollowStatements as statements'
 use Rattle.es6_reading.proofs.FollowModules as modules'
 use Rattle.es6_reading.proofs.RefineMore.{kept-before}
-use Rattle.es6_reading.proofs.Locality.{Local, bind, done, stops, nowhere, either, next, take, looks, begins, group, Turns, over, turn, endless, deeper}
+use Rattle.es6_reading.proofs.Locality.{Gain, Local, bind, done, stops, nowhere, either, next, take, looks, begins, group, Turns, over, turn, endless, deeper}
 use Rattle.es6_reading.proofs.LocalExpressions.{in_list, under_statement, under_label, Grown, identifier, any_name, semicolon_, do_while_end, fitting, initialized, block, named_function, function, class, assignment, sequence}
 
-module _ {l : ℕ} where
-  variables : (one one' : Parser Part) (k : (s : Input) → Local l one one' s) {n m : ℕ} (w : Turns l n m) (s : Input) → Local l (s6.variables one n) (s6.variables one' m) s
+module _ {l : Gain} where
+  variables : (one one' : Parser Part) (k : (s : Input) → Local l one one' s) {n m : ℕ} (w : Turns l.more n m) (s : Input) → Local l (s6.variables one n) (s6.variables one' m) s
   unfolding s6.variables s6.one_variable
   variables one one' k over s = endless (λ m. s6.variables one' m) l (λ c. refl) s
   variables one one' k (turn w) s = bind _ _ (bind _ _ (k s) λ q c. either (s6.is_whole q) _ _ _ _ c done (nowhere c)) λ q c. next _ _ _ _ _ c (λ t d. bind _ _ (variables one one' k w d) λ qs m. done) done
@@ -46,7 +49,7 @@ module _ {l : ℕ} where
   unfolding m6.one_import
   one_import s = begins modules'.import_from modules'.import_from s (λ place. bind _ _ (any_name s) λ n c. next _ _ _ _ _ c (λ t d. bind _ _ (identifier d) λ m k. done) (either (is_identifier n.name) _ _ _ _ c done (nowhere c)))
 
-  imports : {n m : ℕ} (w : Turns l n m) (s : Input) → Local l (m6.imports n) (m6.imports m) s
+  imports : {n m : ℕ} (w : Turns l.more n m) (s : Input) → Local l (m6.imports n) (m6.imports m) s
   unfolding m6.imports
   imports over s = endless (λ m. m6.imports m) l (λ c. refl) s
   imports (turn w) s = next _ _ _ _ _ s (λ t c. done) (bind _ _ (one_import s) λ x c. next _ _ _ _ _ c (λ t d. bind _ _ (imports w d) λ y k. done) (bind _ _ (take _ c) λ t d. done))
@@ -59,12 +62,12 @@ module _ {l : ℕ} where
   unfolding m6.one_export
   one_export s = begins modules'.export_from modules'.export_from s (λ place. bind _ _ (any_name s) λ n c. next _ _ _ _ _ c (λ t d. bind _ _ (any_name d) λ m k. done) done)
 
-  exports : {n m : ℕ} (w : Turns l n m) (s : Input) → Local l (m6.exports n) (m6.exports m) s
+  exports : {n m : ℕ} (w : Turns l.more n m) (s : Input) → Local l (m6.exports n) (m6.exports m) s
   unfolding m6.exports
   exports over s = endless (λ m. m6.exports m) l (λ c. refl) s
   exports (turn w) s = next _ _ _ _ _ s (λ t c. done) (bind _ _ (one_export s) λ x c. next _ _ _ _ _ c (λ t d. bind _ _ (exports w d) λ y k. done) (bind _ _ (take _ c) λ t d. done))
 
-module _ {l : ℕ} (i j : Inner) (h : Grown l i j) where
+module _ {l : Gain} (i j : Inner) (h : Grown l i j) where
   variables_statement : (f : Flags) (at : ℕ) (kind : VariableKind) (s : Input) → Local l (s6.variables_statement i f at kind) (s6.variables_statement j f at kind) s
   unfolding s6.variables_statement
   variables_statement f at kind s = bind _ _ (variables _ _ (λ c. initialized i j h f f c) h.fuel s) λ qs c. bind _ _ (semicolon_ i j h.mode c) λ t d. done
@@ -77,7 +80,7 @@ module _ {l : ℕ} (i j : Inner) (h : Grown l i j) where
   unfolding s6.condition
   condition f s = begins (statements'.condition_from i f) (statements'.condition_from j f) s (λ place. bind _ _ (take _ s) λ t c. bind _ _ (parenthesized f c) λ x d. bind _ _ (h.statement f Under under_statement d) λ y k. done)
 
-  otherwise : (f : Flags) {n m : ℕ} (w : Turns l n m) (s : Input) → Local l (s6.otherwise i f n) (s6.otherwise j f m) s
+  otherwise : (f : Flags) {n m : ℕ} (w : Turns l.more n m) (s : Input) → Local l (s6.otherwise i f n) (s6.otherwise j f m) s
   unfolding s6.otherwise
   otherwise f over s = endless (λ m. s6.otherwise j f m) l (λ c. refl) s
   otherwise f (turn w) s = next _ _ _ _ _ s (λ t c. looks _ _ _ _ _ c (bind _ _ (condition f c) λ x d. bind _ _ (otherwise f w d) λ r k. done) (bind _ _ (h.statement f Under under_statement c) λ x d. done)) done
@@ -162,7 +165,7 @@ module _ {l : ℕ} (i j : Inner) (h : Grown l i j) where
   unfolding s6.throw_statement
   throw_statement f at s = looks _ _ _ _ _ s (nowhere s) (bind _ _ (sequence i j h (with_in f) s) λ x c. bind _ _ (semicolon_ i j h.mode c) λ t d. done)
 
-  in_case : i.may_open ≡ true → (f : Flags) {n m : ℕ} (w : Turns l n m) (s : Input) → Local l (s6.in_case i f n) (s6.in_case j f m) s
+  in_case : i.may_open ≡ true → (f : Flags) {n m : ℕ} (w : Turns l.more n m) (s : Input) → Local l (s6.in_case i f n) (s6.in_case j f m) s
   unfolding s6.in_case
   in_case opens f over s = endless (λ m. s6.in_case j f m) l (λ c. refl) s
   in_case opens f (turn w) s = looks _ _ _ _ _ s done (bind _ _ (h.statement f Listed (in_list opens) s) λ x c. bind _ _ (in_case opens f w c) λ y d. done)
@@ -175,7 +178,7 @@ module _ {l : ℕ} (i j : Inner) (h : Grown l i j) where
   unfolding s6.default_clause
   default_clause opens f at s = bind _ _ (take _ s) λ t c. bind _ _ (in_case opens f h.fuel c) λ y d. done
 
-  cases : i.may_open ≡ true → (f : Flags) (may : Bool) {n m : ℕ} (w : Turns l n m) (s : Input) → Local l (s6.cases i f may n) (s6.cases j f may m) s
+  cases : i.may_open ≡ true → (f : Flags) (may : Bool) {n m : ℕ} (w : Turns l.more n m) (s : Input) → Local l (s6.cases i f may n) (s6.cases j f may m) s
   unfolding s6.cases
   cases opens f may over s = endless (λ m. s6.cases j f may m) l (λ c. refl) s
   cases opens f may (turn {n = n} {m = m} w) s = begins (statements'.cases_from i f may (s6.cases i f may n) (s6.cases i f false n)) (statements'.cases_from j f may (s6.cases j f may m) (s6.cases j f false m)) s (λ place. next _ _ _ _ _ s (λ t c. done) (next _ _ _ _ _ s (λ t c. bind _ _ (case_clause opens f _ c) λ x d. bind _ _ (cases opens f may w d) λ y k. done) (either may _ _ _ _ s (next _ _ _ _ _ s (λ t c. bind _ _ (default_clause opens f _ c) λ x d. bind _ _ (cases opens f false w d) λ y k. done) (nowhere s)) (nowhere s))))
@@ -328,7 +331,7 @@ module _ {l : ℕ} (i j : Inner) (h : Grown l i j) where
   unfolding m6.one_item
   one_item s = begins (modules'.item_from i) (modules'.item_from j) s (λ place. next _ _ _ _ _ s (λ t c. import_item _ c) (next _ _ _ _ _ s (λ t c. export_item _ c) (statement_item s)))
 
-  items : {n m : ℕ} (w : Turns l n m) (s : Input) → Local l (m6.items i n) (m6.items j m) s
+  items : {n m : ℕ} (w : Turns l.more n m) (s : Input) → Local l (m6.items i n) (m6.items j m) s
   unfolding m6.items
   items over s = endless (λ m. m6.items j m) l (λ c. refl) s
   items (turn w) s = looks _ _ _ _ _ s done (bind _ _ (one_item s) λ x c. bind _ _ (items w c) λ y d. done)

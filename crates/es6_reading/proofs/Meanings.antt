@@ -21,8 +21,9 @@ use Rattle.es6_ast.specs.declared.operators.Literal.TheVariants as literals
 use Rattle.es6_ast.specs.declared.operators.VariableKind.{VariableKind}
 use Rattle.es6_ast.specs.declared.operators.VariableKind.TheVariants.{Var, Let, Const}
 use Rattle.es6_ast.specs.declared.tree.Stretch.{Stretch}
+use Rattle.es6_ast.specs.declared.settings.Flags.{Flags}
 use Rattle.es6_ast.specs.Tokens.{Filling, Read, Filled, IsWord, IsMark, is_word, is_identifier}
-use Rattle.es6_ast.specs.Grammar.{Flags, IsEnd, IsDoWhileEnd, ends, is_in, is_before, is_lexical, unary_kind, update_kind, assign_kind, binary_kind, binary_level, literal_kind, kind_word}
+use Rattle.es6_ast.specs.Grammar.{IsEnd, IsDoWhileEnd, ends, is_in, is_before, is_lexical, unary_kind, update_kind, assign_kind, binary_kind, binary_level, literal_kind, kind_word}
 use Rattle.es6_reading.specs.Parser.{is_mark, kept_if, mark, word, ending}
 use Rattle.es6_reading.specs.Words.{name_if, any_name, any_name_in, free_name, free_name_in, same_kind, look_up, literal_word, literal_in, literal_at, text_in, text_at, KeyToken, WordToken, TextToken, IntegerToken, key_in, key_at, accessor_word, accessor_in, accessor_at, accessor_name, same_truth, stretch_if, stretch_in, stretch_at, unary_operators, unary_at, before_at, unless, after_at, assign_operators, assign_at, binary_operators, operator_of_level, binary_at, arrow_at, kind_at, lexical_kind_at}
 

@@ -16,14 +16,21 @@ use Rattle.es6_ast.specs.declared.tree.Parameter.{Parameter}
 use Rattle.es6_ast.specs.declared.tree.Rest.{Rest as Dots}
 use Rattle.es6_ast.specs.declared.tree.Stretch.{Stretch}
 use Rattle.es6_ast.specs.declared.tree.Template.{Template}
+use Rattle.es6_ast.specs.declared.settings.Flags.{Flags}
+use Rattle.es6_ast.specs.declared.settings.Role.{Role}
+use Rattle.es6_ast.specs.declared.settings.Role.TheVariants.{Leading, Among, Heritage, Callee}
+use Rattle.es6_ast.specs.declared.settings.Stand.{Stand}
+use Rattle.es6_ast.specs.declared.settings.Stand.TheVariants.{Listed}
+use Rattle.es6_ast.specs.declared.settings.Stop.{Stop}
+use Rattle.es6_ast.specs.declared.settings.Stop.TheVariants.{Syntax, Depth, Endless}
+use Rattle.es6_ast.specs.Settings.{is_leading, has_calls}
 use Rattle.es6_ast.specs.Tokens.{Filling, Read, Filled}
-use Rattle.es6_ast.specs.Grammar.{Flags, with_in, of_function, of_arrow}
+use Rattle.es6_ast.specs.Grammar.{with_in, of_function, of_arrow}
 use Rattle.es6_reading.specs.Parser as p
-use Rattle.es6_reading.specs.Parser.{Input, Stop, Syntax, Lexical, Outside, Depth, Endless, Outcome, Took, Fault, Parser, fails, after, stop_in, number_stop_in, expression_stop_in, stop_at, on, on_taken, choose, next_is, if_next, take_as, mark, refused, no_number, no_expression, Reading, is_left, is_covered, Stand, Listed, Under, Labelled, Inner, on_group, semicolon, is_insertable}
+use Rattle.es6_reading.specs.Parser.{Input, Outcome, Took, Fault, Parser, fails, after, stop_in, number_stop_in, expression_stop_in, stop_at, on, on_taken, choose, next_is, if_next, take_as, mark, refused, no_number, no_expression, Reading, is_left, is_covered, Inner, on_group, semicolon, is_insertable}
 use Rattle.es6_reading.specs.Refine.{Refined, Fits, Misfit, TooNested}
 use Rattle.es6_reading.specs.Parts as t6
 use Rattle.es6_reading.specs.Expressions as e
-use Rattle.es6_reading.specs.Expressions.{Role, Leading, Among, Heritage, Callee}
 use Rattle.es6_reading.specs.Laws.{regular_expression, marked_number, large_number, Says}
 
 pub data Rest : List Filled → List Filled → Type 0 where
@@ -391,7 +398,7 @@ module _ (i : Inner) (h : Placed i) where
 
   grouped : (f : Flags) (role : Role) (at : ℕ) (s : Input) → Leaves s.tokens (e.grouped i f role at s)
   unfolding e.grouped
-  grouped f role at s = either (e.is_leading role) _ _ s (next _ _ _ s (λ t c. covered at None None c) (next _ _ _ s (λ t c. covered_rest at _ None c) (held_group f role at s))) (held_group f role at s)
+  grouped f role at s = either (is_leading role) _ _ s (next _ _ _ s (λ t c. covered at None None c) (next _ _ _ s (λ t c. covered_rest at _ None c) (held_group f role at s))) (held_group f role at s)
 
   bracketed : (f : Flags) (role : Role) (at : ℕ) (s : Input) → Leaves s.tokens (e.bracketed i f role at s)
   unfolding e.bracketed
@@ -413,7 +420,7 @@ module _ (i : Inner) (h : Placed i) where
   after_super : (f : Flags) (role : Role) (at : ℕ) (s : Input) → Leaves s.tokens (e.after_super i f role at s)
   unfolding e.after_super e.super_call
   after_super f role at s = next _ _ _ s (λ t c. bind (any_name c) λ n d. done) (group i marks.LeftBracket _ _ s (λ c. bind (h.sequence (with_in f) c) λ x d. bind (take _ d) λ t k. done)
-      (λ u. either (e.has_calls role) _ _ s (group i marks.LeftParenthesis _ _ s (λ c. bind (arguments f c) λ x d. done) (λ u. nowhere s)) (nowhere s)))
+      (λ u. either (has_calls role) _ _ s (group i marks.LeftParenthesis _ _ s (λ c. bind (arguments f c) λ x d. done) (λ u. nowhere s)) (nowhere s)))
 
   head : (f : Flags) (role : Role) (at : ℕ) (s : Input) → Leaves s.tokens (e.head i f role at s)
   unfolding e.head
@@ -438,7 +445,7 @@ module _ (i : Inner) (h : Placed i) where
 
   pub chain : (f : Flags) (role : Role) (s : Input) → Leaves s.tokens (e.chain i f role s)
   unfolding e.chain
-  chain f role s = bind (head f role _ s) λ x c. bind (links f (e.has_calls role) i.fuel c) λ ls d. done
+  chain f role s = bind (head f role _ s) λ x c. bind (links f (has_calls role) i.fuel c) λ ls d. done
 
   postfix : (f : Flags) (role : Role) (s : Input) → Leaves s.tokens (e.postfix i f role s)
   unfolding e.postfix

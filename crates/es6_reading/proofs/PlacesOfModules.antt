@@ -18,14 +18,19 @@ use Rattle.es6_ast.specs.declared.tree.Statement.{Statement}
 use Rattle.es6_ast.specs.declared.module.ExportName.{ExportName}
 use Rattle.es6_ast.specs.declared.module.ImportedNames.{ImportedNames}
 use Rattle.es6_ast.specs.declared.module.Module.{Module}
+use Rattle.es6_ast.specs.declared.settings.Flags.{Flags}
+use Rattle.es6_ast.specs.declared.settings.Role.TheVariants.{Among, Heritage, Callee}
+use Rattle.es6_ast.specs.declared.settings.Stand.{Stand}
+use Rattle.es6_ast.specs.declared.settings.Stand.TheVariants.{Listed, Under, Labelled}
+use Rattle.es6_ast.specs.declared.settings.Stop.{Stop}
+use Rattle.es6_ast.specs.declared.settings.Stop.TheVariants.{Syntax, Outside}
 use Rattle.es6_ast.specs.Tokens.{Filled, is_word, is_identifier}
-use Rattle.es6_ast.specs.Grammar.{Flags, with_in, without_in, of_module}
-use Rattle.es6_reading.specs.Parser.{Input, Stop, Syntax, Outside, Fault, Parser, next_word, is_left, Stand, Listed, Under, Labelled, Inner}
+use Rattle.es6_ast.specs.Grammar.{with_in, without_in, of_module}
+use Rattle.es6_reading.specs.Parser.{Input, Fault, Parser, next_word, is_left, Inner}
 use Rattle.es6_reading.specs.Statements as s6
 use Rattle.es6_reading.specs.Modules as m6
 use Rattle.es6_reading.specs.Expressions as e
 use Rattle.es6_reading.specs.Laws.{FaultsAreInside, for_in, with, Says, FaultsSayWhatStandsThere}
-use Rattle.es6_reading.specs.Expressions.{Among, Heritage, Callee}
 use Rattle.es6_reading.proofs.Meanings.{word-is}
 use Rattle.es6_reading.proofs.Places.{Rest, all, less, Leaves, fault_rest, bind, done, deep, endless, stops, nowhere, number, expression, next, take, either, looks, group, Placed, identifier, any_name, semicolon_, do_while_end, fitting, initialized, block, binding, one_part, object_part, named_function, function, class, member, assignment, sequence, unary, power, chain, property}
 

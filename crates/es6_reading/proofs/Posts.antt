@@ -1,7 +1,8 @@
 -- What holds of all that a reader takes, put together along its parts.
 use Rattle.std.proofs.Common.{◌≡◌, ℕ, Bool, true, false, List, [], ◌∷◌, Option, Some, None, refl}
+use Rattle.es6_ast.specs.declared.settings.Stop.{Stop}
 use Rattle.es6_ast.specs.Tokens.{Filled}
-use Rattle.es6_reading.specs.Parser.{Input, Stop, Outcome, Took, Fault, Parser, after, on, on_taken, choose, next_is, if_next, take_as, refused, no_number, no_expression}
+use Rattle.es6_reading.specs.Parser.{Input, Outcome, Took, Fault, Parser, after, on, on_taken, choose, next_is, if_next, take_as, refused, no_number, no_expression}
 
 -- ## What a reader's value and the input after it are
 

@@ -1,8 +1,9 @@
 -- When a reader reads tokens up to others, if loops have turns enough and constructs enough may open.
 use Rattle.std.proofs.Common.{◌≡◌, ℕ, zero, suc, ◌+◌, ◌≤◌, Bool, true, false, List, [], ◌∷◌, Option, Some, refl, sym, ap, subst, ◌∙◌, arith}
 use Rattle.es6_lexer.specs.declared.token.Punctuator.{Punctuator as Mark}
+use Rattle.es6_ast.specs.declared.settings.Stop.TheVariants.{Depth}
 use Rattle.es6_ast.specs.Tokens.{Filled}
-use Rattle.es6_reading.specs.Parser.{Input, Depth, Outcome, Took, Parser, after, on, on_taken, choose, next_is, if_next, fails, kept_if, is_mark, mark, next_mark, Inner, on_group}
+use Rattle.es6_reading.specs.Parser.{Input, Outcome, Took, Parser, after, on, on_taken, choose, next_is, if_next, fails, kept_if, is_mark, mark, next_mark, Inner, on_group}
 use Rattle.es6_reading.proofs.Posts.{Misses}
 
 -- the outcome is such a value, and these tokens are left

@@ -20,10 +20,11 @@ use Rattle.es6_ast.specs.declared.tree.Method.{Method, out-Method, roll-out-Meth
 use Rattle.es6_ast.specs.declared.tree.Template.{Template, out-Template, roll-out-Template, fold-roll-Template}
 use Rattle.es6_ast.specs.declared.tree.Argument.TheOpen as layer
 use Rattle.es6_ast.specs.declared.tree.Argument.TheOpen.{Expression-F, Pattern-F, Element-F, Argument-F, Property-F}
+use Rattle.es6_ast.specs.declared.settings.Flags.{Flags}
 use Rattle.es6_ast.specs.Tokens.{Filled}
 use Rattle.es6_ast.specs.Targets.{AsTarget, AsElement, as_target, is_pattern, misfit, with_default, no_target, property_target, first_of_two, first_misfit, elements_misfit, argument_target, element_target, expression_target, link_target, pattern_target, property_target_of, ends_in_access}
 use Rattle.es6_ast.specs.Grammar as g
-use Rattle.es6_ast.specs.Grammar.{Flags, level_left_hand_side, IsExpression, IsAssigned, IsTarget}
+use Rattle.es6_ast.specs.Grammar.{level_left_hand_side, IsExpression, IsAssigned, IsTarget}
 use Rattle.es6_ast.proofs.TargetLaws.{is_access as is_access', as_argument, as_element, pattern_misfit, property_misfit}
 use Rattle.es6_reading.specs.Refine.{Open, Refined, Fits, refined_map, refined_cons, fits_if, held_at, span_of, is_access, simple, simple_in, alone, made_part, target_of_default, is_last, argument_part, element_part, array_parts_of, property_part, object_parts_of, target_in, part_in, refine, refine_pattern, else_itself, target_before}
 use Rattle.es6_reading.specs.Refinements.{IfFits, fits, misfits, too_nested, Places, no_misfit, first_misfit_at, too_deep}

@@ -21,10 +21,11 @@ use Rattle.es6_ast.specs.declared.tree.Key.{Key}
 use Rattle.es6_ast.specs.declared.tree.Part.{Part}
 use Rattle.es6_ast.specs.declared.tree.Argument.TheOpen as layer
 use Rattle.es6_ast.specs.declared.tree.Argument.TheOpen.{Expression-F}
+use Rattle.es6_ast.specs.declared.settings.Flags.{Flags}
 use Rattle.es6_ast.specs.Tokens.{Read, Filled, IsMark, end_of, across}
 use Rattle.es6_ast.specs.Targets.{is_simple}
 use Rattle.es6_ast.specs.Grammar as g
-use Rattle.es6_ast.specs.Grammar.{Flags, with_in, level_assignment, level_left_hand_side, level_primary, assign_kind, IsName, IsExpression, IsAssigned, IsTarget, IsPart, IsRest, IsKey, IsArgument, IsProperty, IsObjectPart, AreElements, AreProperties, AreArrayParts, AreObjectParts}
+use Rattle.es6_ast.specs.Grammar.{with_in, level_assignment, level_left_hand_side, level_primary, assign_kind, IsName, IsExpression, IsAssigned, IsTarget, IsPart, IsRest, IsKey, IsArgument, IsProperty, IsObjectPart, AreElements, AreProperties, AreArrayParts, AreObjectParts}
 use Rattle.es6_reading.specs.Refine.{Open, Refined, Fits, refined_map, fits_if, span_in, span_of, is_name_in, simple_in, alone, made_part, target_of_default, part_in, rest_of, argument_part, array_parts_of, property_part, object_parts_of, target_in, refine, binds_names}
 use Rattle.es6_reading.specs.Refinements.{IfFits, fits, misfits, too_nested}
 use Rattle.es6_reading.proofs.Refines.{map-fits, weaken-fits, cons-fits}

@@ -7,12 +7,15 @@ use Rattle.es6_ast.specs.declared.tree.Expression.{Expression}
 use Rattle.es6_ast.specs.declared.tree.Link.{Link}
 use Rattle.es6_ast.specs.declared.tree.Parameter.{Parameter}
 use Rattle.es6_ast.specs.declared.tree.Rest.{Rest}
+use Rattle.es6_ast.specs.declared.settings.Flags.{Flags}
+use Rattle.es6_ast.specs.declared.settings.Role.{Role}
+use Rattle.es6_ast.specs.declared.settings.Role.TheVariants.{Leading, Among, Heritage, Callee}
+use Rattle.es6_ast.specs.Settings.{is_leading, has_calls}
 use Rattle.es6_ast.specs.Tokens.{begin_of}
-use Rattle.es6_ast.specs.Grammar.{Flags, with_in}
+use Rattle.es6_ast.specs.Grammar.{with_in}
 use Rattle.es6_reading.specs.Parser.{Input, Parser, Reading, Inner}
 use Rattle.es6_reading.specs.Refine.{Refined, Fits, Misfit, TooNested}
 use Rattle.es6_reading.specs.Expressions as e
-use Rattle.es6_reading.specs.Expressions.{Role, Leading, Among, Heritage, Callee}
 use Rattle.es6_reading.proofs.Posts.{Holds, took, fault, bind, refused-holds, no-number-holds, no-expression-holds}
 use Rattle.es6_reading.proofs.SpanCounts.{sum_of, in_some, spans_expression, in_argument, in_element, in_expression, in_link, in_property, with_expression}
 use Rattle.es6_reading.proofs.SpanSums.{in-single, in-spread, in-hole, in-present, in-this, in-name, in-literal, in-template_value, in-array_list, in-object_list, in-function_value, in-class_value, in-chain, in-super_member, in-super_index, in-super_call, in-new_target, in-new, in-sequence, in-group, in-cover, in-member, in-index, in-call, in-tagged, span-this, span-name, span-literal, span-template_value, span-array_list, span-object_list, span-function_value, span-class_value, span-chain, span-super_member, span-super_index, span-super_call, span-new_target, span-new, span-group, span-cover}
@@ -104,7 +107,7 @@ module _ (i : Inner) (room : ℕ) (h : Shallow i room) where
 
   grouped : {s : Input} {D : ℕ → ℕ} (f : Flags) (role : Role) (c : Input) → At room s 0 1 c D → Holds (ExpressionAt room s) (e.grouped i f role (begin_of s.tokens) c)
   unfolding e.grouped
-  grouped f role c a = either (e.is_leading role) _ _ c (ends right-parenthesis _ a (λ t d b. covered None None d b (λ at. omega arith)) (next ellipsis _ a (λ t d k b. covered_rest _ None d b (λ at. omega arith)) (held_group f role c a))) (held_group f role c a)
+  grouped f role c a = either (is_leading role) _ _ c (ends right-parenthesis _ a (λ t d b. covered None None d b (λ at. omega arith)) (next ellipsis _ a (λ t d k b. covered_rest _ None d b (λ at. omega arith)) (held_group f role c a))) (held_group f role c a)
 
   -- ## Primary expressions
 
@@ -145,7 +148,7 @@ module _ (i : Inner) (room : ℕ) (h : Shallow i room) where
   unfolding e.after_super e.super_call
   after_super f role c a = next dot _ a (λ t d k b. bind (name d b) λ n o m. took (finish m (in-super_member _ _) (λ at. omega arith), within (span-super_member _ _)))
       (group i marks.LeftBracket _ h.opens (refl, refl, refl) a (λ d b. bind (h.sequence (with_in f) d b.sorted) λ x k m. bind (close right-bracket (and b m)) λ t o n. took (finish n (in-super_index _ _) (λ at. omega arith), within (span-super_index _ _)))
-      (either (e.has_calls role) _ _ c (group i marks.LeftParenthesis _ h.opens (refl, refl, refl) a (λ d b. bind (arguments f d (ready b)) λ xs k m. took (finish (and b m) (in-super_call _ _) (λ at. omega arith), within (span-super_call _ _))) (refused-holds c)) (refused-holds c)))
+      (either (has_calls role) _ _ c (group i marks.LeftParenthesis _ h.opens (refl, refl, refl) a (λ d b. bind (arguments f d (ready b)) λ xs k m. took (finish (and b m) (in-super_call _ _) (λ at. omega arith), within (span-super_call _ _))) (refused-holds c)) (refused-holds c)))
 
   head : (f : Flags) (role : Role) (s : Input) → Ready room 0 s → Holds (ExpressionAt room s) (e.head i f role (begin_of s.tokens) s)
   unfolding e.head
@@ -182,4 +185,4 @@ module _ (i : Inner) (room : ℕ) (h : Shallow i room) where
 
   pub chain : (f : Flags) (role : Role) (s : Input) → Ready room 0 s → Holds (ExpressionAt room s) (e.chain i f role s)
   unfolding e.chain
-  chain f role s r = bind (head f role s r) λ x c a. bind (links f (e.has_calls role) i.fuel c (ready a.0)) λ xs d b. took (chained x xs a b)
+  chain f role s r = bind (head f role s r) λ x c a. bind (links f (has_calls role) i.fuel c (ready a.0)) λ xs d b. took (chained x xs a b)

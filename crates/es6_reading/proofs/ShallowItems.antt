@@ -10,13 +10,16 @@ use Rattle.es6_ast.specs.declared.tree.Statement.{Statement}
 use Rattle.es6_ast.specs.declared.module.ExportName.{ExportName}
 use Rattle.es6_ast.specs.declared.module.ImportedNames.{ImportedNames}
 use Rattle.es6_ast.specs.declared.module.Item.{Item}
+use Rattle.es6_ast.specs.declared.settings.Flags.{Flags}
+use Rattle.es6_ast.specs.declared.settings.Role.TheVariants.{Among, Heritage, Callee}
+use Rattle.es6_ast.specs.declared.settings.Stand.{Stand}
+use Rattle.es6_ast.specs.declared.settings.Stand.TheVariants.{Listed}
 use Rattle.es6_ast.specs.Depth.{item_spans}
 use Rattle.es6_ast.specs.Tokens.{Filled, is_identifier}
-use Rattle.es6_ast.specs.Grammar.{Flags, of_module}
-use Rattle.es6_reading.specs.Parser.{Input, Reading, Stand, Listed, Inner}
+use Rattle.es6_ast.specs.Grammar.{of_module}
+use Rattle.es6_reading.specs.Parser.{Input, Reading, Inner}
 use Rattle.es6_reading.specs.Parts as t6
 use Rattle.es6_reading.specs.Expressions as e
-use Rattle.es6_reading.specs.Expressions.{Among, Heritage, Callee}
 use Rattle.es6_reading.specs.Statements as s6
 use Rattle.es6_reading.specs.Modules as m6
 use Rattle.es6_reading.proofs.Posts.{Holds, took, fault, bind, weaken, refused-holds, no-number-holds, no-expression-holds}

@@ -16,13 +16,15 @@ use Rattle.es6_ast.specs.declared.tree.Key.{Key}
 use Rattle.es6_ast.specs.declared.tree.Operand.{Operand}
 use Rattle.es6_ast.specs.declared.tree.Parameter.{Parameter}
 use Rattle.es6_ast.specs.declared.tree.Pattern.{Pattern}
+use Rattle.es6_ast.specs.declared.settings.Flags.{Flags}
+use Rattle.es6_ast.specs.declared.settings.Role.{Role}
+use Rattle.es6_ast.specs.declared.settings.Role.TheVariants.{Leading, Among}
 use Rattle.es6_ast.specs.Tokens.{begin_of}
-use Rattle.es6_ast.specs.Grammar.{Flags, with_in, of_function, of_arrow, is_before}
+use Rattle.es6_ast.specs.Grammar.{with_in, of_function, of_arrow, is_before}
 use Rattle.es6_reading.specs.Parser.{Input, Parser, Reading, is_left, is_covered, Inner}
 use Rattle.es6_reading.specs.Refine.{Refined, Fits, Misfit, TooNested, target_before}
 use Rattle.es6_reading.specs.Words.{after_at}
 use Rattle.es6_reading.specs.Expressions as e
-use Rattle.es6_reading.specs.Expressions.{Role, Leading, Among, Heritage, Callee}
 use Rattle.es6_reading.proofs.Meanings.{after-means}
 use Rattle.es6_reading.proofs.Posts.{Holds, took, fault, bind, Taken, taken, refused-holds}
 use Rattle.es6_reading.proofs.SpanCounts.{sum_of, one, spans_block, spans_expression, in_arrow_body, in_expression, in_operand, in_parameter, in_pattern, in_property, in_key, with_block, with_expression}

@@ -16,10 +16,13 @@ use Rattle.es6_ast.specs.declared.tree.Expression.TheVariants as expr
 use Rattle.es6_ast.specs.declared.tree.Statement.{Statement}
 use Rattle.es6_ast.specs.declared.tree.Stretch.{Stretch}
 use Rattle.es6_ast.specs.declared.tree.Template.{Template}
+use Rattle.es6_ast.specs.declared.settings.Flags.{Flags}
+use Rattle.es6_ast.specs.declared.settings.Stand.{Stand}
+use Rattle.es6_ast.specs.declared.settings.Stand.TheVariants.{Listed}
 use Rattle.es6_ast.specs.Tokens.{begin_of}
-use Rattle.es6_ast.specs.Grammar.{Flags, with_in, of_function, name_target, method_of, is_generator_method}
+use Rattle.es6_ast.specs.Grammar.{with_in, of_function, name_target, method_of, is_generator_method}
 use Rattle.es6_reading.specs.Parser as p
-use Rattle.es6_reading.specs.Parser.{Input, Outcome, Parser, Reading, Stand, Listed, Inner, semicolon, is_insertable}
+use Rattle.es6_reading.specs.Parser.{Input, Outcome, Parser, Reading, Inner, semicolon, is_insertable}
 use Rattle.es6_reading.specs.Words.{KeyToken, WordToken, TextToken, IntegerToken}
 use Rattle.es6_reading.specs.Parts as t6
 use Rattle.es6_reading.proofs.Posts.{Holds, took, fault, bind, weaken, on-holds, choose-holds, refused-holds, no-number-holds}

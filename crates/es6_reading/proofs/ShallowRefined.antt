@@ -20,8 +20,9 @@ use Rattle.es6_ast.specs.declared.tree.Property.TheVariants as property
 use Rattle.es6_ast.specs.declared.tree.Rest.{Rest}
 use Rattle.es6_ast.specs.declared.tree.Argument.TheOpen as layer
 use Rattle.es6_ast.specs.declared.tree.Argument.TheOpen.{Argument-F, Element-F, Expression-F, Pattern-F, Property-F}
+use Rattle.es6_ast.specs.declared.settings.Shape.{Shape}
+use Rattle.es6_ast.specs.declared.settings.Shape.TheVariants.{Bare, Grouped, Covered, LeftHandSide, Other}
 use Rattle.es6_ast.specs.Grammar.{name_target, name_alone}
-use Rattle.es6_reading.specs.Parser.{Shape, Bare, Grouped, Covered, LeftHandSide, Other}
 use Rattle.es6_reading.specs.Refine.{Open, Refined, Fits, Misfit, TooNested, refined_map, refined_cons, span_of, bound, simple, alone, binds_names, made_part, target_of_default, part_in, rest_of, argument_part, element_part, is_last, array_parts_of, property_part, object_parts_of, target_in, refine, refine_pattern, refine_part, else_itself, target_before, parameters_of, parts_in, parts_of, rest_parameter, parameters_in, refine_parameters}
 use Rattle.es6_reading.specs.Expressions.{parameters_before}
 use Rattle.es6_reading.proofs.SpanCounts.{sum_of, in_argument, in_array_part, in_element, in_expression, in_object_part, in_parameter, in_part, in_pattern, in_property}

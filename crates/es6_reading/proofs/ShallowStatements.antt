@@ -14,9 +14,12 @@ use Rattle.es6_ast.specs.declared.tree.ForTarget.{ForTarget}
 use Rattle.es6_ast.specs.declared.tree.Identifier.{Identifier}
 use Rattle.es6_ast.specs.declared.tree.Part.{Part, roll-out-Part}
 use Rattle.es6_ast.specs.declared.tree.Statement.{Statement}
+use Rattle.es6_ast.specs.declared.settings.Flags.{Flags}
+use Rattle.es6_ast.specs.declared.settings.Stand.{Stand}
+use Rattle.es6_ast.specs.declared.settings.Stand.TheVariants.{Listed, Under, Labelled}
 use Rattle.es6_ast.specs.Tokens.{begin_of}
-use Rattle.es6_ast.specs.Grammar.{Flags, with_in, without_in}
-use Rattle.es6_reading.specs.Parser.{Input, Parser, is_left, Stand, Listed, Under, Labelled, mark, Inner}
+use Rattle.es6_ast.specs.Grammar.{with_in, without_in}
+use Rattle.es6_reading.specs.Parser.{Input, Parser, is_left, mark, Inner}
 use Rattle.es6_reading.specs.Refine.{target_before}
 use Rattle.es6_reading.specs.Parts as t6
 use Rattle.es6_reading.specs.Statements as s6

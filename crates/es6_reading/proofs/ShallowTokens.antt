@@ -13,8 +13,9 @@ use Rattle.es6_ast.specs.declared.operators.AssignOperator.{AssignOperator}
 use Rattle.es6_ast.specs.declared.operators.AssignOperator.TheVariants as assign
 use Rattle.es6_ast.specs.declared.operators.Literal.{Literal}
 use Rattle.es6_ast.specs.declared.operators.Literal.TheVariants as literals
+use Rattle.es6_ast.specs.declared.settings.Flags.{Flags}
 use Rattle.es6_ast.specs.Tokens.{Filling, Read, Inserted}
-use Rattle.es6_ast.specs.Grammar.{Flags, ends, unary_kind, update_kind, assign_kind, binary_kind, literal_kind, kind_word}
+use Rattle.es6_ast.specs.Grammar.{ends, unary_kind, update_kind, assign_kind, binary_kind, literal_kind, kind_word}
 use Rattle.es6_reading.specs.Parser.{mark, word, ending}
 use Rattle.es6_reading.specs.Words.{KeyToken, WordToken, TextToken, IntegerToken, any_name, free_name, literal_at, text_at, key_at, accessor_at, accessor_name, stretch_at, unary_at, before_at, after_at, assign_at, binary_at, arrow_at, kind_at, lexical_kind_at}
 use Rattle.es6_reading.specs.Expressions.{star_at}

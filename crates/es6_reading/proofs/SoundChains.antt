@@ -12,13 +12,17 @@ use Rattle.es6_ast.specs.declared.tree.Link.{Link}
 use Rattle.es6_ast.specs.declared.tree.Link.TheVariants as link
 use Rattle.es6_ast.specs.declared.tree.Parameter.{Parameter}
 use Rattle.es6_ast.specs.declared.tree.Template.{Template}
+use Rattle.es6_ast.specs.declared.settings.Flags.{Flags}
+use Rattle.es6_ast.specs.declared.settings.Role.{Role}
+use Rattle.es6_ast.specs.declared.settings.Role.TheVariants.{Heritage, Callee}
+use Rattle.es6_ast.specs.Settings.{has_calls}
 use Rattle.es6_ast.specs.Tokens.{Read, Filled, IsWord, IsMark, begin_of}
 use Rattle.es6_ast.specs.Grammar as g
-use Rattle.es6_ast.specs.Grammar.{Flags, with_in, level_sequence, level_left_hand_side, level_call, level_member, level_primary, chain_level, IsName, IsExpression, IsNode, IsSuperCall, IsNewCallee, IsTemplate, AreLinks, AreArrowParameters}
+use Rattle.es6_ast.specs.Grammar.{with_in, level_sequence, level_left_hand_side, level_call, level_member, level_primary, chain_level, IsName, IsExpression, IsNode, IsSuperCall, IsNewCallee, IsTemplate, AreLinks, AreArrowParameters}
 use Rattle.es6_reading.specs.Parser.{Input, Parser, next_is, next_mark, is_covered, Reading, Inner}
 use Rattle.es6_reading.specs.Words.{is_arrow, is_template_head}
 use Rattle.es6_reading.specs.Refine.{Fits}
-use Rattle.es6_reading.specs.Expressions.{left, Role, Heritage, Callee, has_calls, after_callee, after_new, super_call, after_super, head, member_link, index_link, call_link, on_link, links, chained, chain, parameters_before}
+use Rattle.es6_reading.specs.Expressions.{left, after_callee, after_new, super_call, after_super, head, member_link, index_link, call_link, on_link, links, chained, chain, parameters_before}
 use Rattle.es6_reading.specs.Statements.{label_of}
 use Rattle.es6_reading.proofs.Posts.{Holds, took, fault, both, bind, weaken, choose-holds, refused-holds}
 use Rattle.es6_reading.proofs.Meanings.{mark-is, is-mark-true}

@@ -10,10 +10,12 @@ use Rattle.es6_ast.specs.declared.tree.Pattern.{Pattern}
 use Rattle.es6_ast.specs.declared.tree.Block.{Block}
 use Rattle.es6_ast.specs.declared.tree.Case.{Case, roll-Case}
 use Rattle.es6_ast.specs.declared.tree.Catch.{Catch, roll-Catch}
+use Rattle.es6_ast.specs.declared.settings.Flags.{Flags}
+use Rattle.es6_ast.specs.declared.settings.Stand.TheVariants.{Listed, Under}
 use Rattle.es6_ast.specs.Tokens.{Filled, IsWord, IsMark, IsOnLine, begin_of}
 use Rattle.es6_ast.specs.Grammar as g
-use Rattle.es6_ast.specs.Grammar.{Flags, with_in, level_sequence, level_assignment, ends, NotBrace, NotStar, NotWord, IsEnd, IsName, IsStar, IsExpression, IsTarget, IsFunction, IsStatement, IsDeclaration, IsListed, IsLabel, IsCatch, AreCases, AreInCase}
-use Rattle.es6_reading.specs.Parser.{Input, next_is, Reading, Listed, Under, Inner, ends_block}
+use Rattle.es6_ast.specs.Grammar.{with_in, level_sequence, level_assignment, ends, NotBrace, NotStar, NotWord, IsEnd, IsName, IsStar, IsExpression, IsTarget, IsFunction, IsStatement, IsDeclaration, IsListed, IsLabel, IsCatch, AreCases, AreInCase}
+use Rattle.es6_reading.specs.Parser.{Input, next_is, Reading, Inner, ends_block}
 use Rattle.es6_reading.specs.Words.{free_name}
 use Rattle.es6_reading.specs.Statements.{label_if, label_at, optional_label, continue_statement, break_statement, is_inserted, goes_on, returned, return_statement, begins_line, throw_statement, in_case, case_clause, default_clause, cases, switch_statement, catch_parameter, handler, after_handler, only_finally, try_statement, debugger_statement}
 use Rattle.es6_reading.proofs.Posts.{Holds, took, fault, bind, weaken, choose-holds, if-holds, refused-holds}

@@ -10,10 +10,13 @@ use Rattle.es6_ast.specs.declared.tree.Statement.{Statement}
 use Rattle.es6_ast.specs.declared.tree.Statement.TheVariants as stat
 use Rattle.es6_ast.specs.declared.tree.Block.{Block}
 use Rattle.es6_ast.specs.declared.tree.Function.{Function}
+use Rattle.es6_ast.specs.declared.settings.Flags.{Flags}
+use Rattle.es6_ast.specs.declared.settings.Stand.{Stand}
+use Rattle.es6_ast.specs.declared.settings.Stand.TheVariants.{Listed, Under, Labelled}
 use Rattle.es6_ast.specs.Tokens.{Filling, Read, Filled, IsWord, IsMark, is_left_brace, begin_of, across}
 use Rattle.es6_ast.specs.Grammar as g
-use Rattle.es6_ast.specs.Grammar.{Flags, with_in, level_sequence, level_assignment, ends, NotBrace, NotStar, NotWord, IsEnd, IsName, IsStar, IsExpression, IsTarget, IsFunction, IsStatement, IsDeclaration, IsListed, IsLabel, IsCatch, AreCases, AreInCase}
-use Rattle.es6_reading.specs.Parser.{Input, Outcome, Took, Fault, Parser, next_is, is_mark, next_mark, next_word, Reading, Stand, Listed, Under, Labelled, Inner}
+use Rattle.es6_ast.specs.Grammar.{with_in, level_sequence, level_assignment, ends, NotBrace, NotStar, NotWord, IsEnd, IsName, IsStar, IsExpression, IsTarget, IsFunction, IsStatement, IsDeclaration, IsListed, IsLabel, IsCatch, AreCases, AreInCase}
+use Rattle.es6_reading.specs.Parser.{Input, Outcome, Took, Fault, Parser, next_is, is_mark, next_mark, next_word, Reading, Inner}
 use Rattle.es6_reading.specs.Words.{lexical_kind_at}
 use Rattle.es6_reading.specs.Parts.{named_function}
 use Rattle.es6_reading.specs.Statements.{expression_end, labelled, label_of, label_or_end, expression_statement, function_declaration, class_declaration, on_declaration, labelled_function, on_more, begins_declaration, plain_statement, jump_statement, compound_statement, block_statement, statement}

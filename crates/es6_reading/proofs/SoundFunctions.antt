@@ -22,10 +22,12 @@ use Rattle.es6_ast.specs.declared.tree.Part.{Part}
 use Rattle.es6_ast.specs.declared.tree.Stretch.{Stretch}
 use Rattle.es6_ast.specs.declared.tree.Template.{Template, roll-Template}
 use Rattle.es6_ast.specs.declared.tree.TemplatePart.{TemplatePart}
+use Rattle.es6_ast.specs.declared.settings.Flags.{Flags}
+use Rattle.es6_ast.specs.declared.settings.Stand.TheVariants.{Listed}
 use Rattle.es6_ast.specs.Tokens.{Filling, Read, Inserted, Filled, IsWord, IsMark, begin_of}
 use Rattle.es6_ast.specs.Grammar as g
-use Rattle.es6_ast.specs.Grammar.{Flags, with_in, of_function, level_sequence, level_left_hand_side, method_of, IsName, IsStar, IsKey, AreParameters, IsFunction, IsSignature, IsMethod, IsClass, IsClassTail, AreMembers, AreStatements, IsBlock, IsTemplate, AreTemplateParts, IsExpression}
-use Rattle.es6_reading.specs.Parser.{Input, Parser, next_is, Listed, Reading, Inner, group}
+use Rattle.es6_ast.specs.Grammar.{with_in, of_function, level_sequence, level_left_hand_side, method_of, IsName, IsStar, IsKey, AreParameters, IsFunction, IsSignature, IsMethod, IsClass, IsClassTail, AreMembers, AreStatements, IsBlock, IsTemplate, AreTemplateParts, IsExpression}
+use Rattle.es6_reading.specs.Parser.{Input, Parser, next_is, Reading, Inner, group}
 use Rattle.es6_reading.specs.Words.{WordToken, accessor_at, accessor_name, stretch_in, stretch_at, is_template_head}
 use Rattle.es6_reading.specs.Parts.{statements, block, function_body, signature, star, rest_of_function, named_function, function_after_word, method_after_key, no_parameter, one_parameter, accessor_parameters, accessor_kind, accessor, generator_method, method_after_accessor_word, method, member_of, member_after_static, one_member, members, heritage, rest_of_class, named_class, class_after_word, template_part, template_parts, parted_template, on_template}
 use Rattle.es6_reading.proofs.Posts.{Holds, took, fault, bind, weaken, Misses, choose-holds, if-holds, refused-holds}

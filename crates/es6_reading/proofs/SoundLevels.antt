@@ -17,13 +17,16 @@ use Rattle.es6_ast.specs.declared.tree.Expression.TheVariants as expr
 use Rattle.es6_ast.specs.declared.tree.Operand.{Operand, roll-Operand}
 use Rattle.es6_ast.specs.declared.tree.Parameter.{Parameter}
 use Rattle.es6_ast.specs.declared.tree.Pattern.{Pattern}
+use Rattle.es6_ast.specs.declared.settings.Flags.{Flags}
+use Rattle.es6_ast.specs.declared.settings.Role.{Role}
+use Rattle.es6_ast.specs.declared.settings.Role.TheVariants.{Leading, Among}
 use Rattle.es6_ast.specs.Tokens.{Filling, Read, Filled, IsWord, IsMark, IsOnLine, is_left_brace, across, begin_of}
 use Rattle.es6_ast.specs.Grammar as g
-use Rattle.es6_ast.specs.Grammar.{Flags, with_in, of_function, of_arrow, level_sequence, level_assignment, level_conditional, level_power, level_unary, level_update, level_left_hand_side, unary_kind, update_kind, binary_kind, assign_kind, is_before, NotBrace, IsName, IsExpression, IsNode, AreOperands, AreMore, AreArrowParameters, IsArrowBody, IsAssigned, IsKey}
+use Rattle.es6_ast.specs.Grammar.{with_in, of_function, of_arrow, level_sequence, level_assignment, level_conditional, level_power, level_unary, level_update, level_left_hand_side, unary_kind, update_kind, binary_kind, assign_kind, is_before, NotBrace, IsName, IsExpression, IsNode, AreOperands, AreMore, AreArrowParameters, IsArrowBody, IsAssigned, IsKey}
 use Rattle.es6_reading.specs.Parser.{Input, Parser, next_is, is_mark, mark, next_mark, is_left, is_covered, after, refused, Reading, Inner}
 use Rattle.es6_reading.specs.Words.{unary_at, before_at, after_at, assign_at, binary_at, is_arrow, arrow_at}
 use Rattle.es6_reading.specs.Refine.{Refined, Fits, Misfit, TooNested, target_before}
-use Rattle.es6_reading.specs.Expressions.{other, Role, Leading, Among, postfix, prefixed, updated, update, unary, raised, power, operands, operated, binary_from, branches, conditional, parameters_before, arrow_body, arrow_if, fitting, assigned_with, after_conditional, star_at, ends_value, ends_yield, after_yield, without_yield, assignment, parts, more_parts, sequence}
+use Rattle.es6_reading.specs.Expressions.{other, postfix, prefixed, updated, update, unary, raised, power, operands, operated, binary_from, branches, conditional, parameters_before, arrow_body, arrow_if, fitting, assigned_with, after_conditional, star_at, ends_value, ends_yield, after_yield, without_yield, assignment, parts, more_parts, sequence}
 use Rattle.es6_reading.proofs.Posts.{Holds, took, fault, both, bind, weaken, choose-holds, if-holds, refused-holds}
 use Rattle.es6_reading.proofs.Meanings.{unary-means, before-means, after-means, assign-means, IsOperator, binary-means, IsArrow, arrow-means, mark-means, or_false, not_true}
 use Rattle.es6_reading.proofs.Spans.{Moves, ◌⟫◌, span-across}

@@ -14,10 +14,12 @@ use Rattle.es6_ast.specs.declared.tree.ForFirst.TheVariants.{NoFirst, FirstVaria
 use Rattle.es6_ast.specs.declared.tree.ForTarget.{ForTarget}
 use Rattle.es6_ast.specs.declared.tree.ForTarget.TheVariants.{Declared, Assigned}
 use Rattle.es6_ast.specs.declared.tree.Part.{Part}
+use Rattle.es6_ast.specs.declared.settings.Flags.{Flags}
+use Rattle.es6_ast.specs.declared.settings.Stand.TheVariants.{Under}
 use Rattle.es6_ast.specs.Tokens.{Filled, IsWord, IsMark, begin_of}
 use Rattle.es6_ast.specs.Grammar as g
-use Rattle.es6_ast.specs.Grammar.{Flags, with_in, without_in, level_sequence, level_assignment, kind_word, IsExpression, IsTarget, IsForFirst, IsForTarget, IsOptional}
-use Rattle.es6_reading.specs.Parser.{Input, mark, Reading, is_left, Under, Inner}
+use Rattle.es6_ast.specs.Grammar.{with_in, without_in, level_sequence, level_assignment, kind_word, IsExpression, IsTarget, IsForFirst, IsForTarget, IsOptional}
+use Rattle.es6_reading.specs.Parser.{Input, mark, Reading, is_left, Inner}
 use Rattle.es6_reading.specs.Words.{kind_at}
 use Rattle.es6_reading.specs.Refine.{target_before}
 use Rattle.es6_reading.specs.Statements.{is_whole, Header, ForHeader, OfHeader, optional, rest_of_for, rest_of_of, first_variables, after_first_variable, after_bare_variable, for_variables, first_expression, assigned_in_turn, for_expression, for_header, loop_of, for_statement}

@@ -18,12 +18,13 @@ use Rattle.es6_ast.specs.declared.module.Item.TheVariants as item
 use Rattle.es6_ast.specs.declared.module.Specifier.{Specifier}
 use Rattle.es6_ast.specs.declared.module.ExportName.{ExportName}
 use Rattle.es6_ast.specs.declared.module.DefaultExport.TheVariants.{DefaultFunction, DefaultClass, DefaultValue}
+use Rattle.es6_ast.specs.declared.settings.Stand.TheVariants.{Listed}
 use Rattle.es6_ast.specs.Tokens.{Filling, Read, Filled, IsWord, IsMark, is_identifier, begin_of, across}
 use Rattle.es6_ast.specs.Grammar as g
 use Rattle.es6_ast.specs.Grammar.{level_assignment, of_module, NotWord, IsEnd, IsAnyName, IsStatement, IsDeclaration}
 use Rattle.es6_ast.specs.Modules as m
 use Rattle.es6_ast.specs.Modules.{IsExported, IsExport, AreExports, IsItem, AreItems, IsModule}
-use Rattle.es6_reading.specs.Parser.{Input, next_is, word, Reading, Listed, Inner, group}
+use Rattle.es6_reading.specs.Parser.{Input, next_is, word, Reading, Inner, group}
 use Rattle.es6_reading.specs.Modules.{export_of, one_export, exports, are_own, own_names, export_names, export_all, default_value, export_default, exported_declaration, export_declaration, export_item, statement_item, one_item, is_end_kind, is_end, end_at, items, whole_module}
 use Rattle.es6_reading.proofs.Posts.{Holds, took, fault, bind, weaken, choose-holds, if-holds, refused-holds}
 use Rattle.es6_reading.proofs.Meanings.{and_true, word-means, some_same}

@@ -14,9 +14,10 @@ use Rattle.es6_ast.specs.declared.tree.Parameter.TheVariants.{SingleParameter, R
 use Rattle.es6_ast.specs.declared.tree.Key.{Key}
 use Rattle.es6_ast.specs.declared.tree.Key.TheVariants.{WordKey, ComputedKey}
 use Rattle.es6_ast.specs.declared.tree.Part.{Part, roll-Part}
+use Rattle.es6_ast.specs.declared.settings.Flags.{Flags}
 use Rattle.es6_ast.specs.Tokens.{Filled, IsWord, IsMark, across, begin_of}
 use Rattle.es6_ast.specs.Grammar as g
-use Rattle.es6_ast.specs.Grammar.{Flags, with_in, level_assignment, name_target, name_alone, IsName, IsAnyName, IsKey, IsPattern, IsTarget, IsPart, AreArrayParts, AreObjectParts, IsObjectPart, AreParameters}
+use Rattle.es6_ast.specs.Grammar.{with_in, level_assignment, name_target, name_alone, IsName, IsAnyName, IsKey, IsPattern, IsTarget, IsPart, AreArrayParts, AreObjectParts, IsObjectPart, AreParameters}
 use Rattle.es6_reading.specs.Parser.{Input, Reading, Inner}
 use Rattle.es6_reading.specs.Words.{any_name, free_name, KeyToken, WordToken, TextToken, IntegerToken, key_at}
 use Rattle.es6_reading.specs.Parts.{identifier, name_of_any_kind, key_of, computed_key, key, rest_part, array_parts, object_parts, binding_pattern, binding, initialized, one_part, keyed_part, named_part, one_object_part, rest_parameter, more_parameters, parameters}

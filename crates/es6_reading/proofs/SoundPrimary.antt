@@ -17,14 +17,19 @@ use Rattle.es6_ast.specs.declared.tree.Parameter.{Parameter}
 use Rattle.es6_ast.specs.declared.tree.Property.{Property}
 use Rattle.es6_ast.specs.declared.tree.Rest.{Rest}
 use denote.Hole.Carrier as carrier
+use Rattle.es6_ast.specs.declared.settings.Flags.{Flags}
+use Rattle.es6_ast.specs.declared.settings.Role.{Role}
+use Rattle.es6_ast.specs.declared.settings.Role.TheVariants.{Leading, Among, Heritage, Callee}
+use Rattle.es6_ast.specs.declared.settings.Shape.TheVariants.{Bare, Grouped, Covered}
+use Rattle.es6_ast.specs.Settings.{is_leading}
 use Rattle.es6_ast.specs.Tokens.{Filled, IsWord, IsMark, across, begin_of}
 use Rattle.es6_ast.specs.Grammar as g
-use Rattle.es6_ast.specs.Grammar.{Flags, with_in, level_sequence, level_assignment, level_left_hand_side, level_primary, literal_kind, name_alone, IsName, IsExpression, IsNode, IsArgument, AreArguments, AreElements, AreProperties, AreMore, AreParameters, AreArrowParameters}
-use Rattle.es6_reading.specs.Parser.{Input, choose, next_is, next_mark, from, Bare, Grouped, Covered, Reading, Inner}
+use Rattle.es6_ast.specs.Grammar.{with_in, level_sequence, level_assignment, level_left_hand_side, level_primary, literal_kind, name_alone, IsName, IsExpression, IsNode, IsArgument, AreArguments, AreElements, AreProperties, AreMore, AreParameters, AreArrowParameters}
+use Rattle.es6_reading.specs.Parser.{Input, choose, next_is, next_mark, from, Reading, Inner}
 use Rattle.es6_reading.specs.Words.{free_name, literal_at, is_arrow}
 use Rattle.es6_reading.specs.Refine.{Refined, Fits, Misfit, TooNested, parameters_of}
 use Rattle.es6_reading.specs.Refinements.{IfFits, fits, misfits, too_nested, IsCover, empty_cover, rest_cover, held_cover}
-use Rattle.es6_reading.specs.Expressions.{left, Role, Leading, Among, Heritage, Callee, is_leading, no_operand, argument, Listing, with_element, elements, more_arguments, arguments, properties, covered, covered_rest, rest_after, Held, held_first, held_parts, sequenced, closed_group, whole, held_group, grouped, bracketed, composed, primary}
+use Rattle.es6_reading.specs.Expressions.{left, no_operand, argument, Listing, with_element, elements, more_arguments, arguments, properties, covered, covered_rest, rest_after, Held, held_first, held_parts, sequenced, closed_group, whole, held_group, grouped, bracketed, composed, primary}
 use Rattle.es6_reading.specs.Statements.{label_of}
 use Rattle.es6_reading.proofs.Posts.{Holds, took, fault, bind, weaken, choose-holds, if-holds, refused-holds, no-number-holds, no-expression-holds}
 use Rattle.es6_reading.proofs.Meanings.{is-mark-true, free-name-means, literal-means, some_same}

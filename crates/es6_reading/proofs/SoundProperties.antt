@@ -7,9 +7,10 @@ use Rattle.es6_ast.specs.declared.tree.Key.{Key}
 use Rattle.es6_ast.specs.declared.tree.Key.TheVariants.{WordKey}
 use Rattle.es6_ast.specs.declared.tree.Method.{Method}
 use Rattle.es6_ast.specs.declared.tree.Property.TheVariants as property
+use Rattle.es6_ast.specs.declared.settings.Flags.{Flags}
 use Rattle.es6_ast.specs.Tokens.{Filled, IsWord, IsMark, begin_of, is_identifier}
 use Rattle.es6_ast.specs.Grammar as g
-use Rattle.es6_ast.specs.Grammar.{Flags, with_in, level_assignment, IsName, IsKey}
+use Rattle.es6_ast.specs.Grammar.{with_in, level_assignment, IsName, IsKey}
 use Rattle.es6_reading.specs.Parser.{Input, mark, Reading, Inner}
 use Rattle.es6_reading.specs.Words.{free_name, accessor_at, accessor_name}
 use Rattle.es6_reading.specs.Expressions.{value_of_key, method_of_key, after_key, shorthand, after_name, after_accessor_word, one_property}

@@ -14,10 +14,12 @@ use Rattle.es6_ast.specs.declared.tree.Pattern.{Pattern}
 use Rattle.es6_ast.specs.declared.tree.Pattern.TheVariants as pattern
 use Rattle.es6_ast.specs.declared.tree.Condition.{Condition, roll-Condition}
 use Rattle.es6_ast.specs.declared.tree.Part.{Part, roll-Part}
+use Rattle.es6_ast.specs.declared.settings.Flags.{Flags}
+use Rattle.es6_ast.specs.declared.settings.Stand.TheVariants.{Under}
 use Rattle.es6_ast.specs.Tokens.{Filled, IsWord, IsMark, begin_of}
 use Rattle.es6_ast.specs.Grammar as g
-use Rattle.es6_ast.specs.Grammar.{Flags, with_in, without_in, level_sequence, level_assignment, kind_word, is_lexical, NotWord, IsEnd, IsDoWhileEnd, IsExpression, IsTarget, IsVariable, AreVariables, IsDeclaration, IsCondition, IsIf, IsForFirst, IsForTarget, IsOptional}
-use Rattle.es6_reading.specs.Parser.{Input, Parser, next_is, word, next_word, ending, Under, Inner, semicolon, semicolon_of_do_while}
+use Rattle.es6_ast.specs.Grammar.{with_in, without_in, level_sequence, level_assignment, kind_word, is_lexical, NotWord, IsEnd, IsDoWhileEnd, IsExpression, IsTarget, IsVariable, AreVariables, IsDeclaration, IsCondition, IsIf, IsForFirst, IsForTarget, IsOptional}
+use Rattle.es6_reading.specs.Parser.{Input, Parser, next_is, word, next_word, ending, Inner, semicolon, semicolon_of_do_while}
 use Rattle.es6_reading.specs.Statements.{is_whole, one_variable, variables, variables_statement, parenthesized, condition, Otherwise, with_condition, otherwise, if_statement, do_statement, while_statement}
 use Rattle.es6_reading.proofs.Posts.{Holds, took, fault, bind, Misses, choose-holds, if-holds, refused-holds}
 use Rattle.es6_reading.proofs.Meanings.{ending-means, do-while-ending-means, word-misses}

@@ -1,9 +1,10 @@
 -- What the readers tied into one another give is derived: without inserted semicolons.
 use Rattle.std.proofs.Common.{ℕ, zero, suc, Bool, false, refl, subst}
 use Rattle.es6_ast.specs.declared.tree.Statement.{Statement}
+use Rattle.es6_ast.specs.declared.settings.Flags.{Flags}
+use Rattle.es6_ast.specs.declared.settings.Stand.{Stand}
 use Rattle.es6_ast.specs.Tokens.{Filled}
-use Rattle.es6_ast.specs.Grammar.{Flags}
-use Rattle.es6_reading.specs.Parser.{Input, Reading, Stand, Inner}
+use Rattle.es6_reading.specs.Parser.{Input, Reading, Inner}
 use Rattle.es6_reading.specs.Expressions.{expression_at_limit, operand_at_limit}
 use Rattle.es6_reading.specs.Statements.{statement_at_limit}
 use Rattle.es6_reading.specs.Modules.{readers}

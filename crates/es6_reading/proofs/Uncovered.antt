@@ -1,5 +1,5 @@
 -- Where no arrow's parameters may stand, no parentheses are read that only such parameters have.
-use Rattle.std.proofs.Common.{◌≡◌, ℕ, zero, suc, ◌+◌, Bool, true, false, ◌&&◌, List, [], ◌∷◌, refl, sym, ◌∙◌}
+use Rattle.std.proofs.Common.{◌≡◌, ℕ, zero, suc, ◌+◌, true, false, ◌&&◌, List, [], ◌∷◌, refl, sym, ◌∙◌}
 use Rattle.std.proofs.lemmas.Bool.{false≢true}
 use Rattle.std.specs.Prelude.{codes}
 use Rattle.es_text.specs.declared.Span.{Span}
@@ -7,11 +7,15 @@ use Rattle.es6_lexer.specs.declared.token.Punctuator.TheVariants as marks
 use Rattle.es6_ast.specs.declared.tree.Expression.{Expression}
 use Rattle.es6_ast.specs.declared.tree.Link.{Link}
 use Rattle.es6_ast.specs.declared.tree.Operand.{Operand}
+use Rattle.es6_ast.specs.declared.settings.Flags.{Flags}
+use Rattle.es6_ast.specs.declared.settings.Role.{Role}
+use Rattle.es6_ast.specs.declared.settings.Role.TheVariants.{Leading, Among, Heritage, Callee}
+use Rattle.es6_ast.specs.Settings.{is_leading, has_calls}
 use Rattle.es6_ast.specs.Tokens.{Filled, begin_of}
-use Rattle.es6_ast.specs.Grammar.{Flags, with_in}
+use Rattle.es6_ast.specs.Grammar.{with_in}
 use Rattle.es6_reading.specs.Parser.{Input, take_as, mark, word, next_is, next_mark, is_covered, Reading, Inner}
 use Rattle.es6_reading.specs.Words.{free_name, literal_at, unary_at, before_at, after_at}
-use Rattle.es6_reading.specs.Expressions.{Role, Leading, Among, Heritage, Callee, is_leading, has_calls, arguments, elements, properties, Held, held_first, held_parts, held_group, closed_group, grouped, bracketed, composed, primary, after_callee, after_new, super_call, after_super, head, links, chained, chain, postfix, prefixed, updated, update, unary, raised, power, operands, operated, binary_from}
+use Rattle.es6_reading.specs.Expressions.{arguments, elements, properties, Held, held_first, held_parts, held_group, closed_group, grouped, bracketed, composed, primary, after_callee, after_new, super_call, after_super, head, links, chained, chain, postfix, prefixed, updated, update, unary, raised, power, operands, operated, binary_from}
 use Rattle.es6_reading.specs.Parts.{name_of_any_kind, function_after_word, class_after_word}
 use Rattle.es6_reading.proofs.Posts.{Holds, took, fault, any, bind, on-holds, choose-holds, if-holds, refused-holds}
 use Rattle.es6_reading.proofs.Derived.{Sound, group-holds}

@@ -9,8 +9,10 @@ use Rattle.es6_lexer.specs.declared.token.Punctuator.{Punctuator as Mark}
 use Rattle.es6_lexer.specs.declared.token.Punctuator.TheVariants as marks
 use Rattle.es6_lexer.specs.Punctuators.{spelling}
 use Rattle.es6_ast.specs.declared.module.Module.{Module}
+use Rattle.es6_ast.specs.declared.settings.Stop.{Stop}
+use Rattle.es6_ast.specs.declared.settings.Stop.TheVariants.{Syntax, Lexical, Outside, Depth}
 use Rattle.es6_ast.specs.Tokens.{read, begin_of}
-use Rattle.es6_reading.specs.Parser.{Input, Stop, Syntax, Lexical, Outside, Depth, Outcome, Took, Fault}
+use Rattle.es6_reading.specs.Parser.{Input, Outcome, Took, Fault}
 use Rattle.es6_reading.specs.Modules.{read_module}
 
 -- a token, how long it is, and whether a line terminator stands before it

@@ -25,9 +25,16 @@ use Rattle.es6_ast.specs.declared.tree.ArrowBody.TheVariants.{ValueBody, BlockBo
 use Rattle.es6_ast.specs.declared.tree.Arrow.{roll-Arrow}
 use Rattle.es6_ast.specs.declared.tree.Operand.{Operand, roll-Operand}
 use Rattle.es6_ast.specs.declared.tree.Rest.{Rest}
+use Rattle.es6_ast.specs.declared.settings.Flags.{Flags}
+use Rattle.es6_ast.specs.declared.settings.Role.{Role}
+use Rattle.es6_ast.specs.declared.settings.Role.TheVariants.{Leading, Among, Heritage, Callee}
+use Rattle.es6_ast.specs.declared.settings.Shape.{Shape}
+use Rattle.es6_ast.specs.declared.settings.Shape.TheVariants.{Bare, Grouped, Covered, LeftHandSide, Other}
+use Rattle.es6_ast.specs.declared.settings.Stop.TheVariants.{Endless, Depth}
+use Rattle.es6_ast.specs.Settings.{is_leading, has_calls}
 use Rattle.es6_ast.specs.Tokens.{Filling, Read, Inserted, Filled}
-use Rattle.es6_ast.specs.Grammar.{Flags, with_in, of_function, of_arrow}
-use Rattle.es6_reading.specs.Parser.{Parser, Endless, Depth, returns, fails, ◌>>=◌, refused, no_number, no_expression, on, choose, if_next, take_as, is_mark, mark, word, next_mark, from, last_end, made, Shape, Bare, Grouped, Covered, LeftHandSide, Other, Reading, is_left, is_covered, Inner, on_group, group}
+use Rattle.es6_ast.specs.Grammar.{with_in, of_function, of_arrow}
+use Rattle.es6_reading.specs.Parser.{Parser, returns, fails, ◌>>=◌, refused, no_number, no_expression, on, choose, if_next, take_as, is_mark, mark, word, next_mark, from, last_end, made, Reading, is_left, is_covered, Inner, on_group, group}
 use Rattle.es6_reading.specs.Words.{free_name, literal_at, accessor_at, accessor_name, unary_at, before_at, after_at, assign_at, binary_at, is_arrow, arrow_at, begins_operand}
 use Rattle.es6_reading.specs.Refine.{Refined, Fits, Misfit, TooNested, parameters_of, refine_parameters, target_before}
 use Rattle.es6_reading.specs.Parts.{identifier, name_of_any_kind, key, function_after_word, method_after_key, accessor, generator_method, class_after_word, on_template}
@@ -37,27 +44,6 @@ left x = record { value = x; shape = LeftHandSide }
 
 abbrev pub other : Expression → Reading
 other x = record { value = x; shape = Other }
-
--- Where an operand stands: at the begin of an AssignmentExpression, so that its parentheses may be those of an arrow's
--- parameters; elsewhere among operators; as a heritage; or after `new`.
-pub data Role : Type 0 where
-  Leading : Role
-  Among : Role
-  Heritage : Role
-  Callee : Role
-
-abbrev pub is_leading : Role → Bool
-is_leading Leading = true
-is_leading Among = false
-is_leading Heritage = false
-is_leading Callee = false
-
--- calls are no part of a MemberExpression
-abbrev pub has_calls : Role → Bool
-has_calls Leading = true
-has_calls Among = true
-has_calls Heritage = true
-has_calls Callee = false
 
 -- where no operand begins: a regular expression is reported only where an operator might stand
 abbrev pub no_operand : {A : Type 0} → Role → Parser A

@@ -1,5 +1,5 @@
 -- What is proved of the model, in the grammar's terms.
-use Rattle.std.specs.Prelude.{◌≡◌, ℕ, ◌+◌, ◌<◌, ◌≤◌, ◌⊎◌, Bool, false, List, [], ◌∷◌, ◌++◌, length, map, take, codes}
+use Rattle.std.specs.Prelude.{◌≡◌, ℕ, ◌+◌, ◌<◌, ◌≤◌, ◌⊎◌, Bool, true, false, List, [], ◌∷◌, ◌++◌, length, map, take, codes}
 use Rattle.es6_lexer.specs.declared.token.Token.{Token}
 use Rattle.es6_lexer.specs.declared.token.TokenKind.TheVariants as kinds
 use Rattle.es6_lexer.specs.declared.token.NumberToken.TheVariants.{TooLarge, Marked}
@@ -9,12 +9,14 @@ use Rattle.es6_lexer.specs.Lexes.{Lexes}
 use Rattle.es6_ast.specs.declared.module.Module.{Module}
 use Rattle.es6_ast.specs.declared.module.Item.{Item}
 use Rattle.es6_ast.specs.declared.module.Item.TheVariants as item
+use Rattle.es6_ast.specs.declared.settings.Stop.{Stop}
+use Rattle.es6_ast.specs.declared.settings.Stop.TheVariants.{Syntax, Lexical, Outside, Depth, Endless}
 use Rattle.es6_ast.specs.Tokens.{Filling, Read, Filled, read}
 use Rattle.es6_ast.specs.Modules.{IsItem, IsModule}
 use Rattle.es6_ast.specs.Semicolons.{Fills, SpellsModule}
 use Rattle.es6_ast.specs.Depth.{open_constructs}
 use Rattle.es6_ast.specs.Dead.{AreInOrder}
-use Rattle.es6_reading.specs.Parser.{Input, Stop, Syntax, Lexical, Outside, Depth, Endless, Took, Fault}
+use Rattle.es6_reading.specs.Parser.{Input, Took, Fault}
 use Rattle.es6_reading.specs.Modules.{readers, one_item, whole_module, most_open, read_module}
 
 -- Without inserted semicolons: a module that is read is derived from all of the tokens, with its spans.
@@ -133,6 +135,18 @@ abbrev pub ReadingsStay : Type 0
 ReadingsStay = (inserting : Bool) (fuel room more : ℕ) (tokens : List Filled) (last : ℕ) (m : Module) (after : Input)
     → whole_module (readers inserting fuel room) (record { tokens = tokens; last = last }) ≡ Took m after
     → whole_module (readers inserting (fuel + more) (room + more)) (record { tokens = tokens; last = last }) ≡ Took m after
+
+-- What is read without inserting semicolons is read so by the reader that inserts them.
+abbrev pub ReadingsStayInserting : Type 0
+ReadingsStayInserting = (fuel room : ℕ) (tokens : List Filled) (last : ℕ) (m : Module) (after : Input)
+    → whole_module (readers false fuel room) (record { tokens = tokens; last = last }) ≡ Took m after
+    → whole_module (readers true fuel room) (record { tokens = tokens; last = last }) ≡ Took m after
+
+-- With inserted semicolons: a module that the grammar derives, with every semicolon among the tokens, is read exactly so, where loops
+-- have turns enough and constructs enough may open.
+abbrev pub IsReadInFull : Type 0
+IsReadInFull = (tokens : List Filled) (m : Module) → IsModule tokens m
+    → (bound : ℕ) × ((fuel room last : ℕ) → bound ≤ fuel → bound ≤ room → (after : Input) × (whole_module (readers true fuel room) (record { tokens = tokens; last = last }) ≡ Took m after))
 
 -- Without inserted semicolons: such a fault stands at a token with which no module goes on after the tokens before it, or at the end
 -- of tokens that are no module.

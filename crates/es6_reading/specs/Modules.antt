@@ -15,12 +15,15 @@ use Rattle.es6_ast.specs.declared.module.ImportedNames.TheVariants.{NoNames, Nam
 use Rattle.es6_ast.specs.declared.module.ImportName.{ImportName}
 use Rattle.es6_ast.specs.declared.module.ExportName.{ExportName}
 use Rattle.es6_ast.specs.declared.module.DefaultExport.TheVariants.{DefaultFunction, DefaultClass, DefaultValue}
+use Rattle.es6_ast.specs.declared.settings.Role.TheVariants.{Among, Heritage, Callee}
+use Rattle.es6_ast.specs.declared.settings.Stand.TheVariants.{Listed}
+use Rattle.es6_ast.specs.declared.settings.Stop.TheVariants.{Depth, Endless}
 use Rattle.es6_ast.specs.Tokens.{Filling, Read, Filled, is_identifier}
 use Rattle.es6_ast.specs.Grammar.{of_module}
-use Rattle.es6_reading.specs.Parser.{Parser, Depth, Endless, Outcome, returns, fails, ◌>>=◌, refused, on, choose, if_next, take_as, mark, word, next_mark, next_word, from, made, Listed, Inner, group, semicolon}
+use Rattle.es6_reading.specs.Parser.{Parser, Outcome, returns, fails, ◌>>=◌, refused, on, choose, if_next, take_as, mark, word, next_mark, next_word, from, made, Inner, group, semicolon}
 use Rattle.es6_reading.specs.Words.{text_at, begins_expression, begins_unary}
 use Rattle.es6_reading.specs.Parts.{identifier, name_of_any_kind, block, binding, one_part, initialized, one_object_part, one_member, function_after_word, class_after_word}
-use Rattle.es6_reading.specs.Expressions.{Among, Heritage, Callee, sequence, assignment, unary, power, chain, one_property, expression_at_limit, operand_at_limit}
+use Rattle.es6_reading.specs.Expressions.{sequence, assignment, unary, power, chain, one_property, expression_at_limit, operand_at_limit}
 use Rattle.es6_reading.specs.Statements.{statement, statement_at_limit, variables_statement, on_declaration}
 
 -- ## The readers for what stands inside one more construct, of which `room` may still open

@@ -5,7 +5,6 @@ use Rattle.std.specs.Str.{bytes_eq}
 use Rattle.es_text.specs.declared.Span.{Span}
 use Rattle.es6_lexer.specs.declared.token.TokenKind.TheVariants as kinds
 use Rattle.es6_lexer.specs.declared.token.NumberToken.TheVariants.{TooLarge, Marked}
-use Rattle.es6_lexer.specs.declared.token.LexicalKind.{LexicalKind}
 use Rattle.es6_lexer.specs.declared.token.Punctuator.{Punctuator as Mark}
 use Rattle.es6_lexer.specs.declared.token.Punctuator.TheVariants as marks
 use Rattle.es6_lexer.specs.Punctuators.{spelling}
@@ -17,23 +16,20 @@ use Rattle.es6_ast.specs.declared.tree.Part.{Part}
 use Rattle.es6_ast.specs.declared.tree.Pattern.{Pattern}
 use Rattle.es6_ast.specs.declared.tree.Property.{Property}
 use Rattle.es6_ast.specs.declared.tree.Statement.{Statement}
+use Rattle.es6_ast.specs.declared.settings.Flags.{Flags}
+use Rattle.es6_ast.specs.declared.settings.Stand.{Stand}
+use Rattle.es6_ast.specs.declared.settings.Shape.{Shape}
+use Rattle.es6_ast.specs.declared.settings.Shape.TheVariants.{Bare, Grouped, Covered, LeftHandSide, Other}
+use Rattle.es6_ast.specs.declared.settings.Stop.{Stop}
+use Rattle.es6_ast.specs.declared.settings.Stop.TheVariants.{Syntax, Lexical, Outside, Depth}
 use Rattle.es6_ast.specs.Tokens.{Filling, Read, Inserted, Filled, is_word, begin_of}
-use Rattle.es6_ast.specs.Grammar.{Flags, ends}
+use Rattle.es6_ast.specs.Grammar.{ends}
 use Rattle.es6_ast.specs.Semicolons.{ends_group}
 
 -- the tokens that are left, and the end of the last one that was taken
 pub record Input : Type 0 where
   pub tokens : List Filled
   pub last : ℕ
-
--- What stops a reader: no module goes on so, a lexical fault, a rule of the profile, one construct too many opens, or a loop
--- that has used up its turns, which no text of the allowed length makes happen.
-pub data Stop : Type 0 where
-  Syntax : Stop
-  Lexical : LexicalKind → Stop
-  Outside : ℕ → Stop
-  Depth : Stop
-  Endless : Stop
 
 -- what was read and the input after it, or a fault and the tokens from it on
 pub data Outcome (A : Type 0) : Type 0 where
@@ -161,15 +157,6 @@ made at make c = Took (make (record { begin = at; end = c.last })) c
 
 -- ## Readers of what stands one construct deeper
 
--- What an expression is besides its tree: a name and nothing round it, a group and nothing round it, parentheses that only an
--- arrow's parameters have, another left-hand-side expression (12.3), or none of these.
-pub data Shape : Type 0 where
-  Bare : Shape
-  Grouped : Shape
-  Covered : Shape
-  LeftHandSide : Shape
-  Other : Shape
-
 pub record Reading : Type 0 where
   pub value : Expression
   pub shape : Shape
@@ -187,13 +174,6 @@ is_covered Grouped = false
 is_covered Covered = true
 is_covered LeftHandSide = false
 is_covered Other = false
-
--- where a statement stands: in a list, where declarations may stand too; under another statement; or under a label, where a
--- function may be declared (13.2, 13.13)
-pub data Stand : Type 0 where
-  Listed : Stand
-  Under : Stand
-  Labelled : Stand
 
 -- How a reader is set: whether it inserts semicolons, how many turns a loop has, whether one more construct may open, and
 -- the readers for what stands inside that construct. Their marks are the grammar's.

@@ -27,9 +27,12 @@ use Rattle.es6_ast.specs.declared.tree.Part.{Part, roll-Part}
 use Rattle.es6_ast.specs.declared.tree.Stretch.{Stretch}
 use Rattle.es6_ast.specs.declared.tree.Template.{Template, roll-Template}
 use Rattle.es6_ast.specs.declared.tree.TemplatePart.{TemplatePart, roll-TemplatePart}
+use Rattle.es6_ast.specs.declared.settings.Flags.{Flags}
+use Rattle.es6_ast.specs.declared.settings.Stand.TheVariants.{Listed}
+use Rattle.es6_ast.specs.declared.settings.Stop.TheVariants.{Endless, Depth}
 use Rattle.es6_ast.specs.Tokens.{Filled}
-use Rattle.es6_ast.specs.Grammar.{Flags, with_in, of_function, name_target, name_alone, method_of}
-use Rattle.es6_reading.specs.Parser.{Parser, Endless, Depth, returns, fails, ◌>>=◌, no_number, on, choose, if_next, take_as, mark, word, next_mark, next_word, from, made, Listed, Inner, on_group, group}
+use Rattle.es6_ast.specs.Grammar.{with_in, of_function, name_target, name_alone, method_of}
+use Rattle.es6_reading.specs.Parser.{Parser, returns, fails, ◌>>=◌, no_number, on, choose, if_next, take_as, mark, word, next_mark, next_word, from, made, Inner, on_group, group}
 use Rattle.es6_reading.specs.Words.{any_name, free_name, KeyToken, WordToken, TextToken, IntegerToken, key_at, accessor_at, accessor_name, stretch_at}
 
 -- ## Names and keys (12.1, 12.2.6)

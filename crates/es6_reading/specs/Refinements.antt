@@ -9,9 +9,10 @@ use Rattle.es6_ast.specs.declared.tree.Expression.TheVariants as expr
 use Rattle.es6_ast.specs.declared.tree.Parameter.{Parameter}
 use Rattle.es6_ast.specs.declared.tree.Part.{Part}
 use Rattle.es6_ast.specs.declared.tree.Pattern.{Pattern}
+use Rattle.es6_ast.specs.declared.settings.Flags.{Flags}
 use Rattle.es6_ast.specs.Tokens.{Filled, IsMark, across}
 use Rattle.es6_ast.specs.Targets.{misfit}
-use Rattle.es6_ast.specs.Grammar.{Flags, with_in, level_sequence, level_assignment, level_left_hand_side, level_primary, IsName, IsExpression, IsAssigned, IsTarget, IsPart, AreArrowParameters}
+use Rattle.es6_ast.specs.Grammar.{with_in, level_sequence, level_assignment, level_left_hand_side, level_primary, IsName, IsExpression, IsAssigned, IsTarget, IsPart, AreArrowParameters}
 use Rattle.es6_reading.specs.Refine.{Refined, Fits, Misfit, TooNested, refine_pattern, refine_part, target_before, refine_parameters}
 
 -- this holds of what the expression is spelled as, if it is so spelled

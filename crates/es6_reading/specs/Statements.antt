@@ -21,9 +21,15 @@ use Rattle.es6_ast.specs.declared.tree.ForFirst.TheVariants.{NoFirst, FirstVaria
 use Rattle.es6_ast.specs.declared.tree.ForTarget.{ForTarget}
 use Rattle.es6_ast.specs.declared.tree.ForTarget.TheVariants.{Declared, Assigned}
 use Rattle.es6_ast.specs.declared.tree.Part.{Part}
+use Rattle.es6_ast.specs.declared.settings.Flags.{Flags}
+use Rattle.es6_ast.specs.declared.settings.Stand.{Stand}
+use Rattle.es6_ast.specs.declared.settings.Stand.TheVariants.{Listed, Under, Labelled}
+use Rattle.es6_ast.specs.declared.settings.Shape.{Shape}
+use Rattle.es6_ast.specs.declared.settings.Shape.TheVariants.{Bare}
+use Rattle.es6_ast.specs.declared.settings.Stop.TheVariants.{Syntax, Outside, Depth, Endless}
 use Rattle.es6_ast.specs.Tokens.{Filling, Read, Inserted, Filled, is_word}
-use Rattle.es6_ast.specs.Grammar.{Flags, with_in, without_in, ends}
-use Rattle.es6_reading.specs.Parser.{Parser, Syntax, Outside, Depth, Endless, returns, fails, ◌>>=◌, refused, no_expression, on, choose, if_next, take_as, is_mark, mark, word, next_mark, next_word, from, made, Shape, Bare, is_left, Stand, Listed, Under, Labelled, Inner, group, ends_block, semicolon, semicolon_of_do_while}
+use Rattle.es6_ast.specs.Grammar.{with_in, without_in, ends}
+use Rattle.es6_reading.specs.Parser.{Parser, returns, fails, ◌>>=◌, refused, no_expression, on, choose, if_next, take_as, is_mark, mark, word, next_mark, next_word, from, made, is_left, Inner, group, ends_block, semicolon, semicolon_of_do_while}
 use Rattle.es6_reading.specs.Words.{free_name, kind_at, lexical_kind_at, is_any_word, begins_expression}
 use Rattle.es6_reading.specs.Refine.{Open, target_before}
 use Rattle.es6_reading.specs.Parts.{block, initialized, function_after_word, named_function, class_after_word}

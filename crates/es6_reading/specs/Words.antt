@@ -20,8 +20,9 @@ use Rattle.es6_ast.specs.declared.operators.Literal.TheVariants as literals
 use Rattle.es6_ast.specs.declared.operators.VariableKind.{VariableKind}
 use Rattle.es6_ast.specs.declared.operators.VariableKind.TheVariants.{Var, Let, Const}
 use Rattle.es6_ast.specs.declared.tree.Stretch.{Stretch}
+use Rattle.es6_ast.specs.declared.settings.Flags.{Flags}
 use Rattle.es6_ast.specs.Tokens.{Filling, Read, Filled, is_word, is_identifier}
-use Rattle.es6_ast.specs.Grammar.{Flags, unary_kind, update_kind, assign_kind, binary_kind, binary_level, is_in, kind_word}
+use Rattle.es6_ast.specs.Grammar.{unary_kind, update_kind, assign_kind, binary_kind, binary_level, is_in, kind_word}
 use Rattle.es6_reading.specs.Parser.{is_mark}
 
 -- ## Names (11.6, 12.1)

@@ -5,7 +5,7 @@
 #![tactic(auto)]
 
 ghost use Rattle.es6_reading.specs.Examples.{AreRead, AreStopped, IsDeepest};
-ghost use Rattle.es6_reading.specs.Laws.{AreShallow, AreSpelled, FaultsAreDead, FaultsAreInside, FaultsAreLocal, FaultsSayWhatStandsThere, FaultsStay, IsComplete, IsInserted, IsSound, IsUnambiguous, IsUnique, LinksAreRead, ReadingsStay, StandInOrder};
+ghost use Rattle.es6_reading.specs.Laws.{AreShallow, AreSpelled, FaultsAreDead, FaultsAreInside, FaultsAreLocal, FaultsSayWhatStandsThere, FaultsStay, IsComplete, IsInserted, IsReadInFull, IsSound, IsUnambiguous, IsUnique, LinksAreRead, ReadingsStay, ReadingsStayInserting, StandInOrder};
 ghost use Rattle.es6_reading.specs.Program.{IsProgramRead};
 ghost use Rattle.es6_reading.specs.Refinements.{AreRefined, ComeFromExpressions};
 
@@ -78,6 +78,17 @@ pub fn faults_stay_with_more_room()
 /// What is read is read so where more constructs may open and loops have more turns.
 pub fn readings_stay_with_more_room()
     ensures { ReadingsStay }
+{}
+
+/// What is read without inserted semicolons is read so where semicolons are inserted.
+pub fn readings_stay_where_semicolons_are_inserted()
+    ensures { ReadingsStayInserting }
+{}
+
+/// A module that the grammar derives from tokens among which every semicolon stands is read exactly so where semicolons are inserted,
+/// if loops have turns enough and constructs enough may open.
+pub fn what_is_spelled_in_full_is_read()
+    ensures { IsReadInFull }
 {}
 
 /// Without inserted semicolons a fault stands at a token with which no module goes on after the tokens before it, unless it is for

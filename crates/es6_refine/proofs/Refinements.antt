@@ -7,8 +7,8 @@ use Rattle.es6_ast.specs.declared.tree.Pattern.{Pattern}
 use Rattle.es6_ast.specs.declared.tree.Pattern.TheVariants as pattern
 use Rattle.es6_ast.specs.declared.operators.AssignOperator.{AssignOperator}
 use Rattle.es6_ast.specs.declared.operators.AssignOperator.TheVariants as assign
+use Rattle.es6_ast.specs.declared.settings.Shape.TheVariants.{Bare}
 use Rattle.es6_ast.specs.Targets.{misfit}
-use Rattle.es6_reading.specs.Parser.{Bare}
 use Rattle.es6_reading.specs.Refine.{Refined, Fits, Misfit, TooNested, else_itself, refine_pattern, refine_parameters, target_before}
 use Rattle.es6_reading.specs.Refinements.{IfFits, fits, misfits, too_nested, Places, no_misfit, first_misfit_at, too_deep}
 use Rattle.es6_reading.proofs.Follows.{plus}

@@ -3,9 +3,10 @@ use Rattle.std.specs.Prelude.{◌≡◌, ℕ, ◌⊎◌, false, List, Option, So
 use Rattle.es6_ast.specs.declared.tree.Expression.{Expression}
 use Rattle.es6_ast.specs.declared.tree.Parameter.{Parameter}
 use Rattle.es6_ast.specs.declared.tree.Pattern.{Pattern}
+use Rattle.es6_ast.specs.declared.settings.Flags.{Flags}
 use Rattle.es6_ast.specs.Targets.{misfit}
 use Rattle.es6_ast.specs.Tokens.{Filled}
-use Rattle.es6_ast.specs.Grammar.{Flags, IsExpression, IsTarget, AreArrowParameters}
+use Rattle.es6_ast.specs.Grammar.{IsExpression, IsTarget, AreArrowParameters}
 use Rattle.es6_reading.specs.Refine.{Refined, Fits, Misfit, TooNested, refine_pattern, refine_parameters}
 use Rattle.es6_reading.specs.Refinements.{IsCover}
 use Rattle.es6_refine.specs.declared.fault.RefineFault.{RefineFault}
