@@ -4,6 +4,7 @@ use Rattle.es_text.specs.declared.Span.{Span}
 use Rattle.es6_lexer.specs.declared.token.Punctuator.{Punctuator as Mark}
 use Rattle.es6_lexer.specs.declared.token.Punctuator.TheVariants as marks
 use Rattle.es6_ast.specs.declared.tree.Key.{Key}
+use Rattle.es6_ast.specs.declared.settings.Stop.{Stop}
 use Rattle.es6_ast.specs.Tokens.{Filling, Filled, begin_of}
 use Rattle.es6_ast.specs.Grammar.{ends}
 use Rattle.es6_reading.specs.Parser.{Input, Outcome, Took, Fault, Parser, stop_at, stop_in, refused, next_is, returns, on, on_taken, take_as, is_mark, mark, word, ending, kept_if, next_mark, next_word, after, choose, made}
@@ -11,9 +12,7 @@ use Rattle.es6_reading.specs.Words.{key_at, is_arrow, arrow_at}
 use Rattle.es6_reading.specs.Parts.{key_of}
 use Rattle.es6_reading.specs.Expressions.{star_at}
 use Rattle.es6_reading.specs.Modules.{is_end, end_at}
-use Rattle.es6_cursor.specs.declared.halt.Stop.{Stop}
 use Rattle.es6_cursor.specs.Keys.{placed_key_at}
-use Rattle.es6_cursor.specs.Reads.{stop_of}
 use Rattle.es6_cursor.specs.Takes.{next_of, Takes, TakesAs, known_as, place_of, span_if}
 
 -- ## Tokens that a test knows
@@ -78,7 +77,7 @@ took_word w c d h = kept_took (next_word w) c d h
 pub missed_word : (w : List ℕ) (c d : Input) → Takes (next_word w) c false d → take_as (word w) c ≡ refused d
 missed_word w c d h = kept_missed (next_word w) c d h
 
-pub refused_stops : {A : Type 0} (c : Input) (s : Stop) → stop_of s ≡ stop_at stop_in c.tokens → refused {A = A} c ≡ Fault (stop_of s) c.tokens
+pub refused_stops : {A : Type 0} (c : Input) (s : Stop) → s ≡ stop_at stop_in c.tokens → refused {A = A} c ≡ Fault s c.tokens
 unfolding refused
 refused_stops c s h = ap (λ x. Fault x c.tokens) (sym h)
 

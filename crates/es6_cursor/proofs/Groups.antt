@@ -1,12 +1,14 @@
 -- What the model does at a mark that opens a construct, by what the cursor answers.
 use Rattle.std.proofs.Common.{◌≡◌, ◌⊎◌, inl, inr, Bool, true, false, List, refl, sym, ◌∙◌, ap}
+use Rattle.es6_ast.specs.declared.settings.Stop.{Stop}
+use Rattle.es6_ast.specs.declared.settings.Stop.TheVariants.{Depth}
 use Rattle.es6_ast.specs.Tokens.{Filled}
 use Rattle.es6_lexer.specs.declared.token.Punctuator.{Punctuator as Mark}
-use Rattle.es6_reading.specs.Parser.{Input, Inner, Stop, Depth, Took, Fault, Parser, next_is, returns, refused as refused', next_mark, choose, on_group, group}
+use Rattle.es6_reading.specs.Parser.{Input, Inner, Took, Fault, Parser, next_is, returns, refused as refused', next_mark, choose, on_group, group}
 use Rattle.es6_cursor.specs.Takes.{passed}
 use Rattle.es6_cursor.proofs.Choices.{on_mark}
 use Rattle.es6_cursor.specs.Groups.{Enters}
-use Rattle.es6_cursor.specs.Reads.{Halts, stop_of}
+use Rattle.es6_cursor.specs.Reads.{Halts}
 use Rattle.es6_cursor.specs.declared.halt.Halt.{Halt}
 use Rattle.es6_cursor.specs.declared.halt.Halt.TheVariants.{Stopped, OutOfMemory}
 
@@ -70,5 +72,5 @@ refused i p r c stop ts h = elim (both i p (returns (tt {0})) refused' r refused
 ]
 
 pub shut_group : (i : Inner) (p : Mark) (c : Input) (halt : Halt) (ts : List Filled) → Halts (on_group i p (returns (tt {0})) (returns (tt {0})) c) halt ts → Halts (group i p (returns (tt {0})) c) halt ts
-shut_group i p c (Stopped stop) ts h = shut_open i p (returns (tt {0})) refused' c (stop_of stop) ts h
+shut_group i p c (Stopped stop) ts h = shut_open i p (returns (tt {0})) refused' c stop ts h
 shut_group i p c OutOfMemory ts h = tt

@@ -5,4 +5,5 @@ pub mod Rooms
 pub mod Loops
 pub mod Groups
 pub mod Openings
+pub mod Nests
 pub mod Rules

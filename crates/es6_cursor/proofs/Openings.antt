@@ -1,8 +1,10 @@
 -- What the model does at a token that opens a construct, by what it does there where nothing is read inside.
 use Rattle.std.proofs.Common.{◌≡◌, ℕ, ◌⊎◌, inl, inr, Bool, true, false, List, [], ◌∷◌, Option, Some, None, refl, sym, ◌∙◌, ap}
 use Rattle.std.specs.Prelude.{is_some}
+use Rattle.es6_ast.specs.declared.settings.Stop.{Stop}
+use Rattle.es6_ast.specs.declared.settings.Stop.TheVariants.{Depth}
 use Rattle.es6_ast.specs.Tokens.{Filled}
-use Rattle.es6_reading.specs.Parser.{Input, Inner, Stop, Depth, Took, Fault, Parser, next_is, returns, fails, on, on_taken, choose}
+use Rattle.es6_reading.specs.Parser.{Input, Inner, Took, Fault, Parser, next_is, returns, fails, on, on_taken, choose}
 use Rattle.es6_reading.specs.Parts.{on_opening}
 
 -- ## By the next token, and whether one more construct may open

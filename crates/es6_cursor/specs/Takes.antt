@@ -2,9 +2,10 @@
 use Rattle.std.specs.Prelude.{◌≡◌, Bool, true, false, ◌||◌, not, List, [], ◌∷◌, Option, Some, None, is_some}
 use Rattle.es_text.specs.declared.Span.{Span}
 use Rattle.es6_lexer.specs.declared.token.Punctuator.{Punctuator as Mark}
+use Rattle.es6_ast.specs.declared.settings.Flags.{Flags}
 use Rattle.es6_ast.specs.Tokens.{Filled}
 use Rattle.es6_ast.specs.declared.operators.BinaryOperator.{BinaryOperator}
-use Rattle.es6_ast.specs.Grammar.{Flags, binary_kind, is_in}
+use Rattle.es6_ast.specs.Grammar.{binary_kind, is_in}
 use Rattle.es6_reading.specs.Words.{look_up, binary_operators, unless}
 use Rattle.es6_reading.specs.Parser.{Input, next_is}
 

@@ -11,12 +11,11 @@ ghost use Rattle.es6_reading.specs.Statements.{begins_declaration, begins_line, 
 ghost use Rattle.es6_reading.specs.Modules.{begins_names, is_end};
 ghost use Rattle.es6_cursor.specs.Readers.{ended, ended_do_while};
 ghost use Rattle.es6_cursor.specs.Reads.{Reads};
-ghost use Rattle.es6_cursor.specs.Settings.{flags_of};
 
 use crate::classes::{self, ends_block, is_end, is_mark, is_text, is_word};
 use crate::cursor::Cursor;
-use crate::flags::Flags;
 use crate::halt::Halt;
+use es6_ast::Flags;
 use es6_lexer::{Punctuator, Token, TokenKind};
 
 /// The first stretch of a template with values (11.8.6).
@@ -144,7 +143,7 @@ impl<'a> Cursor<'a> {
 
     /// Whether the next token begins an expression.
     pub fn next_begins_expression(&self, flags: Flags) -> bool
-        ensures { result ≡ next_is (begins_expression (flags_of flags)) self.now.tokens }
+        ensures { result ≡ next_is (begins_expression flags) self.now.tokens }
     {
         match self.rest().first() {
             Some(token) => classes::begins_expression(token, flags),

@@ -6,13 +6,12 @@ ghost use Rattle.es6_ast.specs.Tokens.{Read, is_word, read};
 ghost use Rattle.es6_reading.specs.Parser.{ends_block, is_mark};
 ghost use Rattle.es6_reading.specs.Words.{accessor_in, accessor_word, any_name_in, begins_expression, begins_operand, begins_unary, free_name_in, is_any_word, is_template_head, literal_in, literal_word, operand_words, same_truth, stretch_in, text_in};
 ghost use Rattle.es6_cursor.specs.Keys.{placed_key_in};
-ghost use Rattle.es6_cursor.specs.Settings.{flags_of};
 
-use crate::flags::Flags;
+use crate::key::{KeyToken, PlacedKey};
 use crate::operators;
 use crate::words::{is_among, is_identifier};
 use es_text::Span;
-use es6_ast::{Key, Literal, Stretch};
+use es6_ast::{Flags, Literal, Stretch};
 use es6_lexer::{NumberToken, Punctuator, Token, TokenKind};
 use shared_text::{Name, Units};
 use std::alloc::{AllocError, Global};
@@ -133,22 +132,22 @@ pub fn is_text(kind: &TokenKind) -> bool
 }
 
 /// The name of a property that the token is, which has the span (12.2.6).
-pub fn key(alloc: Global, span: Span, kind: &TokenKind) -> Result<Option<Key>, AllocError>
+pub fn key(alloc: Global, span: Span, kind: &TokenKind) -> Result<Option<PlacedKey>, AllocError>
     ensures { IfOk result (λ key. key ≡ placed_key_in span (Read kind.now)) }
 {
     Ok(match kind {
-        TokenKind::Word(name) => Some(Key::WordKey {
+        TokenKind::Word(name) => Some(PlacedKey::new(KeyToken::Word {
             span,
             name: name.copy(alloc)?,
-        }),
-        TokenKind::Text(units) => Some(Key::TextKey {
+        })),
+        TokenKind::Text(units) => Some(PlacedKey::new(KeyToken::Text {
             span,
             units: units.copy(alloc)?,
-        }),
-        TokenKind::Number(NumberToken::Whole(value)) => Some(Key::IntegerKey {
+        })),
+        TokenKind::Number(NumberToken::Whole(value)) => Some(PlacedKey::new(KeyToken::Integer {
             span,
             value: *value,
-        }),
+        })),
         _ => None,
     })
 }
@@ -264,7 +263,7 @@ pub fn begins_unary(token: &Token) -> bool
 /// Whether the token begins an expression.
 #[tactic(auto, unfolding(es6_reading::specs::Words::begins_expression))]
 pub fn begins_expression(token: &Token, flags: Flags) -> bool
-    ensures { result ≡ begins_expression (flags_of flags) (read token.now) }
+    ensures { result ≡ begins_expression flags (read token.now) }
 {
     begins_unary(token) | (flags.has_yield & is_word(&token.kind, b"yield"))
 }

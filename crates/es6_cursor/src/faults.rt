@@ -3,14 +3,15 @@
 ghost use Rattle.std.specs.Prelude.{◌≡◌};
 ghost use Rattle.es6_ast.specs.Tokens.{Read};
 ghost use Rattle.es6_reading.specs.Parser.{expression_stop_in, no_expression, no_number, number_stop_in, refused, stop_at, stop_in};
-ghost use Rattle.es6_cursor.specs.Reads.{Reads, stop_of};
+ghost use Rattle.es6_cursor.specs.Reads.{Reads};
 
 use crate::cursor::Cursor;
-use crate::halt::{Halt, Stop};
+use crate::halt::Halt;
+use es6_ast::Stop;
 use es6_lexer::{NumberToken, Punctuator, TokenKind};
 
 fn stop_in(kind: &TokenKind) -> Stop
-    ensures { stop_of result ≡ stop_in (Read kind.now) }
+    ensures { result ≡ stop_in (Read kind.now) }
 {
     match kind {
         TokenKind::Fault(fault) => Stop::Lexical(*fault),
@@ -20,7 +21,7 @@ fn stop_in(kind: &TokenKind) -> Stop
 
 /// Where a number may stand: one above 9007199254740991, and one with a point or an exponent, is outside the profile.
 fn number_stop_in(kind: &TokenKind) -> Stop
-    ensures { stop_of result ≡ number_stop_in (Read kind.now) }
+    ensures { result ≡ number_stop_in (Read kind.now) }
 {
     match kind {
         TokenKind::Number(NumberToken::TooLarge) => Stop::Outside(4),
@@ -31,7 +32,7 @@ fn number_stop_in(kind: &TokenKind) -> Stop
 
 /// Where an expression may begin: a regular expression is outside the profile.
 fn expression_stop_in(kind: &TokenKind) -> Stop
-    ensures { stop_of result ≡ expression_stop_in (Read kind.now) }
+    ensures { result ≡ expression_stop_in (Read kind.now) }
 {
     match kind {
         TokenKind::Punctuator(Punctuator::Slash | Punctuator::SlashAssign) => Stop::Outside(2),
@@ -42,7 +43,7 @@ fn expression_stop_in(kind: &TokenKind) -> Stop
 impl<'a> Cursor<'a> {
     /// Why nothing goes on with the next token.
     pub fn refused(&self) -> Stop
-        ensures { stop_of result ≡ stop_at stop_in self.now.tokens }
+        ensures { result ≡ stop_at stop_in self.now.tokens }
     {
         match self.rest().first() {
             Some(token) => stop_in(&token.kind),
@@ -52,7 +53,7 @@ impl<'a> Cursor<'a> {
 
     /// Why nothing goes on with the next token, where a number may stand.
     pub fn no_number(&self) -> Stop
-        ensures { stop_of result ≡ stop_at number_stop_in self.now.tokens }
+        ensures { result ≡ stop_at number_stop_in self.now.tokens }
     {
         match self.rest().first() {
             Some(token) => number_stop_in(&token.kind),
@@ -62,7 +63,7 @@ impl<'a> Cursor<'a> {
 
     /// Why nothing goes on with the next token, where an expression may begin.
     pub fn no_expression(&self) -> Stop
-        ensures { stop_of result ≡ stop_at expression_stop_in self.now.tokens }
+        ensures { result ≡ stop_at expression_stop_in self.now.tokens }
     {
         match self.rest().first() {
             Some(token) => expression_stop_in(&token.kind),

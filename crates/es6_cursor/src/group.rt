@@ -7,8 +7,8 @@ ghost use Rattle.es6_cursor.specs.Groups.{Opens, opened_template};
 ghost use Rattle.es6_cursor.specs.Readers.{inner};
 
 use crate::cursor::Cursor;
-use crate::halt::{Halt, Stop};
-use es6_ast::Stretch;
+use crate::halt::Halt;
+use es6_ast::{Stop, Stretch};
 use es6_lexer::Punctuator;
 
 /// Takes the mark that opens a construct, if it is next. It is a fault where no construct may open any more.

@@ -2,23 +2,8 @@
 
 ghost use Rattle.std.specs.Prelude.{◌≡◌};
 
-use es6_lexer::LexicalKind;
+use es6_ast::Stop;
 use std::alloc::AllocError;
-
-/// Why no module goes on with the next token.
-#[derive(Clone, Copy, Debug, PartialEq, Eq)]
-pub enum Stop {
-    /// No module begins with the tokens up to it.
-    Syntax,
-    /// It is the lexical fault of the text.
-    Lexical(LexicalKind),
-    /// A rule of table U of the profile, by its number.
-    Outside(u8),
-    /// One construct too many opens with it.
-    Depth,
-    /// A list is longer than any of a text of the allowed length.
-    Endless,
-}
 
 /// Why a reader gives no node. The cursor stands at the token.
 #[derive(Clone, Copy, Debug, PartialEq, Eq)]

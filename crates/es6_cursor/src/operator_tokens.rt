@@ -4,14 +4,12 @@ ghost use Rattle.std.specs.Prelude.{◌≡◌, ◌&&◌, not};
 ghost use Rattle.es6_lexer.specs.declared.token.Punctuator.TheVariants as marks;
 ghost use Rattle.es6_reading.specs.Parser.{is_mark};
 ghost use Rattle.es6_reading.specs.Words.{after_at, assign_at, before_at, is_arrow, unary_at};
-ghost use Rattle.es6_cursor.specs.Settings.{flags_of};
 ghost use Rattle.es6_cursor.specs.Takes.{Takes, TakesAs, known_as, next_binary};
 
 use crate::classes::is_mark;
 use crate::cursor::Cursor;
-use crate::flags::Flags;
 use crate::operators;
-use es6_ast::{AssignOperator, BinaryOperator, UnaryOperator, UpdateOperator};
+use es6_ast::{AssignOperator, BinaryOperator, Flags, UnaryOperator, UpdateOperator};
 use es6_lexer::Punctuator;
 
 impl<'a> Cursor<'a> {
@@ -66,7 +64,7 @@ impl<'a> Cursor<'a> {
     /// The operator between two operands that is next, if one is (12.6 to 12.12). Where the expression has no `in`, that is
     /// none.
     pub fn next_binary(&self, flags: Flags) -> Option<BinaryOperator>
-        ensures { result ≡ known_as (next_binary (flags_of flags)) self.now.tokens }
+        ensures { result ≡ known_as (next_binary flags) self.now.tokens }
     {
         match self.rest().first() {
             Some(token) => operators::next_binary(&token.kind, flags),

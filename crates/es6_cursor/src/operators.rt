@@ -7,12 +7,10 @@ ghost use Rattle.es6_ast.specs.declared.operators.VariableKind.TheVariants.{Var,
 ghost use Rattle.es6_ast.specs.Grammar.{kind_word, assign_kind, binary_kind, binary_level, is_in, unary_kind, update_kind};
 ghost use Rattle.es6_ast.specs.Tokens.{Read, read};
 ghost use Rattle.es6_reading.specs.Words.{after_at, assign_operators, binary_operators, look_up, unary_operators};
-ghost use Rattle.es6_cursor.specs.Settings.{flags_of};
 ghost use Rattle.es6_cursor.specs.Takes.{unless_in};
 ghost use Rattle.es6_cursor.specs.Tables.{after_mark, assign_mark, before_mark, binary_mark, binary_word, kind_word_of, lexical_word_of, unary_mark, unary_word};
 
-use crate::flags::Flags;
-use es6_ast::{AssignOperator, BinaryOperator, UnaryOperator, UpdateOperator, VariableKind};
+use es6_ast::{AssignOperator, BinaryOperator, Flags, UnaryOperator, UpdateOperator, VariableKind};
 use es6_lexer::{Punctuator, Token, TokenKind};
 use shared_text::Name;
 
@@ -193,7 +191,7 @@ fn binary_mark(punctuator: Punctuator) -> Option<BinaryOperator>
 
 /// An operator between two operands. Where the expression has no `in`, that is none.
 pub fn next_binary(kind: &TokenKind, flags: Flags) -> Option<BinaryOperator>
-    ensures { result ≡ unless_in (flags_of flags) (look_up binary_kind binary_operators (Read kind.now)) }
+    ensures { result ≡ unless_in flags (look_up binary_kind binary_operators (Read kind.now)) }
 {
     let operator = binary(kind)?;
     if !flags.has_in && is_in(operator) {

@@ -10,8 +10,9 @@ ghost use Rattle.es6_cursor.specs.Takes.{TakesAs};
 
 use crate::cursor::Cursor;
 use crate::halt::Halt;
+use crate::key::PlacedKey;
 use crate::{classes, operators};
-use es6_ast::{Key, Literal, Stretch, VariableKind};
+use es6_ast::{Literal, Stretch, VariableKind};
 use shared_text::{Name, Units};
 use std::alloc::AllocError;
 
@@ -106,7 +107,7 @@ impl<'a> Cursor<'a> {
     }
 
     /// Takes the name of a property, if one is next that isn't computed (12.2.6).
-    pub fn take_key(&mut self) -> Result<Option<Key>, AllocError>
+    pub fn take_key(&mut self) -> Result<Option<PlacedKey>, AllocError>
         ensures { IfOk result (λ answer. TakesAs placed_key_at self.old answer self.new) }
     {
         let answer = match self.rest().first() {

@@ -1,84 +1,40 @@
 -- What stands one construct deeper.
 use Rattle.std.proofs.Common.{◌≡◌, ℕ, zero, suc, ◌-◌, refl, arith}
-use Rattle.es6_ast.specs.Grammar.{Flags}
-use Rattle.es6_reading.specs.Parser.{Input, Stand}
-use Rattle.es6_reading.specs.Words.{begins_expression, begins_unary}
-use Rattle.es6_reading.specs.Expressions.{Among, Heritage, Callee, sequence, assignment, unary, power, chain, expression_at_limit, operand_at_limit}
+use Rattle.es6_ast.specs.declared.settings.Flags.{Flags}
+use Rattle.es6_ast.specs.declared.settings.Stand.{Stand}
+use Rattle.es6_reading.specs.Parser.{Input}
 use Rattle.es6_reading.specs.Statements.{statement, statement_at_limit}
 use Rattle.es6_reading.specs.Modules.{readers}
 use Rattle.es6_cursor.specs.Readers.{inner}
+use Rattle.es6_cursor.specs.Nested.{nested_of}
+use Rattle.es6_cursor.specs.declared.nested.Nested.{Nested}
+use Rattle.es6_cursor.specs.declared.nested.Nested.TheVariants as nested
+use Rattle.es6_expr.specs.Tie.{reader_of, limit_of}
 
-pub sequence_none : (room : ℕ) (f : Flags) (c : Input) → room ≡ 0 → (inner room).sequence f c ≡ expression_at_limit (begins_expression f) c
-unfolding readers
-sequence_none zero f c h = refl
-sequence_none (suc n) f c h = absurd (omega arith)
+pub nested_none : (n : Nested) (room : ℕ) (f : Flags) (c : Input) → room ≡ 0 → nested_of n (inner room) f c ≡ limit_of n f c
+unfolding readers limit_of
+nested_none nested.Sequence zero f c h = refl
+nested_none nested.Assignment zero f c h = refl
+nested_none nested.Power zero f c h = refl
+nested_none nested.Unary zero f c h = refl
+nested_none nested.Callee zero f c h = refl
+nested_none nested.Heritage zero f c h = refl
+nested_none n (suc room) f c h = absurd (omega arith)
 
-pub sequence_some : (room : ℕ) (f : Flags) (c : Input) → (room ≡ 0 → ⊥) → (inner room).sequence f c ≡ sequence (inner (room - 1)) f c
-unfolding readers
-sequence_some zero f c h = absurd (h refl)
-sequence_some (suc n) f c h =
-    let e : suc n - 1 ≡ n = omega arith in
-    rw e refl
+nested_at : (n : Nested) (room : ℕ) (f : Flags) (c : Input) → nested_of n (inner (suc room)) f c ≡ reader_of n (inner room) f c
+unfolding readers reader_of
+nested_at nested.Sequence room f c = refl
+nested_at nested.Assignment room f c = refl
+nested_at nested.Power room f c = refl
+nested_at nested.Unary room f c = refl
+nested_at nested.Callee room f c = refl
+nested_at nested.Heritage room f c = refl
 
-pub assignment_none : (room : ℕ) (f : Flags) (c : Input) → room ≡ 0 → (inner room).assignment f c ≡ expression_at_limit (begins_expression f) c
-unfolding readers
-assignment_none zero f c h = refl
-assignment_none (suc n) f c h = absurd (omega arith)
-
-pub assignment_some : (room : ℕ) (f : Flags) (c : Input) → (room ≡ 0 → ⊥) → (inner room).assignment f c ≡ assignment (inner (room - 1)) f c
-unfolding readers
-assignment_some zero f c h = absurd (h refl)
-assignment_some (suc n) f c h =
-    let e : suc n - 1 ≡ n = omega arith in
-    rw e refl
-
-pub power_none : (room : ℕ) (f : Flags) (c : Input) → room ≡ 0 → (inner room).power f c ≡ expression_at_limit begins_unary c
-unfolding readers
-power_none zero f c h = refl
-power_none (suc n) f c h = absurd (omega arith)
-
-pub power_some : (room : ℕ) (f : Flags) (c : Input) → (room ≡ 0 → ⊥) → (inner room).power f c ≡ power (inner (room - 1)) f Among c
-unfolding readers
-power_some zero f c h = absurd (h refl)
-power_some (suc n) f c h =
-    let e : suc n - 1 ≡ n = omega arith in
-    rw e refl
-
-pub unary_none : (room : ℕ) (f : Flags) (c : Input) → room ≡ 0 → (inner room).unary f c ≡ expression_at_limit begins_unary c
-unfolding readers
-unary_none zero f c h = refl
-unary_none (suc n) f c h = absurd (omega arith)
-
-pub unary_some : (room : ℕ) (f : Flags) (c : Input) → (room ≡ 0 → ⊥) → (inner room).unary f c ≡ unary (inner (room - 1)) f c
-unfolding readers
-unary_some zero f c h = absurd (h refl)
-unary_some (suc n) f c h =
-    let e : suc n - 1 ≡ n = omega arith in
-    rw e refl
-
-pub callee_none : (room : ℕ) (f : Flags) (c : Input) → room ≡ 0 → (inner room).callee f c ≡ operand_at_limit c
-unfolding readers
-callee_none zero f c h = refl
-callee_none (suc n) f c h = absurd (omega arith)
-
-pub callee_some : (room : ℕ) (f : Flags) (c : Input) → (room ≡ 0 → ⊥) → (inner room).callee f c ≡ chain (inner (room - 1)) f Callee c
-unfolding readers
-callee_some zero f c h = absurd (h refl)
-callee_some (suc n) f c h =
-    let e : suc n - 1 ≡ n = omega arith in
-    rw e refl
-
-pub heritage_none : (room : ℕ) (f : Flags) (c : Input) → room ≡ 0 → (inner room).heritage f c ≡ operand_at_limit c
-unfolding readers
-heritage_none zero f c h = refl
-heritage_none (suc n) f c h = absurd (omega arith)
-
-pub heritage_some : (room : ℕ) (f : Flags) (c : Input) → (room ≡ 0 → ⊥) → (inner room).heritage f c ≡ chain (inner (room - 1)) f Heritage c
-unfolding readers
-heritage_some zero f c h = absurd (h refl)
-heritage_some (suc n) f c h =
-    let e : suc n - 1 ≡ n = omega arith in
-    rw e refl
+pub nested_some : (n : Nested) (room : ℕ) (f : Flags) (c : Input) → (room ≡ 0 → ⊥) → nested_of n (inner room) f c ≡ reader_of n (inner (room - 1)) f c
+nested_some n zero f c h = absurd (h refl)
+nested_some n (suc room) f c h =
+    let e : suc room - 1 ≡ room = omega arith in
+    rw e (nested_at n room f c)
 
 pub statement_none : (room : ℕ) (f : Flags) (stand : Stand) (c : Input) → room ≡ 0 → (inner room).statement f stand c ≡ statement_at_limit f stand c
 unfolding readers

@@ -3,3 +3,4 @@ pub mod LastToken
 pub mod Reached
 pub mod Spelled
 pub mod StatementBegins
+pub mod Seen

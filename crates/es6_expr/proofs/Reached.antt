@@ -1,10 +1,12 @@
 -- A fault stands at a token that was reached, or at the end, and says what stands there.
 use Rattle.std.proofs.Common.{◌≡◌, ℕ, suc, true, List, ◌∷◌, [], ◌++◌, drop, map, refl, ap, subst}
 use Rattle.es6_lexer.specs.declared.token.Token.{Token}
+use Rattle.es6_ast.specs.declared.settings.Flags.{Flags}
+use Rattle.es6_ast.specs.declared.settings.Stand.TheVariants.{Listed}
+use Rattle.es6_ast.specs.declared.settings.Stop.{Stop}
+use Rattle.es6_ast.specs.declared.settings.Stop.TheVariants as stops
 use Rattle.es6_ast.specs.Tokens.{Filled, read}
-use Rattle.es6_ast.specs.Grammar.{Flags}
-use Rattle.es6_reading.specs.Parser as p
-use Rattle.es6_reading.specs.Parser.{Input, Outcome, Stop, Fault, Listed}
+use Rattle.es6_reading.specs.Parser.{Input, Outcome, Fault}
 use Rattle.es6_reading.specs.Expressions.{sequence}
 use Rattle.es6_reading.specs.Statements.{statement}
 use Rattle.es6_reading.specs.Modules.{readers}
@@ -31,11 +33,11 @@ unfolding readers
 statement-leaves room f s = (placed true turns (suc room)).statement f Listed s
 
 fault-in : (tokens : List Token) (from at : ℕ) (stop : Stop) → Stands tokens from stop at → IsFaultIn tokens from (fault_of stop at)
-fault-in tokens from at p.Syntax h = h
-fault-in tokens from at (p.Lexical kind) h = h
-fault-in tokens from at (p.Outside rule) h = h
-fault-in tokens from at p.Depth h = h
-fault-in tokens from at p.Endless h = tt
+fault-in tokens from at stops.Syntax h = h
+fault-in tokens from at (stops.Lexical kind) h = h
+fault-in tokens from at (stops.Outside rule) h = h
+fault-in tokens from at stops.Depth h = h
+fault-in tokens from at stops.Endless h = tt
 
 stands : {A : Type 0} (tokens : List Token) (from at : ℕ) (stop : Stop) (rest : List Filled) (o : Outcome A) → Leaves (map read (drop from tokens)) o → o ≡ Fault stop rest → at ≡ place_of (map read tokens) rest → IsFaultIn tokens from (fault_of stop at)
 stands {A = A} tokens from at stop rest o h e place =

@@ -6,10 +6,12 @@ use Rattle.std.proofs.lemmas.List.{take-append-drop, length-map}
 use Rattle.es6_lexer.specs.declared.token.Token.{Token}
 use Rattle.es6_ast.specs.declared.tree.Expression.{Expression}
 use Rattle.es6_ast.specs.declared.tree.Statement.{Statement}
+use Rattle.es6_ast.specs.declared.settings.Flags.{Flags}
+use Rattle.es6_ast.specs.declared.settings.Stand.TheVariants.{Listed}
 use Rattle.es6_ast.specs.Tokens.{Filled, read, end_of}
-use Rattle.es6_ast.specs.Grammar.{Flags, level_sequence, IsExpression, IsListed}
+use Rattle.es6_ast.specs.Grammar.{level_sequence, IsExpression, IsListed}
 use Rattle.es6_ast.specs.Semicolons.{Begins, inserted, may_precede, Fills, done, keeps, inserts, SpellsExpression, SpellsStatement}
-use Rattle.es6_reading.specs.Parser.{Input, Outcome, Took, Parser, Reading, Listed, is_insertable}
+use Rattle.es6_reading.specs.Parser.{Input, Outcome, Took, Parser, Reading, is_insertable}
 use Rattle.es6_reading.specs.Expressions.{sequence}
 use Rattle.es6_reading.specs.Statements.{statement}
 use Rattle.es6_reading.specs.Modules.{readers}

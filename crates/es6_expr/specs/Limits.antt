@@ -1,7 +1,7 @@
 -- Statements where no construct may open any more.
 use Rattle.std.specs.Prelude.{Bool, ◌&&◌, ◌||◌, codes}
 use Rattle.es6_lexer.specs.declared.token.Punctuator.TheVariants as marks
-use Rattle.es6_ast.specs.Grammar.{Flags}
+use Rattle.es6_ast.specs.declared.settings.Flags.{Flags}
 use Rattle.es6_ast.specs.Tokens.{Filled, is_word}
 use Rattle.es6_reading.specs.Words.{is_any_word}
 use Rattle.es6_reading.specs.Parser.{is_mark}

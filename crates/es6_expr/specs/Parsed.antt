@@ -3,11 +3,13 @@ use Rattle.std.specs.Prelude.{◌≡◌, ℕ, ◌-◌, ◌≤◌, not, List, ◌
 use Rattle.es6_lexer.specs.declared.token.Token.{Token}
 use Rattle.es6_ast.specs.declared.tree.Expression.{Expression}
 use Rattle.es6_ast.specs.declared.tree.Statement.{Statement}
+use Rattle.es6_ast.specs.declared.settings.Flags.{Flags}
+use Rattle.es6_ast.specs.declared.settings.Stop.{Stop}
+use Rattle.es6_ast.specs.declared.settings.Stop.TheVariants as stops
 use Rattle.es6_ast.specs.Tokens.{Filled, read}
-use Rattle.es6_ast.specs.Grammar.{Flags, level_sequence}
+use Rattle.es6_ast.specs.Grammar.{level_sequence}
 use Rattle.es6_ast.specs.Semicolons.{SpellsExpression, SpellsStatement}
-use Rattle.es6_reading.specs.Parser as p
-use Rattle.es6_reading.specs.Parser.{Input, Outcome, Took, Fault, Stop}
+use Rattle.es6_reading.specs.Parser.{Input, Outcome, Took, Fault}
 use Rattle.es6_reading.specs.Laws.{Says}
 use Rattle.es6_expr.specs.declared.fault.ParseFault.{ParseFault}
 use Rattle.es6_expr.specs.declared.fault.ParseFault.TheVariants.{Syntax, Lexical, Outside, Depth, OutOfMemory}
@@ -50,8 +52,8 @@ pub record Stands (tokens : List Token) (from : ℕ) (stop : Stop) (at : ℕ) : 
   pub says : Says stop rest
 
 abbrev pub IsFaultIn : List Token → ℕ → ParseFault → Type 0
-IsFaultIn tokens from (Syntax at) = Stands tokens from p.Syntax at
-IsFaultIn tokens from (Lexical at kind) = Stands tokens from (p.Lexical kind) at
-IsFaultIn tokens from (Outside rule at) = Stands tokens from (p.Outside rule) at
-IsFaultIn tokens from (Depth at) = Stands tokens from p.Depth at
+IsFaultIn tokens from (Syntax at) = Stands tokens from stops.Syntax at
+IsFaultIn tokens from (Lexical at kind) = Stands tokens from (stops.Lexical kind) at
+IsFaultIn tokens from (Outside rule at) = Stands tokens from (stops.Outside rule) at
+IsFaultIn tokens from (Depth at) = Stands tokens from stops.Depth at
 IsFaultIn tokens from OutOfMemory = Unit {0}

@@ -2,7 +2,6 @@
 
 ghost use Rattle.std.specs.Prelude.{◌≡◌, map};
 ghost use Rattle.es6_ast.specs.Tokens.{read};
-ghost use Rattle.es6_cursor.specs.Reads.{stop_of};
 ghost use Rattle.es6_expr.specs.Faults.{fault_of, place_of};
 
 use es6_cursor::Stop;
@@ -31,7 +30,7 @@ pub enum ParseFault {
 
 /// The fault of a stop at the offset.
 pub fn fault_of(stop: Stop, at: u32) -> ParseFault
-    ensures { result ≡ fault_of (stop_of stop) at }
+    ensures { result ≡ fault_of stop at }
 {
     match stop {
         Stop::Syntax => ParseFault::Syntax { at },

@@ -5,14 +5,12 @@
 mod fault;
 mod inner;
 mod limits;
+mod nested;
 mod parse;
 mod readers;
 mod statement_limit;
 
 pub use es6_refine::{RefineFault, refine_parameters, refine_pattern};
 pub use fault::{ParseFault, fault_of, place_of};
+pub use inner::{inner_statement, nested_expression};
 pub use parse::{Context, parse_expression, parse_statement};
-pub use readers::{
-    assignment, class_after_word, class_declaration, function_after_word, function_declaration,
-    statement, variables_statement,
-};

@@ -2,40 +2,57 @@
 
 ghost use Rattle.es6_reading.specs.Expressions.{expression_at_limit, operand_at_limit};
 ghost use Rattle.es6_reading.specs.Words.{begins_expression, begins_unary};
-ghost use Rattle.es6_cursor.specs.Reads.{Reads};
-ghost use Rattle.es6_cursor.specs.Settings.{flags_of};
+ghost use Rattle.es6_cursor.specs.Reads.{ReadsAs};
+ghost use Rattle.es6_expr.specs.Tie.{limit_of};
 
-use es6_cursor::{Cursor, Flags, Halt, Reading, Stop};
+use es6_cursor::{Cursor, Flags, Halt, Nested, Stop};
+use es6_makers::MakesParts;
 
 /// The fault of an expression.
-#[tactic(auto, using(es6_cursor::proofs::Rules::groups), unfolding(es6_reading::specs::Expressions::expression_at_limit))]
-pub fn expression_at_limit(cursor: &Cursor, flags: Flags) -> Result<Reading, Halt>
-    ensures { Reads (expression_at_limit (begins_expression (flags_of flags)) cursor.now) result cursor.now }
+#[tactic(auto, using(es6_cursor::proofs::Rules::groups), unfolding(es6_reading::specs::Expressions::expression_at_limit, es6_reading::specs::Parser::no_expression))]
+fn expression_at_limit<G: MakesParts>(cursor: &Cursor, flags: Flags) -> Result<G::Reading, Halt>
+    ensures { ReadsAs G.seen (expression_at_limit (begins_expression flags) cursor.now) result cursor.now }
 {
     if cursor.next_begins_expression(flags) {
         return Err(Halt::Stopped(Stop::Depth));
     }
-    cursor.refuse_expression()
+    Err(Halt::Stopped(cursor.no_expression()))
 }
 
 /// The fault of a UnaryExpression.
-#[tactic(auto, using(es6_cursor::proofs::Rules::groups), unfolding(es6_reading::specs::Expressions::expression_at_limit))]
-pub fn unary_at_limit(cursor: &Cursor) -> Result<Reading, Halt>
-    ensures { Reads (expression_at_limit begins_unary cursor.now) result cursor.now }
+#[tactic(auto, using(es6_cursor::proofs::Rules::groups), unfolding(es6_reading::specs::Expressions::expression_at_limit, es6_reading::specs::Parser::no_expression))]
+fn unary_at_limit<G: MakesParts>(cursor: &Cursor) -> Result<G::Reading, Halt>
+    ensures { ReadsAs G.seen (expression_at_limit begins_unary cursor.now) result cursor.now }
 {
     if cursor.next_begins_unary() {
         return Err(Halt::Stopped(Stop::Depth));
     }
-    cursor.refuse_expression()
+    Err(Halt::Stopped(cursor.no_expression()))
 }
 
 /// The fault of what stands after `new` or `extends`.
-#[tactic(auto, using(es6_cursor::proofs::Rules::groups), unfolding(es6_reading::specs::Expressions::operand_at_limit))]
-pub fn operand_at_limit(cursor: &Cursor) -> Result<Reading, Halt>
-    ensures { Reads (operand_at_limit cursor.now) result cursor.now }
+#[tactic(auto, using(es6_cursor::proofs::Rules::groups), unfolding(es6_reading::specs::Expressions::operand_at_limit, es6_reading::specs::Parser::no_number))]
+fn operand_at_limit<G: MakesParts>(cursor: &Cursor) -> Result<G::Reading, Halt>
+    ensures { ReadsAs G.seen (operand_at_limit cursor.now) result cursor.now }
 {
     if cursor.next_begins_operand() {
         return Err(Halt::Stopped(Stop::Depth));
     }
-    cursor.refuse_number()
+    Err(Halt::Stopped(cursor.no_number()))
+}
+
+/// The fault where an expression would open one construct too many.
+#[tactic(auto, unfolding(crate::specs::Tie::limit_of))]
+pub fn nested_at_limit<G: MakesParts>(
+    cursor: &Cursor,
+    flags: Flags,
+    nested: Nested,
+) -> Result<G::Reading, Halt>
+    ensures { ReadsAs G.seen (limit_of nested flags cursor.now) result cursor.now }
+{
+    match nested {
+        Nested::Sequence | Nested::Assignment => expression_at_limit::<G>(cursor, flags),
+        Nested::Power | Nested::Unary => unary_at_limit::<G>(cursor),
+        Nested::Callee | Nested::Heritage => operand_at_limit::<G>(cursor),
+    }
 }

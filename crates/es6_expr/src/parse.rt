@@ -3,18 +3,16 @@
 ghost use Rattle.std.specs.Prelude.{◌≡◌, ◌≤◌, ◌<◌, ◌-◌, length, map, IfOk, IfErr};
 ghost use Rattle.es6_ast.specs.Tokens.{read};
 ghost use Rattle.es6_reading.specs.Expressions.{sequence};
-ghost use Rattle.es6_reading.specs.Parser.{Listed, Reading as Seen};
+ghost use Rattle.es6_reading.specs.Parser.{Reading as Seen};
+ghost use Rattle.es6_ast.specs.declared.settings.Stand.TheVariants.{Listed};
 ghost use Rattle.es6_reading.specs.Statements.{statement};
 ghost use Rattle.es6_cursor.specs.Readers.{inner};
-ghost use Rattle.es6_cursor.specs.Settings.{flags_of};
 ghost use Rattle.es6_expr.specs.Parsed.{Answers, IsExpressionIn, IsFaultIn, IsStatementIn, flags_in, input_at};
 
 use crate::fault::{ParseFault, fault_of, place_of};
-use crate::inner::{inner_statement, nested_expression};
-use crate::readers::statement;
+use crate::readers::{sequence, statement};
 use es6_ast::{Expression, Statement};
 use es6_cursor::{Cursor, Flags, Halt, Stand};
-use es6_expressions::sequence;
 use es6_lexer::Token;
 use std::alloc::Global;
 
@@ -30,7 +28,7 @@ pub struct Context {
 
 impl Context {
     fn flags(self) -> Flags
-        ensures { flags_of result ≡ flags_in self }
+        ensures { result ≡ flags_in self }
     {
         Flags {
             has_in: !self.no_in,
@@ -63,13 +61,7 @@ pub fn parse_expression(
     ensures fault { IfErr result (λ fault. IsFaultIn tokens.now from fault) }
 {
     let mut cursor = Cursor::new(alloc, &tokens[from..]);
-    match sequence(
-        &mut cursor,
-        context.room(),
-        context.flags(),
-        &nested_expression,
-        &inner_statement,
-    ) {
+    match sequence(&mut cursor, context.room(), context.flags()) {
         Ok(reading) => Ok((reading.into_value(), taken(tokens, cursor.rest()))),
         Err(Halt::Stopped(stop)) => Err(fault_of(stop, place_of(tokens, cursor.rest()))),
         Err(Halt::OutOfMemory) => Err(ParseFault::OutOfMemory),

@@ -5,13 +5,12 @@ ghost use Rattle.es6_ast.specs.Tokens.{Read, read};
 ghost use Rattle.es6_reading.specs.Parser.{next_is};
 ghost use Rattle.es6_reading.specs.Statements.{begins_statement, may_declare, statement_at_limit, statement_words};
 ghost use Rattle.es6_reading.specs.Words.{is_any_word};
-ghost use Rattle.es6_cursor.specs.Reads.{Reads};
-ghost use Rattle.es6_cursor.specs.Settings.{flags_of, stand_of};
+ghost use Rattle.es6_cursor.specs.Reads.{ReadsAs};
 ghost use Rattle.es6_expr.specs.Limits.{begins_other};
 
-use es6_ast::Statement;
 use es6_cursor::{Cursor, Flags, Halt, Stand, Stop, is_among, is_mark, is_word};
 use es6_lexer::{Punctuator, Token, TokenKind};
+use es6_makers::MakesParts;
 
 /// The words that begin a statement, but `return`.
 const STATEMENT_WORDS: [&[u8]; 11] = [
@@ -39,7 +38,7 @@ fn is_statement_word(kind: &TokenKind) -> bool
 
 /// Whether the token begins no declaration that may not stand there.
 fn may_declare(token: &Token, stand: Stand) -> bool
-    ensures { result ≡ may_declare (stand_of stand) (read token.now) }
+    ensures { result ≡ may_declare stand (read token.now) }
 {
     match stand {
         Stand::Listed => true,
@@ -50,7 +49,7 @@ fn may_declare(token: &Token, stand: Stand) -> bool
 
 /// Whether the token begins a statement that begins with no expression and no declaration.
 fn begins_other(token: &Token, flags: Flags) -> bool
-    ensures { result ≡ begins_other (flags_of flags) (read token.now) }
+    ensures { result ≡ begins_other flags (read token.now) }
 {
     is_mark(&token.kind, Punctuator::LeftBrace)
         | is_mark(&token.kind, Punctuator::Semicolon)
@@ -59,7 +58,7 @@ fn begins_other(token: &Token, flags: Flags) -> bool
 }
 
 fn next_begins_other(cursor: &Cursor, flags: Flags) -> bool
-    ensures { result ≡ next_is (begins_other (flags_of flags)) cursor.now.tokens }
+    ensures { result ≡ next_is (begins_other flags) cursor.now.tokens }
 {
     match cursor.rest().first() {
         Some(token) => begins_other(token, flags),
@@ -68,7 +67,7 @@ fn next_begins_other(cursor: &Cursor, flags: Flags) -> bool
 }
 
 fn next_may_declare(cursor: &Cursor, stand: Stand) -> bool
-    ensures { result ≡ next_is (may_declare (stand_of stand)) cursor.now.tokens }
+    ensures { result ≡ next_is (may_declare stand) cursor.now.tokens }
 {
     match cursor.rest().first() {
         Some(token) => may_declare(token, stand),
@@ -79,16 +78,20 @@ fn next_may_declare(cursor: &Cursor, stand: Stand) -> bool
 /// Whether the next token begins what may stand there.
 #[tactic(auto, using(crate::proofs::StatementBegins::begins_next))]
 fn next_begins_statement(cursor: &Cursor, flags: Flags, stand: Stand) -> bool
-    ensures { result ≡ next_is (begins_statement (flags_of flags) (stand_of stand)) cursor.now.tokens }
+    ensures { result ≡ next_is (begins_statement flags stand) cursor.now.tokens }
 {
     next_begins_other(cursor, flags)
         | (cursor.next_begins_expression(flags) & next_may_declare(cursor, stand))
 }
 
 /// The fault of a statement, which would be one construct too many.
-#[tactic(auto, using(es6_cursor::proofs::Rules::groups), unfolding(es6_reading::specs::Statements::statement_at_limit))]
-pub fn statement_at_limit(cursor: &Cursor, flags: Flags, stand: Stand) -> Result<Statement, Halt>
-    ensures { Reads (statement_at_limit (flags_of flags) (stand_of stand) cursor.now) result cursor.now }
+#[tactic(auto, using(es6_cursor::proofs::Rules::groups), unfolding(es6_reading::specs::Statements::statement_at_limit, es6_reading::specs::Parser::no_expression))]
+pub fn statement_at_limit<G: MakesParts>(
+    cursor: &Cursor,
+    flags: Flags,
+    stand: Stand,
+) -> Result<G::Statement, Halt>
+    ensures { ReadsAs G.seen_statement (statement_at_limit flags stand cursor.now) result cursor.now }
 {
     if next_begins_statement(cursor, flags, stand) {
         return Err(Halt::Stopped(Stop::Depth));
@@ -96,5 +99,5 @@ pub fn statement_at_limit(cursor: &Cursor, flags: Flags, stand: Stand) -> Result
     if cursor.next_is_word(b"with") {
         return Err(Halt::Stopped(Stop::Outside(5)));
     }
-    cursor.refuse_expression()
+    Err(Halt::Stopped(cursor.no_expression()))
 }

@@ -1,4 +1,2 @@
-pub mod ItemLists
-pub mod Names
 pub mod Parsed
 pub mod Refused

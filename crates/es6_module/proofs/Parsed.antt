@@ -4,11 +4,12 @@ use Rattle.std.specs.Prelude.{Result, Ok, Err, IfOk, IfErr}
 use Rattle.std.proofs.lemmas.List.{append_cancel_right, map-append}
 use Rattle.es6_lexer.specs.declared.token.Token.{Token}
 use Rattle.es6_ast.specs.declared.module.Module.{Module}
+use Rattle.es6_ast.specs.declared.settings.Stop.{Stop}
+use Rattle.es6_ast.specs.declared.settings.Stop.TheVariants as stops
 use Rattle.es6_ast.specs.Tokens.{Filled, read}
 use Rattle.es6_reading.specs.Laws.{BeginAlike, IsFinal, Says}
 use Rattle.es6_reading.specs.Modules.{most_open, read_module, readers, whole_module}
-use Rattle.es6_reading.specs.Parser as p
-use Rattle.es6_reading.specs.Parser.{Input, Outcome, Stop, Took, Fault}
+use Rattle.es6_reading.specs.Parser.{Input, Outcome, Took, Fault}
 use Rattle.es6_reading.proofs.Completeness.{what-is-derived-is-read}
 use Rattle.es6_reading.proofs.LocalReaders.{local-faults, faults-stay}
 use Rattle.es6_reading.proofs.PlacesOfModules.{says}
@@ -91,11 +92,11 @@ stands tokens stop rest e =
     }
 
 told : (tokens : List Token) (at : ℕ) (stop : Stop) → StopsAt tokens stop at → IsFault tokens (fault_of stop at)
-told tokens at p.Syntax s = s
-told tokens at (p.Lexical kind) s = s
-told tokens at (p.Outside rule) s = s
-told tokens at p.Depth s = s
-told tokens at p.Endless s = tt
+told tokens at stops.Syntax s = s
+told tokens at (stops.Lexical kind) s = s
+told tokens at (stops.Outside rule) s = s
+told tokens at stops.Depth s = s
+told tokens at stops.Endless s = tt
 
 refused : (tokens : List Token) (fault : ParseFault) → Refuses tokens (read_module turns (map read tokens)) fault → IsFault tokens fault
 refused tokens fault (out_of_memory e) = subst (λ f. IsFault tokens f) (sym e) tt

@@ -2,14 +2,15 @@
 use Rattle.std.specs.Prelude.{◌≡◌, ℕ, ◌+◌, ◌<◌, ◌≤◌, true, List, ◌++◌, length, map, take, Result, Ok, Err}
 use Rattle.es6_lexer.specs.declared.token.Token.{Token}
 use Rattle.es6_ast.specs.declared.module.Module.{Module}
+use Rattle.es6_ast.specs.declared.settings.Stop.{Stop}
+use Rattle.es6_ast.specs.declared.settings.Stop.TheVariants as stops
 use Rattle.es6_ast.specs.Dead.{AreInOrder}
 use Rattle.es6_ast.specs.Depth.{open_constructs}
 use Rattle.es6_ast.specs.Semicolons.{SpellsModule}
 use Rattle.es6_ast.specs.Tokens.{Filled, read}
 use Rattle.es6_reading.specs.Laws.{BeginAlike, IsFinal, Says}
 use Rattle.es6_reading.specs.Modules.{most_open, read_module, readers, whole_module}
-use Rattle.es6_reading.specs.Parser as p
-use Rattle.es6_reading.specs.Parser.{Input, Outcome, Stop, Took, Fault}
+use Rattle.es6_reading.specs.Parser.{Input, Outcome, Took, Fault}
 use Rattle.es6_cursor.specs.Readers.{turns}
 use Rattle.es6_expr.specs.declared.fault.ParseFault.{ParseFault}
 use Rattle.es6_expr.specs.declared.fault.ParseFault.TheVariants.{OutOfMemory, Syntax, Lexical, Outside, Depth}
@@ -41,10 +42,10 @@ pub record StopsAt (tokens : List Token) (stop : Stop) (at : ℕ) : Type 0 where
 
 -- Memory that runs out says nothing.
 abbrev pub IsFault : List Token → ParseFault → Type 0
-IsFault tokens (Syntax at) = StopsAt tokens p.Syntax at
-IsFault tokens (Lexical at kind) = StopsAt tokens (p.Lexical kind) at
-IsFault tokens (Outside rule at) = StopsAt tokens (p.Outside rule) at
-IsFault tokens (Depth at) = StopsAt tokens p.Depth at
+IsFault tokens (Syntax at) = StopsAt tokens stops.Syntax at
+IsFault tokens (Lexical at kind) = StopsAt tokens (stops.Lexical kind) at
+IsFault tokens (Outside rule at) = StopsAt tokens (stops.Outside rule) at
+IsFault tokens (Depth at) = StopsAt tokens stops.Depth at
 IsFault tokens OutOfMemory = Unit {0}
 
 -- the fault of what the model doesn't read

@@ -6,11 +6,12 @@ ghost use Rattle.es6_reading.specs.Modules.{read_module};
 ghost use Rattle.es6_cursor.specs.Readers.{turns};
 ghost use Rattle.es6_module.specs.Parsed.{Answers, IsFault, IsParsed};
 
-use crate::items::whole_module;
 use es6_ast::Module;
 use es6_cursor::{Cursor, Halt};
-use es6_expr::{ParseFault, fault_of, place_of};
+use es6_expr::{ParseFault, fault_of, inner_statement, nested_expression, place_of};
 use es6_lexer::Token;
+use es6_read_modules::whole_module;
+use es6_trees::Trees;
 use std::alloc::Global;
 
 /// How many constructs may be open at one token.
@@ -36,7 +37,12 @@ fn read_tokens(alloc: Global, tokens: &[Token]) -> Result<Module, ParseFault>
     ensures { Answers tokens.now (read_module turns (map read tokens.now)) result }
 {
     let mut cursor = Cursor::new(alloc, tokens);
-    match whole_module(&mut cursor, MOST_OPEN) {
+    match whole_module::<Trees, _, _>(
+        &mut cursor,
+        MOST_OPEN,
+        &nested_expression,
+        &inner_statement,
+    ) {
         Ok(tree) => Ok(tree),
         Err(Halt::Stopped(stop)) => Err(fault_of(stop, place_of(tokens, cursor.rest()))),
         Err(Halt::OutOfMemory) => Err(ParseFault::OutOfMemory),

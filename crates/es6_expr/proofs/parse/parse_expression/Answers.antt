@@ -6,8 +6,6 @@ use Rattle.es6_reading.specs.Expressions.{sequence}
 use Rattle.std.proofs.Common.{drop}
 use Rattle.es6_reading.specs.Parser.{Took, Fault}
 use Rattle.es6_cursor.specs.Readers.{inner}
-use Rattle.es6_cursor.specs.Reads.{stop_of}
-use Rattle.es6_cursor.specs.Settings.{flags_of}
 use Rattle.es6_expr.specs.Faults.{fault_of, place_of}
 use Rattle.es6_expr.specs.Parsed.{IsFaultIn, flags_in, input_at, took, stopped}
 use Rattle.es6_expr.proofs.LastToken.{to_the_end}
@@ -25,7 +23,7 @@ returns-in-Ok-clause-read c =
     let e : sequence (inner room) flags (input_at all c.args.from) ≡ Took c.in-Ok.reading c.sequence.new.cursor =
     ap (λ r. sequence (inner r) flags (input_at all c.args.from)) (sym c.room.ensures)
     ∙ ap (λ f. sequence (inner c.room.result) f (input_at all c.args.from)) (sym c.flags.ensures)
-    ∙ ap (λ s. sequence (inner c.room.result) (flags_of c.flags.result) s) (sym start)
+    ∙ ap (λ s. sequence (inner c.room.result) c.flags.result s) (sym start)
     ∙ c.in-Ok.ensures in
     let at : c.taken.result ≡ length all - length c.sequence.new.cursor.tokens = c.taken.ensures ∙ ap (λ l. length all - length l) c.rest.ensures in
     took c.in-Ok.reading c.sequence.new.cursor e c.into_value.ensures at
@@ -40,7 +38,7 @@ returns-in-Ok-clause-spelled c =
     let e : sequence (inner room) flags (input_at all c.args.from) ≡ Took c.in-Ok.reading c.sequence.new.cursor =
     ap (λ r. sequence (inner r) flags (input_at all c.args.from)) (sym c.room.ensures)
     ∙ ap (λ f. sequence (inner c.room.result) f (input_at all c.args.from)) (sym c.flags.ensures)
-    ∙ ap (λ s. sequence (inner c.room.result) (flags_of c.flags.result) s) (sym start)
+    ∙ ap (λ s. sequence (inner c.room.result) c.flags.result s) (sym start)
     ∙ c.in-Ok.ensures in
     let at : c.taken.result ≡ length all - length c.sequence.new.cursor.tokens = c.taken.ensures ∙ ap (λ l. length all - length l) c.rest.ensures in
     (omega (arith, at), subst (λ x. SpellsExpression flags level_sequence (drop c.args.from all) x (drop c.taken.result all)) (sym c.into_value.ensures) (expression-spelled room flags all c.args.from c.taken.result c.in-Ok.reading c.sequence.new.cursor e at))
@@ -52,13 +50,13 @@ returns-in-Err-Stopped-clause-read c =
     let flags = flags_in c.args.context in
     let whole = to_the_end all c.args.from in
     let start : c.new-cursor.result ≡ input_at all c.args.from = cc in
-    let e : sequence (inner room) flags (input_at all c.args.from) ≡ Fault (stop_of c.in-Err-Stopped.stop) c.sequence.new.cursor.tokens =
+    let e : sequence (inner room) flags (input_at all c.args.from) ≡ Fault (c.in-Err-Stopped.stop) c.sequence.new.cursor.tokens =
     ap (λ r. sequence (inner r) flags (input_at all c.args.from)) (sym c.room.ensures)
     ∙ ap (λ f. sequence (inner c.room.result) f (input_at all c.args.from)) (sym c.flags.ensures)
-    ∙ ap (λ s. sequence (inner c.room.result) (flags_of c.flags.result) s) (sym start)
+    ∙ ap (λ s. sequence (inner c.room.result) c.flags.result s) (sym start)
     ∙ (rw c.in-Err-Stopped.field-0-is at c.in-Err-Stopped.ensures) in
     let place : c.place_of.result ≡ place_of (map read all) c.sequence.new.cursor.tokens = c.place_of.ensures ∙ ap (λ l. place_of (map read all) l) c.rest-in-Err-Stopped.ensures in
-    stopped (stop_of c.in-Err-Stopped.stop) c.sequence.new.cursor.tokens e (c.fault_of.ensures ∙ ap (λ at. fault_of (stop_of c.in-Err-Stopped.stop) at) place)
+    stopped (c.in-Err-Stopped.stop) c.sequence.new.cursor.tokens e (c.fault_of.ensures ∙ ap (λ at. fault_of (c.in-Err-Stopped.stop) at) place)
 
 pub returns-in-Err-Stopped-clause-fault : goal.returns-in-Err-Stopped-clause-fault
 returns-in-Err-Stopped-clause-fault c =
@@ -67,10 +65,10 @@ returns-in-Err-Stopped-clause-fault c =
     let flags = flags_in c.args.context in
     let whole = to_the_end all c.args.from in
     let start : c.new-cursor.result ≡ input_at all c.args.from = cc in
-    let e : sequence (inner room) flags (input_at all c.args.from) ≡ Fault (stop_of c.in-Err-Stopped.stop) c.sequence.new.cursor.tokens =
+    let e : sequence (inner room) flags (input_at all c.args.from) ≡ Fault (c.in-Err-Stopped.stop) c.sequence.new.cursor.tokens =
     ap (λ r. sequence (inner r) flags (input_at all c.args.from)) (sym c.room.ensures)
     ∙ ap (λ f. sequence (inner c.room.result) f (input_at all c.args.from)) (sym c.flags.ensures)
-    ∙ ap (λ s. sequence (inner c.room.result) (flags_of c.flags.result) s) (sym start)
+    ∙ ap (λ s. sequence (inner c.room.result) c.flags.result s) (sym start)
     ∙ (rw c.in-Err-Stopped.field-0-is at c.in-Err-Stopped.ensures) in
     let place : c.place_of.result ≡ place_of (map read all) c.sequence.new.cursor.tokens = c.place_of.ensures ∙ ap (λ l. place_of (map read all) l) c.rest-in-Err-Stopped.ensures in
-    subst (IsFaultIn all c.args.from) (sym c.fault_of.ensures) (expression-stopped room flags all c.args.from c.place_of.result (stop_of c.in-Err-Stopped.stop) c.sequence.new.cursor.tokens e place)
+    subst (IsFaultIn all c.args.from) (sym c.fault_of.ensures) (expression-stopped room flags all c.args.from c.place_of.result (c.in-Err-Stopped.stop) c.sequence.new.cursor.tokens e place)

@@ -1,0 +1,18 @@
+//! What stands one construct deeper (ECMA-262, 6th edition, 12).
+
+/// What expression stands one construct deeper.
+#[derive(Clone, Copy, Debug, PartialEq, Eq)]
+pub enum Nested {
+    /// Expression, as in parentheses.
+    Sequence,
+    /// AssignmentExpression, as after `=` or in a list.
+    Assignment,
+    /// The right side of `**`.
+    Power,
+    /// The operand of a prefix operator.
+    Unary,
+    /// What `new` constructs.
+    Callee,
+    /// What a class extends.
+    Heritage,
+}

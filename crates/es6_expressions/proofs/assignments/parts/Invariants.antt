@@ -1,8 +1,0 @@
-use Rattle.std.proofs.Common.{◌≡◌, ◌-◌}
-use Rattle.es6_reading.specs.Expressions.{parts}
-use Rattle.es6_cursor.specs.Readers.{inner, turns, before}
-use Rattle.es6_cursor.specs.Settings.{flags_of}
-use Rattle.es6_expressions.proofs.assignments.parts.Given as goal
-
-abbrev pub invariant-loop-turn : goal.invariant-loop-turn
-invariant-loop-turn g l = parts (inner l.room) (flags_of l.flags) (inner l.room).fuel l.initial.cursor ≡ before l.list (parts (inner l.room) (flags_of l.flags) (turns - l.turn) l.cursor)

@@ -1,7 +1,0 @@
-use Rattle.std.proofs.Common.{◌≡◌, ◌-◌}
-use Rattle.es6_reading.specs.Modules.{items}
-use Rattle.es6_cursor.specs.Readers.{inner, turns, before}
-use Rattle.es6_module.proofs.items.items.Given as goal
-
-abbrev pub invariant-loop-turn : goal.invariant-loop-turn
-invariant-loop-turn l = items (inner l.room) (inner l.room).fuel l.initial.cursor ≡ before l.list (items (inner l.room) (turns - l.turn) l.cursor)

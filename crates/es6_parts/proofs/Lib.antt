@@ -1,6 +1,0 @@
-pub mod ArgumentLists
-pub mod Inside
-pub mod PartLists
-pub mod PatternLists
-pub mod PlacedKeys
-pub mod Stars

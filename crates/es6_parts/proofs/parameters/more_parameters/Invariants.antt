@@ -1,8 +1,0 @@
-use Rattle.std.proofs.Common.{◌≡◌, ◌-◌}
-use Rattle.es6_reading.specs.Parts.{more_parameters}
-use Rattle.es6_cursor.specs.Readers.{inner, turns, before}
-use Rattle.es6_cursor.specs.Settings.{flags_of}
-use Rattle.es6_parts.proofs.parameters.more_parameters.Given as goal
-
-abbrev pub invariant-loop-turn : goal.invariant-loop-turn
-invariant-loop-turn g l = more_parameters (inner l.room) (flags_of l.flags) (inner l.room).fuel l.initial.cursor ≡ before l.list (more_parameters (inner l.room) (flags_of l.flags) (turns - l.turn) l.cursor)

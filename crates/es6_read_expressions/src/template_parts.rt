@@ -1,0 +1,54 @@
+//! Templates with values (ECMA-262, 6th edition, 12.2.9).
+
+ghost use Rattle.es6_cursor.specs.Nests.{ReadsExpressions};
+ghost use Rattle.es6_cursor.specs.Readers.{inner};
+ghost use Rattle.es6_cursor.specs.Reads.{ReadsAs};
+ghost use Rattle.es6_reading.specs.Parts.{parted_template, template_parts};
+
+use crate::nested::sequence_within;
+use es6_ast::Stretch;
+use es6_cursor::{Cursor, Flags, Halt, Nested, Stop, TURNS};
+use es6_makers::MakesTemplates;
+
+/// The values after the first stretch, each with the stretch after it.
+#[tactic(auto, using(es6_cursor::proofs::Rules::lists, crate::proofs::TemplateLists::template_turns))]
+fn template_parts<
+    G: MakesTemplates,
+    E: Fn(&mut Cursor, u16, Flags, Nested) -> Result<G::Reading, Halt>,
+>(cursor: &mut Cursor, room: u16, flags: Flags, expression: &E) -> Result<G::TemplateParts, Halt>
+    requires expressions { ReadsExpressions G.seen room (E.pre expression.now) (E.post expression.now) }
+    ensures { ReadsAs G.seen_template_parts (template_parts (inner room) flags (inner room).fuel cursor.old) result cursor.new }
+{
+    let mut list = G::no_template_parts(cursor.alloc());
+    for turn in 0..TURNS {
+        let value = sequence_within::<G, E>(cursor, room, flags, expression)?;
+        if let Some(after) = cursor.take_stretch(false, true)? {
+            G::push_template_part(&mut list, value, after)?;
+            return Ok(list);
+        }
+        let after = cursor.expect_stretch(false, false)?;
+        G::push_template_part(&mut list, value, after)?;
+    }
+    Err(Halt::Stopped(Stop::Endless))
+}
+
+/// What follows the first stretch of a template that begins at the offset and has values.
+#[tactic(auto, using(es6_cursor::proofs::Rules::groups), unfolding(es6_reading::specs::Parts::parted_template))]
+pub fn parted_template<
+    G: MakesTemplates,
+    E: Fn(&mut Cursor, u16, Flags, Nested) -> Result<G::Reading, Halt>,
+>(
+    cursor: &mut Cursor,
+    room: u16,
+    flags: Flags,
+    begin: u32,
+    first: Stretch,
+    expression: &E,
+) -> Result<G::Template, Halt>
+    requires expressions { ReadsExpressions G.seen room (E.pre expression.now) (E.post expression.now) }
+    ensures { ReadsAs G.seen_template (parted_template (inner room) flags begin first cursor.old) result cursor.new }
+{
+    let rest = template_parts::<G, E>(cursor, room, flags, expression)?;
+    let span = cursor.span_from(begin);
+    Ok(G::template(span, first, rest))
+}

@@ -1,0 +1,7 @@
+pub mod ArgumentLists
+pub mod Entered
+pub mod Inside
+pub mod PartLists
+pub mod PatternLists
+pub mod PlacedKeys
+pub mod Stars

@@ -1,0 +1,4 @@
+pub mod Accessors
+pub mod Classes
+pub mod Patterns
+pub mod Signatures

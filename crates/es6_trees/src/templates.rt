@@ -1,0 +1,36 @@
+//! The trees of templates.
+
+use crate::Trees;
+use crate::reading::Reading;
+use es_text::Span;
+use es6_ast::{Stretch, Template, TemplatePart};
+use es6_makers::MakesTemplates;
+use sqlite_items::Items;
+use std::alloc::{AllocError, Global};
+
+impl MakesTemplates for Trees {
+    type Template = Template;
+
+    type TemplateParts = Items<TemplatePart>;
+
+    ghost seen_template = { λ x. x };
+
+    ghost seen_template_parts = { λ x. x };
+
+    fn no_template_parts(alloc: Global) -> Items<TemplatePart> {
+        Items::new(alloc)
+    }
+
+    fn push_template_part(
+        list: &mut Items<TemplatePart>,
+        value: Reading,
+        after: Stretch,
+    ) -> Result<(), AllocError> {
+        let value = value.into_value();
+        list.push(TemplatePart { value, after })
+    }
+
+    fn template(span: Span, first: Stretch, rest: Items<TemplatePart>) -> Template {
+        Template { span, first, rest }
+    }
+}
