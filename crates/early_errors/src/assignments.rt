@@ -1,8 +1,8 @@
 //! Patterns to whose targets something is assigned (12.14.5), and what an assignment operator stands after.
 
 ghost use Rattle.std.specs.Prelude.{◌≡◌, ◌++◌, suc, map, true, OnOk};
-ghost use Rattle.es6_ast.specs.Findings.{joined, when};
-ghost use Rattle.es6_ast.specs.Early.{array_part_found, assigned_by, expression_found, misfits, object_part_found, pattern_found, restricted};
+ghost use Rattle.es6_static_semantics.specs.Findings.{joined, when};
+ghost use Rattle.es6_static_semantics.specs.Early.{array_part_found, assigned_by, expression_found, misfits, object_part_found, pattern_found, restricted};
 ghost use Rattle.es6_sizes.specs.Sizes.{array_part_size, expression_size, object_part_size, pattern_size, sizes};
 ghost use Rattle.early_walk.specs.Parts.{assigned_array_left, assigned_left, assigned_object_left, optional_left};
 ghost use Rattle.early_walk.specs.Tasks.{Splits, inside, pushed};

@@ -2,8 +2,8 @@
 
 ghost use Rattle.std.specs.Prelude.{◌++◌, ◌+◌, suc, map, not, OnOk};
 ghost use Rattle.std.specs.Option.{option_map};
-ghost use Rattle.es6_ast.specs.Findings.{joined, maybe, when};
-ghost use Rattle.es6_ast.specs.Early.{argument_found, assigned_by, deleted, element_found, expression_found, link_found, no_simple, operand_found, pattern_found, property_found, restricted};
+ghost use Rattle.es6_static_semantics.specs.Findings.{joined, maybe, when};
+ghost use Rattle.es6_static_semantics.specs.Early.{argument_found, assigned_by, deleted, element_found, expression_found, link_found, no_simple, operand_found, pattern_found, property_found, restricted};
 ghost use Rattle.es6_sizes.specs.Sizes.{argument_size, element_size, expression_size, link_size, maybe_size, operand_size, pattern_size, property_size, sizes};
 ghost use Rattle.early_walk.specs.Parts.{expression_left};
 ghost use Rattle.early_walk.specs.Tasks.{Splits, inside};

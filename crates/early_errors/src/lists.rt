@@ -1,8 +1,8 @@
 //! The lists of an expression's parts (12).
 
 ghost use Rattle.std.specs.Prelude.{suc, map, OnOk};
-ghost use Rattle.es6_ast.specs.Findings.{joined};
-ghost use Rattle.es6_ast.specs.Early.{argument_found, element_found, link_found, property_found};
+ghost use Rattle.es6_static_semantics.specs.Findings.{joined};
+ghost use Rattle.es6_static_semantics.specs.Early.{argument_found, element_found, link_found, property_found};
 ghost use Rattle.es6_sizes.specs.Sizes.{argument_size, element_size, link_size, property_size, sizes};
 ghost use Rattle.early_walk.specs.Parts.{arguments_left, elements_left, expressions_left, links_left, operands_left, properties_left, template_parts_left};
 ghost use Rattle.early_walk.specs.Tasks.{Splits, inside};

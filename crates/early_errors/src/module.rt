@@ -2,8 +2,8 @@
 
 ghost use Rattle.std.specs.Prelude.{◌≡◌, ◌++◌, [], map, None, IfOk, IfSome, OnOk};
 ghost use Rattle.std.specs.Option.{option_map};
-ghost use Rattle.es6_ast.specs.Findings.{IsFirst, joined, least_pair};
-ghost use Rattle.es6_ast.specs.Early.{bound, default_found, early_pairs, item_found, more_names, some_name};
+ghost use Rattle.es6_static_semantics.specs.Findings.{IsFirst, joined, least_pair};
+ghost use Rattle.es6_static_semantics.specs.Early.{bound, default_found, early_pairs, item_found, more_names, some_name};
 ghost use Rattle.early_findings.specs.Pairs.{least_with, pair_of};
 ghost use Rattle.early_walk.specs.Rules.{module_rules};
 ghost use Rattle.early_walk.specs.Tasks.{Rests, outcome, resting};

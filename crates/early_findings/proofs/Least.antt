@@ -4,7 +4,7 @@ use Rattle.std.specs.Option.{option_map}
 use Rattle.std.proofs.lemmas.Bool.Decides.{nat_tests}
 use Rattle.std.proofs.lemmas.List.{append_assoc, append-nil}
 use Rattle.std.proofs.lemmas.List.Elements.{All-push, All-weaker, All-nil, Contains-push, Contains-append_left}
-use Rattle.es6_ast.specs.Findings.{Pair, comes_first, earlier, joined, least_pair, IsFirst}
+use Rattle.es6_static_semantics.specs.Findings.{Pair, comes_first, earlier, joined, least_pair, IsFirst}
 
 -- ---- the order
 

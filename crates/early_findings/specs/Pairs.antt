@@ -1,7 +1,7 @@
 -- A finding as the program has it, and as the definitions of modules have it.
 use Rattle.std.specs.Prelude.{Option, List, fold}
 use Rattle.early_findings.specs.declared.finding.Finding.{Finding}
-use Rattle.es6_ast.specs.Findings.{Pair, earlier}
+use Rattle.es6_static_semantics.specs.Findings.{Pair, earlier}
 
 abbrev pub pair_of : Finding → Pair
 pair_of f = record { rule = f.rule; at = f.at }

@@ -1,6 +1,6 @@
 ghost use Rattle.std.specs.Prelude.{◌≡◌, None, ◌∷◌, []};
 ghost use Rattle.std.specs.Option.{option_map};
-ghost use Rattle.es6_ast.specs.Findings.{when};
+ghost use Rattle.es6_static_semantics.specs.Findings.{when};
 ghost use Rattle.early_findings.specs.Pairs.{pair_of, least_with};
 
 use crate::finding::Finding;
@@ -16,7 +16,7 @@ pub struct Finder {
 
 impl Model for Finder {
     ghost use Rattle.std.specs.Prelude.{Option};
-    ghost use Rattle.es6_ast.specs.Findings.{Pair};
+    ghost use Rattle.es6_static_semantics.specs.Findings.{Pair};
     ghost use Rattle.std.specs.Option.{option_map};
     ghost use Rattle.early_findings.specs.Pairs.{pair_of};
 

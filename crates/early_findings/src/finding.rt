@@ -1,5 +1,5 @@
 ghost use Rattle.std.specs.Prelude.{◌≡◌};
-ghost use Rattle.es6_ast.specs.Findings.{comes_first};
+ghost use Rattle.es6_static_semantics.specs.Findings.{comes_first};
 ghost use Rattle.early_findings.specs.Pairs.{pair_of};
 
 /// A rule that a module breaks, by its number in docs/PROFILE.md, and where: an offset in bytes from 0.

@@ -8,7 +8,7 @@ use Rattle.std.specs.declared.hash.FoldHasher.{FoldHasher}
 use Rattle.std.specs.declared.hash.BuildHasherDefault.{BuildHasherDefault}
 use Rattle.std.proofs.lemmas.Bool.{cases_Bool, cond-true, cond-false}
 use Rattle.es6_ast.specs.declared.tree.Identifier.{Identifier}
-use Rattle.es6_ast.specs.Findings.{first_place, is_name_of}
+use Rattle.es6_static_semantics.specs.Findings.{first_place, is_name_of}
 
 is_some-cond : (b : Bool) (at : ℕ) (o : Option ℕ) → is_some (cond b (Some at) o) ≡ (b || is_some o)
 is_some-cond true at o = refl

@@ -1,7 +1,7 @@
 -- A directive as the program has it, and as the definition of early errors has it.
 use Rattle.early_names.specs.declared.directives.Directive.{Directive}
 use Rattle.early_names.specs.declared.directives.Directive.TheVariants as code
-use Rattle.es6_ast.specs.Early as early
+use Rattle.es6_static_semantics.specs.Early as early
 
 abbrev pub directive_of : Directive → early.Directive
 directive_of code.NoDirective = early.NoDirective

@@ -3,7 +3,7 @@ use Rattle.std.specs.Prelude.{◌≡◌, ℕ, List, Option}
 use Rattle.std.specs.Str.{bytes_eq}
 use Rattle.std.specs.HashMap.{get_by}
 use Rattle.es6_ast.specs.declared.tree.Identifier.{Identifier}
-use Rattle.es6_ast.specs.Findings.{first_place}
+use Rattle.es6_static_semantics.specs.Findings.{first_place}
 use Rattle.early_names.specs.declared.places.Places.{Places}
 
 -- the place that a name has

@@ -1,8 +1,8 @@
 //! The names that statements declare (13.1.2 to 13.1.8), each list in text order.
 
 ghost use Rattle.std.specs.Prelude.{◌≡◌, ◌++◌, map, OnOk};
-ghost use Rattle.es6_ast.specs.Findings.{joined};
-ghost use Rattle.es6_ast.specs.Early.{block_lexical, lexical_names, parameter_names, part_found, some_name, statement_found, var_names};
+ghost use Rattle.es6_static_semantics.specs.Findings.{joined};
+ghost use Rattle.es6_static_semantics.specs.Early.{block_lexical, lexical_names, parameter_names, part_found, some_name, statement_found, var_names};
 
 use crate::names::PlacedName;
 use crate::patterns::{add_optional_name, add_part_names};

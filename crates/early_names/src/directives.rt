@@ -1,7 +1,7 @@
 //! Directives (14.1.1).
 
 ghost use Rattle.std.specs.Prelude.{◌≡◌, map};
-ghost use Rattle.es6_ast.specs.Early.{expression_found, is_strict_text, literal_directive, statement_found, strict_directive};
+ghost use Rattle.es6_static_semantics.specs.Early.{expression_found, is_strict_text, literal_directive, statement_found, strict_directive};
 ghost use Rattle.early_names.specs.Directives.{directive_of};
 
 use es_text::Span;

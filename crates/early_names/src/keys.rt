@@ -1,7 +1,7 @@
 //! The names that a class asks for (14.5.1).
 
 ghost use Rattle.std.specs.Prelude.{◌≡◌, codes};
-ghost use Rattle.es6_ast.specs.Early.{is_named, key_found};
+ghost use Rattle.es6_static_semantics.specs.Early.{is_named, key_found};
 
 use es6_ast::Key;
 

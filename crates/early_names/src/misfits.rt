@@ -2,7 +2,7 @@
 
 ghost use Rattle.std.specs.Prelude.{◌≡◌, map};
 ghost use Rattle.es6_ast.specs.Targets.{elements_misfit, first_misfit};
-ghost use Rattle.es6_ast.specs.Early.{element_found, expression_found, pattern_found, property_found};
+ghost use Rattle.es6_static_semantics.specs.Early.{element_found, expression_found, pattern_found, property_found};
 ghost use Rattle.early_names.specs.Misfits.{element_misfit};
 
 use crate::targets::{begin_of, ends_in_access, is_simple};

@@ -1,7 +1,7 @@
 //! The names that patterns bind (13.3.3.1, 14.1.3), each list in text order.
 
 ghost use Rattle.std.specs.Prelude.{◌≡◌, ◌++◌, map, OnOk};
-ghost use Rattle.es6_ast.specs.Early.{are_plain, array_part_found, const_pairs, is_plain, object_part_found, parameter_found, parameter_names, part_found, pattern_found, some_name};
+ghost use Rattle.es6_static_semantics.specs.Early.{are_plain, array_part_found, const_pairs, is_plain, object_part_found, parameter_found, parameter_names, part_found, pattern_found, some_name};
 ghost use Rattle.es6_ast.specs.declared.operators.VariableKind.TheVariants.{Const};
 ghost use Rattle.early_findings.specs.Pairs.{least_with};
 

@@ -2,7 +2,7 @@
 
 ghost use Rattle.std.specs.Prelude.{◌≡◌, List, ◌++◌, ◌∷◌, [], IfOk, OnOk};
 ghost use Rattle.es6_ast.specs.declared.tree.Identifier.{Identifier};
-ghost use Rattle.es6_ast.specs.Findings.{first_place, is_name_of};
+ghost use Rattle.es6_static_semantics.specs.Findings.{first_place, is_name_of};
 ghost use Rattle.early_names.specs.Indexes.{Indexes};
 
 use crate::names::PlacedName;

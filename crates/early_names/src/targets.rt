@@ -2,7 +2,7 @@
 
 ghost use Rattle.std.specs.Prelude.{◌≡◌, map};
 ghost use Rattle.es6_ast.specs.Targets.{ends_in_access};
-ghost use Rattle.es6_ast.specs.Early.{expression_found, link_found};
+ghost use Rattle.es6_static_semantics.specs.Early.{expression_found, link_found};
 
 use crate::names::PlacedName;
 use es6_ast::{Expression, Link};

@@ -1,8 +1,8 @@
 //! The rules on lists of names.
 
 ghost use Rattle.std.specs.Prelude.{◌≡◌, List, [], OnOk, true, max};
-ghost use Rattle.es6_ast.specs.Findings.{clashes, first_place, joined, maybe, repeated, shared, when};
-ghost use Rattle.es6_ast.specs.Early.{bound, is_restricted, restricted, scope_pairs, undeclared};
+ghost use Rattle.es6_static_semantics.specs.Findings.{clashes, first_place, joined, maybe, repeated, shared, when};
+ghost use Rattle.es6_static_semantics.specs.Early.{bound, is_restricted, restricted, scope_pairs, undeclared};
 ghost use Rattle.es6_ast.specs.declared.tree.Identifier.{Identifier};
 ghost use Rattle.early_names.specs.Indexes.{Indexes};
 ghost use Rattle.es6_ast.specs.Targets.{AsTarget};

@@ -7,7 +7,7 @@ use Rattle.es6_ast.specs.declared.tree.Catch.{Catch, out-Catch, roll-out-Catch, 
 use Rattle.es6_ast.specs.declared.tree.Statement.{Statement, fold-roll-Statement}
 use Rattle.es6_ast.specs.declared.tree.Statement.TheVariants as statement
 use Rattle.es6_ast.specs.declared.tree.Argument.TheOpen as layer
-use Rattle.es6_ast.specs.Early.{ArgumentFound, BodyFound, CaseFound, ClassFound, Found, FunctionFound, HeadFound, Inside, KeyFound, LinkFound, MemberFound, MethodFound, PartFound, PlacedFound, PropertyFound, StatementFound, TargetsFound, block_found, catch_found, pattern_found, statement_found, argument_step, array_part_step, arrow_body_step, arrow_step, block_step, case_step, catch_step, class_member_step, class_step, condition_step, element_step, expression_step, for_first_step, for_target_step, function_step, key_step, link_step, method_step, object_part_step, operand_step, parameter_step, part_step, pattern_step, property_step, statement_step, template_part_step, template_step}
+use Rattle.es6_static_semantics.specs.Early.{ArgumentFound, BodyFound, CaseFound, ClassFound, Found, FunctionFound, HeadFound, Inside, KeyFound, LinkFound, MemberFound, MethodFound, PartFound, PlacedFound, PropertyFound, StatementFound, TargetsFound, block_found, catch_found, pattern_found, statement_found, argument_step, array_part_step, arrow_body_step, arrow_step, block_step, case_step, catch_step, class_member_step, class_step, condition_step, element_step, expression_step, for_first_step, for_target_step, function_step, key_step, link_step, method_step, object_part_step, operand_step, parameter_step, part_step, pattern_step, property_step, statement_step, template_part_step, template_step}
 use Rattle.es6_sizes.specs.Sizes.{block_size, catch_size, maybe_size, sizes, statement_size}
 use Rattle.es6_sizes.specs.Sizes as size
 

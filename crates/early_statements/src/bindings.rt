@@ -1,8 +1,8 @@
 //! Patterns whose names are bound: declared variables (13.3) and parameters (14.1).
 
 ghost use Rattle.std.specs.Prelude.{◌≡◌, suc, map, OnOk};
-ghost use Rattle.es6_ast.specs.Findings.{joined};
-ghost use Rattle.es6_ast.specs.Early.{array_part_found, object_part_found, parameter_found};
+ghost use Rattle.es6_static_semantics.specs.Findings.{joined};
+ghost use Rattle.es6_static_semantics.specs.Early.{array_part_found, object_part_found, parameter_found};
 ghost use Rattle.es6_sizes.specs.Sizes.{array_part_size, object_part_size, parameter_size, sizes};
 ghost use Rattle.early_walk.specs.Parts.{bound_array_left, bound_left, bound_object_left, optional_left, parameters_left, variables_left};
 ghost use Rattle.early_walk.specs.Tasks.{Splits, inside, pushed};

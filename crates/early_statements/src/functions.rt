@@ -1,7 +1,7 @@
 //! Functions, arrows, methods and classes (14).
 
 ghost use Rattle.std.specs.Prelude.{◌≡◌, map, OnOk};
-ghost use Rattle.es6_ast.specs.Early.{arrow_found, class_member_found, in_body, is_constructor, is_plain_method, member_pairs, method_found, statement_found, statements_pairs};
+ghost use Rattle.es6_static_semantics.specs.Early.{arrow_found, class_member_found, in_body, is_constructor, is_plain_method, member_pairs, method_found, statement_found, statements_pairs};
 ghost use Rattle.es6_sizes.specs.Sizes.{arrow_size, class_member_size, method_size, sizes, statement_size};
 ghost use Rattle.early_walk.specs.Parts.{all_parameters_left, body_left, class_left, function_left, key_left, members_left};
 ghost use Rattle.early_walk.specs.Tasks.{Leaves, Splits, inside};

@@ -1,8 +1,8 @@
 //! The names that a module's items declare and export (15.2.1 to 15.2.3), each list in text order.
 
 ghost use Rattle.std.specs.Prelude.{◌≡◌, ◌++◌, ◌∷◌, [], codes, map, OnOk};
-ghost use Rattle.es6_ast.specs.Findings.{joined};
-ghost use Rattle.es6_ast.specs.Early.{default_found, exporting, item_found, more_names, of_statement, own_names, statement_found};
+ghost use Rattle.es6_static_semantics.specs.Findings.{joined};
+ghost use Rattle.es6_static_semantics.specs.Early.{default_found, exporting, item_found, more_names, of_statement, own_names, statement_found};
 
 use early_names::{PlacedName, add_optional_name, add_statement_lexical};
 use early_walk::add_vars;

@@ -2,8 +2,8 @@
 
 ghost use Rattle.std.specs.Prelude.{◌++◌, ◌+◌, ◌||◌, suc, map, not, true, OnOk, Option, Some};
 ghost use Rattle.std.specs.Option.{option_map};
-ghost use Rattle.es6_ast.specs.Findings.{joined, maybe, when};
-ghost use Rattle.es6_ast.specs.Early.{block_found, block_lexical, block_pairs, block_vars, case_found, catch_found, condition_found, expression_found, for_first_found, for_target_found, has_label, has_loop_label, head_pairs, jump_pairs, pattern_found, scope_pairs, statement_found, statements_pairs, under_label, under_loop, under_switch};
+ghost use Rattle.es6_static_semantics.specs.Findings.{joined, maybe, when};
+ghost use Rattle.es6_static_semantics.specs.Early.{block_found, block_lexical, block_pairs, block_vars, case_found, catch_found, condition_found, expression_found, for_first_found, for_target_found, has_label, has_loop_label, head_pairs, jump_pairs, pattern_found, scope_pairs, statement_found, statements_pairs, under_label, under_loop, under_switch};
 ghost use Rattle.es6_sizes.specs.Sizes.{block_size, case_size, catch_size, condition_size, expression_size, for_first_size, for_target_size, maybe_size, sizes, statement_size};
 ghost use Rattle.early_walk.specs.Parts.{block_left, cases_left, conditions_left, optional_block_left, optional_catch_left, optional_statement_left, statement_left, statements_left};
 ghost use Rattle.early_walk.specs.Tasks.{Splits, inside, outer};

@@ -2,8 +2,8 @@
 use Rattle.std.proofs.Common.{◌≡◌, ℕ, suc, true, ◌==◌, List, [], ◌∷◌, ◌++◌, length, Option, refl, sym, ap, ◌∙◌, subst, append_assoc, arith}
 use Rattle.std.proofs.lemmas.Bool.Decides.{nat_tests}
 use Rattle.es6_ast.specs.declared.tree.Identifier.{Identifier}
-use Rattle.es6_ast.specs.Findings.{Pair, shared}
-use Rattle.es6_ast.specs.Early.{Label, head_pairs}
+use Rattle.es6_static_semantics.specs.Findings.{Pair, shared}
+use Rattle.es6_static_semantics.specs.Early.{Label, head_pairs}
 use Rattle.early_findings.specs.Pairs.{least_with}
 use Rattle.early_walk.specs.Tasks.{Pairs, Splits, State, Task, met, noted}
 use Rattle.early_walk.proofs.Order.{met_late}

@@ -2,8 +2,8 @@
 use Rattle.std.proofs.Common.{◌≡◌, ℕ, Bool, true, false, ◌&&◌, ◌||◌, cond, nat_lt, ◌==◌, List, [], ◌∷◌, ◌++◌, fold, Option, Some, None, refl, sym, ap, ◌∙◌, arith}
 use Rattle.std.proofs.lemmas.Bool.Decides.{nat_tests}
 use Rattle.std.proofs.lemmas.List.Sums.{fold-append}
-use Rattle.es6_ast.specs.Findings.{Pair, comes_first, earlier}
-use Rattle.es6_ast.specs.Early.{Label}
+use Rattle.es6_static_semantics.specs.Findings.{Pair, comes_first, earlier}
+use Rattle.es6_static_semantics.specs.Early.{Label}
 use Rattle.early_findings.specs.Pairs.{least_with}
 use Rattle.early_walk.specs.Tasks.{Task, met}
 

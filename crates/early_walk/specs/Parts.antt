@@ -23,8 +23,8 @@ use Rattle.es6_ast.specs.declared.tree.Pattern.{Pattern}
 use Rattle.es6_ast.specs.declared.tree.Property.{Property}
 use Rattle.es6_ast.specs.declared.tree.Statement.{Statement}
 use Rattle.es6_ast.specs.declared.tree.TemplatePart.{TemplatePart}
-use Rattle.es6_ast.specs.Findings.{joined, maybe}
-use Rattle.es6_ast.specs.Early.{Inside, argument_found, array_part_found, block_found, block_pairs, body_pairs, case_found, catch_found, class_found, class_member_found, condition_found, element_found, expression_found, function_found, key_found, link_found, members_pairs, object_part_found, operand_found, parameter_found, parameters_pairs, part_found, pattern_found, property_found, statement_found, statements_pairs, template_part_found, under_switch, variables_pairs}
+use Rattle.es6_static_semantics.specs.Findings.{joined, maybe}
+use Rattle.es6_static_semantics.specs.Early.{Inside, argument_found, array_part_found, block_found, block_pairs, body_pairs, case_found, catch_found, class_found, class_member_found, condition_found, element_found, expression_found, function_found, key_found, link_found, members_pairs, object_part_found, operand_found, parameter_found, parameters_pairs, part_found, pattern_found, property_found, statement_found, statements_pairs, template_part_found, under_switch, variables_pairs}
 use Rattle.es6_sizes.specs.Sizes.{argument_size, array_part_size, block_size, case_size, catch_size, class_size, class_member_size, condition_size, element_size, expression_size, function_size, key_size, link_size, maybe_size, object_part_size, operand_size, parameter_size, part_size, pattern_size, property_size, sizes, statement_size, template_part_size}
 use Rattle.early_walk.specs.declared.place.Place.{Place}
 use Rattle.early_walk.specs.Tasks.{Task, inside, outer}

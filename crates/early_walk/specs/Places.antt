@@ -1,6 +1,6 @@
 -- A place as the walk has it, and what is round it as the definition of early errors has it.
 use Rattle.std.specs.Prelude.{List}
-use Rattle.es6_ast.specs.Early.{Around, Label, Rights}
+use Rattle.es6_static_semantics.specs.Early.{Around, Label, Rights}
 use Rattle.early_walk.specs.declared.place.Place.{Place}
 
 abbrev pub rights_at : Place → Rights

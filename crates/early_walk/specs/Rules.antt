@@ -1,8 +1,8 @@
 -- The rules on the names of a body, of a catch and of a module, without the pairs of the parts in them.
 use Rattle.std.specs.Prelude.{List, [], ◌++◌, not}
 use Rattle.es6_ast.specs.declared.tree.Identifier.{Identifier}
-use Rattle.es6_ast.specs.Findings.{Pair, joined, maybe, repeated, shared, when}
-use Rattle.es6_ast.specs.Early.{ItemFound, StatementFound, TargetsFound, are_plain, block_lexical, block_vars, parameter_names, scope_pairs, strict_directive, undeclared}
+use Rattle.es6_static_semantics.specs.Findings.{Pair, joined, maybe, repeated, shared, when}
+use Rattle.es6_static_semantics.specs.Early.{ItemFound, StatementFound, TargetsFound, are_plain, block_lexical, block_vars, parameter_names, scope_pairs, strict_directive, undeclared}
 
 abbrev pub body_rules : List TargetsFound → List StatementFound → List Pair
 body_rules ps ss =

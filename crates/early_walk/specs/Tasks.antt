@@ -1,7 +1,7 @@
 -- What is left of a walk: a stack of tasks, the labels round the first one, and the least pair so far.
 use Rattle.std.specs.Prelude.{ℕ, ◌+◌, ◌*◌, ◌≡◌, ◌<◌, ◌≤◌, suc, List, [], ◌∷◌, Option, drop}
-use Rattle.es6_ast.specs.Findings.{Pair}
-use Rattle.es6_ast.specs.Early.{Inside, Label, Outer}
+use Rattle.es6_static_semantics.specs.Findings.{Pair}
+use Rattle.es6_static_semantics.specs.Early.{Inside, Label, Outer}
 use Rattle.early_findings.specs.Pairs.{least_with}
 use Rattle.early_walk.specs.declared.place.Place.{Place}
 use Rattle.early_walk.specs.Places.{around, rights_at}

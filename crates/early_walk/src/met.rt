@@ -1,8 +1,8 @@
 //! Rules that a walk meets at a part by itself.
 
 ghost use Rattle.std.specs.Prelude.{◌≡◌, ◌++◌, [], map, OnOk};
-ghost use Rattle.es6_ast.specs.Findings.{joined, repeated};
-ghost use Rattle.es6_ast.specs.Early.{block_found, block_lexical, block_vars, bound, case_found, const_pairs, deleted, expression_found, for_first_found, for_target_found, head_pairs, misfits, no_simple, parameter_found, parameter_names, part_found, pattern_found, restricted, scope_pairs, some_name, statement_found, target_name};
+ghost use Rattle.es6_static_semantics.specs.Findings.{joined, repeated};
+ghost use Rattle.es6_static_semantics.specs.Early.{block_found, block_lexical, block_vars, bound, case_found, const_pairs, deleted, expression_found, for_first_found, for_target_found, head_pairs, misfits, no_simple, parameter_found, parameter_names, part_found, pattern_found, restricted, scope_pairs, some_name, statement_found, target_name};
 ghost use Rattle.early_findings.specs.Pairs.{least_with};
 ghost use Rattle.early_walk.specs.Rules.{body_rules, catch_rules};
 ghost use Rattle.early_walk.specs.Tasks.{noted};

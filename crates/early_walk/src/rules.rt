@@ -1,8 +1,8 @@
 //! The rules on the names that a scope declares.
 
 ghost use Rattle.std.specs.Prelude.{◌≡◌, ◌++◌, [], map, not, OnOk};
-ghost use Rattle.es6_ast.specs.Findings.{joined, maybe, repeated, shared, when};
-ghost use Rattle.es6_ast.specs.Early.{are_plain, block_found, block_lexical, block_vars, case_found, for_first_found, for_target_found, head_pairs, lexical_names, parameter_found, parameter_names, pattern_found, scope_pairs, statement_found, strict_directive};
+ghost use Rattle.es6_static_semantics.specs.Findings.{joined, maybe, repeated, shared, when};
+ghost use Rattle.es6_static_semantics.specs.Early.{are_plain, block_found, block_lexical, block_vars, case_found, for_first_found, for_target_found, head_pairs, lexical_names, parameter_found, parameter_names, pattern_found, scope_pairs, statement_found, strict_directive};
 ghost use Rattle.early_findings.specs.Pairs.{least_with};
 ghost use Rattle.early_walk.specs.Rules.{body_rules, catch_rules};
 

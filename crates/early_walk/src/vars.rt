@@ -1,8 +1,8 @@
 //! The var names of statements (13.1.5 to 13.1.8, 13.2.7 to 13.2.10 and so on), each list in text order.
 
 ghost use Rattle.std.specs.Prelude.{◌≡◌, ◌++◌, map, OnOk};
-ghost use Rattle.es6_ast.specs.Findings.{joined};
-ghost use Rattle.es6_ast.specs.Early.{block_vars, case_found, condition_found, for_first_found, for_target_found, pattern_found, statement_found, var_names};
+ghost use Rattle.es6_static_semantics.specs.Findings.{joined};
+ghost use Rattle.es6_static_semantics.specs.Early.{block_vars, case_found, condition_found, for_first_found, for_target_found, pattern_found, statement_found, var_names};
 
 use early_names::{PlacedName, add_pattern_names, add_var_names, function_name};
 use es6_ast::{Case, Condition, ForFirst, ForTarget, Pattern, Statement, VariableKind};

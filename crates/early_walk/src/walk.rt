@@ -1,8 +1,8 @@
 //! The walk: the least finding so far, the labels round the part that is next, and a stack of the parts that are left.
 
 ghost use Rattle.std.specs.Prelude.{◌≡◌, ◌∷◌, [], drop, reverse, MatchOption, None, OnOk};
-ghost use Rattle.es6_ast.specs.Findings.{when};
-ghost use Rattle.es6_ast.specs.Early.{has_label, has_loop_label};
+ghost use Rattle.es6_static_semantics.specs.Findings.{when};
+ghost use Rattle.es6_static_semantics.specs.Early.{has_label, has_loop_label};
 ghost use Rattle.early_walk.specs.Tasks.{State, EndLabel, EndLabels, noted, pushed};
 ghost use Rattle.early_walk.specs.Works.{state, task_of};
 

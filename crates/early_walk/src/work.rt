@@ -18,7 +18,7 @@ pub struct OpenLabel<'a> {
 }
 
 impl<'a> Model for OpenLabel<'a> {
-    ghost use Rattle.es6_ast.specs.Early.{Label};
+    ghost use Rattle.es6_static_semantics.specs.Early.{Label};
 
     ghost Value = { Label };
 

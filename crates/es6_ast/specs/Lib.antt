@@ -6,8 +6,3 @@ pub mod Modules
 pub mod Semicolons
 pub mod Depth
 pub mod Dead
-pub mod Findings
-pub mod Early
-pub mod Outside
-pub mod Endings
-pub mod Graphs

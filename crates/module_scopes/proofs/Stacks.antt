@@ -6,7 +6,7 @@ use Rattle.std.specs.Map.{lookup, IsKeyTest, AreApart, KeepsOthers}
 use Rattle.std.specs.HashMap.{UpdatesBy, get_by}
 use Rattle.std.proofs.lemmas.Bool.{cases_Bool, cond-true, cond-false}
 use Rattle.std.proofs.lemmas.List.{reverse-append, length-drop, drop-drop}
-use Rattle.es6_ast.specs.Outside.{Known, declared_as}
+use Rattle.es6_static_semantics.specs.Outside.{Known, declared_as}
 use Rattle.module_scopes.specs.declared.environment.Declared.{Declared}
 use Rattle.module_scopes.specs.Lookup.{AgreeWith, Innermost, Key, declaration, is_name}
 

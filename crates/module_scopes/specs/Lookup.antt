@@ -7,7 +7,7 @@ use Rattle.std.specs.declared.alloc.Global.{Global}
 use Rattle.std.specs.declared.hash.FoldHasher.{FoldHasher}
 use Rattle.std.specs.declared.hash.BuildHasherDefault.{BuildHasherDefault}
 use Rattle.module_scopes.specs.declared.environment.Declared.{Declared}
-use Rattle.es6_ast.specs.Outside.{Known, declared_as}
+use Rattle.es6_static_semantics.specs.Outside.{Known, declared_as}
 
 abbrev pub Key : Type 0
 Key = Vec ℕ Global

@@ -23,7 +23,7 @@ use Rattle.es6_ast.specs.declared.tree.Operand.{Operand, fold-Operand}
 use Rattle.es6_ast.specs.declared.tree.Part.{Part, fold-Part}
 use Rattle.es6_ast.specs.declared.tree.Template.{Template, fold-Template}
 use Rattle.es6_ast.specs.declared.tree.TemplatePart.{TemplatePart, fold-TemplatePart}
-use Rattle.es6_ast.specs.Outside.{Inside, Found, LinkFound, TargetsFound, StatementFound, HeadFound, PartFound, CaseFound, BodyFound, ClassFound, FunctionFound, MethodFound, argument_step, array_part_step, arrow_body_step, element_step, expression_step, for_first_step, for_target_step, key_step, link_step, object_part_step, parameter_step, pattern_step, property_step, statement_step, arrow_step, block_step, case_step, catch_step, class_step, class_member_step, condition_step, function_step, method_step, operand_step, part_step, template_step, template_part_step}
+use Rattle.es6_static_semantics.specs.Outside.{Inside, Found, LinkFound, TargetsFound, StatementFound, HeadFound, PartFound, CaseFound, BodyFound, ClassFound, FunctionFound, MethodFound, argument_step, array_part_step, arrow_body_step, element_step, expression_step, for_first_step, for_target_step, key_step, link_step, object_part_step, parameter_step, pattern_step, property_step, statement_step, arrow_step, block_step, case_step, catch_step, class_step, class_member_step, condition_step, function_step, method_step, operand_step, part_step, template_step, template_part_step}
 
 abbrev pub argument_found : Argument → Inside
 argument_found =

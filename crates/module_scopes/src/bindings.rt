@@ -1,7 +1,7 @@
 //! Lists of names that are declared together.
 
 ghost use Rattle.std.specs.Prelude.{◌≡◌, [], ◌∷◌, ◌++◌, map, false, OnOk, MatchOption};
-ghost use Rattle.es6_ast.specs.Outside.{knows, some_name};
+ghost use Rattle.es6_static_semantics.specs.Outside.{knows, some_name};
 ghost use Rattle.module_scopes.specs.Scopes.{known_of};
 
 use es6_ast::Identifier;
@@ -24,7 +24,7 @@ pub struct Bindings {
 
 impl Model for Bindings {
     ghost use Rattle.std.specs.Prelude.{List, map};
-    ghost use Rattle.es6_ast.specs.Outside.{Known};
+    ghost use Rattle.es6_static_semantics.specs.Outside.{Known};
     ghost use Rattle.module_scopes.specs.Scopes.{known_of};
 
     ghost Value = { List Known };

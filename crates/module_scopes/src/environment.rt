@@ -2,7 +2,7 @@
 
 ghost use Rattle.std.specs.Prelude.{◌≡◌, ℕ, List, [], ◌∷◌, ◌++◌, ◌-◌, Bool, false, None, Some, if◌then◌else◌, length, drop, OnOk, OnErr, IfOk};
 ghost use Rattle.std.specs.Str.{bytes_eq};
-ghost use Rattle.es6_ast.specs.Outside.{declared_as, is_free, is_host_import};
+ghost use Rattle.es6_static_semantics.specs.Outside.{declared_as, is_free, is_host_import};
 ghost use Rattle.module_scopes.specs.Scopes.{known_of};
 ghost use Rattle.module_scopes.specs.Lookup.{innermost_of};
 
@@ -33,7 +33,7 @@ pub struct Environment {
 
 impl Model for Environment {
     ghost use Rattle.std.specs.Prelude.{map, reverse};
-    ghost use Rattle.es6_ast.specs.Outside.{Scope};
+    ghost use Rattle.es6_static_semantics.specs.Outside.{Scope};
     ghost use Rattle.module_scopes.specs.Lookup.{AgreeWith, declaration, innermost_of};
 
     ghost Value = { Scope };

@@ -1,8 +1,8 @@
 //! The names that the items of a module declare in it (ECMA-262, 6th edition, 15.2.1.11 and 15.2.1.13).
 
 ghost use Rattle.std.specs.Prelude.{◌≡◌, ◌∷◌, [], ◌++◌, map, false, OnOk};
-ghost use Rattle.es6_ast.specs.Findings.{joined};
-ghost use Rattle.es6_ast.specs.Outside.{default_found, is_host, item_found, knows, more_names, some_name, statement_found};
+ghost use Rattle.es6_static_semantics.specs.Findings.{joined};
+ghost use Rattle.es6_static_semantics.specs.Outside.{default_found, is_host, item_found, knows, more_names, some_name, statement_found};
 
 use crate::bindings::Bindings;
 use es6_ast::{DefaultExport, Identifier, ImportName, ImportedNames, Item, Specifier, Statement};

@@ -1,8 +1,8 @@
 //! The names that patterns and parameters bind (ECMA-262, 6th edition, 13.3.3.1 and 14.1.3).
 
 ghost use Rattle.std.specs.Prelude.{◌≡◌, ◌++◌, map, false, OnOk};
-ghost use Rattle.es6_ast.specs.Findings.{joined};
-ghost use Rattle.es6_ast.specs.Outside.{expression_found, knows, parts_names, some_name};
+ghost use Rattle.es6_static_semantics.specs.Findings.{joined};
+ghost use Rattle.es6_static_semantics.specs.Outside.{expression_found, knows, parts_names, some_name};
 ghost use Rattle.module_scopes.specs.Parts.{array_part_found, object_part_found, parameter_found, part_found, pattern_found};
 
 use crate::bindings::Bindings;

@@ -2,8 +2,8 @@
 use Rattle.std.proofs.Common.{◌≡◌, ◌∷◌, ◌++◌, Bool, List, map, Option, sym, ap, ◌∙◌}
 use Rattle.early_findings.specs.Pairs.{least_with}
 use Rattle.es6_ast.specs.declared.tree.Function.{Function, out-Function, fold_out-Function}
-use Rattle.es6_ast.specs.Findings.{Pair, earlier, joined}
-use Rattle.es6_ast.specs.Outside.{Inside, Known, Scope, all_named, arguments_name, body_names, function_found, function_pairs, some_name, statement_found}
+use Rattle.es6_static_semantics.specs.Findings.{Pair, earlier, joined}
+use Rattle.es6_static_semantics.specs.Outside.{Inside, Known, Scope, all_named, arguments_name, body_names, function_found, function_pairs, some_name, statement_found}
 use Rattle.module_scopes.specs.Parts.{parameter_found}
 use Rattle.outside_constructs.proofs.Outcomes.{drop_back, fold_append}
 use Rattle.outside_constructs.specs.Left.{end_of, entered}

@@ -4,7 +4,7 @@ use Rattle.std.specs.Option.{option_map}
 use Rattle.early_findings.proofs.Least.{least_pair-first, least_pair-none, view-first}
 use Rattle.early_findings.specs.Pairs.{pair_of}
 use Rattle.early_findings.specs.declared.finding.Finding.{Finding}
-use Rattle.es6_ast.specs.Findings.{IsFirst, Pair, least_pair}
+use Rattle.es6_static_semantics.specs.Findings.{IsFirst, Pair, least_pair}
 
 pub first_of : {E : Type 0} (r : Result (Option Finding) E) (ps : List Pair) → IfOk r (λ found. option_map pair_of found ≡ least_pair ps)
     → IfOk r (λ found. IfSome found (λ finding. IsFirst (pair_of finding) ps))

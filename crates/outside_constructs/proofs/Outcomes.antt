@@ -1,6 +1,6 @@
 -- Pairs that stand one list after another, and the way back out of a scope.
 use Rattle.std.proofs.Common.{◌≡◌, ◌-◌, List, [], ◌∷◌, ◌++◌, length, drop, fold, Option, refl, sym, ap, ◌∙◌, arith, append_assoc, length-append}
-use Rattle.es6_ast.specs.Findings.{Pair, joined}
+use Rattle.es6_static_semantics.specs.Findings.{Pair, joined}
 
 pub fold_append : (f : Option Pair → Pair → Option Pair) (l : Option Pair) (xs ys : List Pair) → fold f l (xs ++ ys) ≡ fold f (fold f l xs) ys
 fold_append f l [] ys = refl

@@ -1,8 +1,8 @@
 -- What comes of a walk: the first pair of all that it has met and of all that is left, and the scope that it ends in.
 use Rattle.std.specs.Prelude.{ℕ, Bool, ◌+◌, List, [], ◌∷◌, ◌++◌, Option, length}
 use Rattle.early_findings.specs.Pairs.{least_with}
-use Rattle.es6_ast.specs.Findings.{Pair}
-use Rattle.es6_ast.specs.Outside.{Inside, Known, Scope}
+use Rattle.es6_static_semantics.specs.Findings.{Pair}
+use Rattle.es6_static_semantics.specs.Outside.{Inside, Known, Scope}
 use Rattle.outside_constructs.specs.Works.{pairs_of, scope_after, weight_of}
 use Rattle.outside_constructs.specs.declared.work.Work.{Work}
 use Rattle.outside_constructs.specs.declared.work.Work.TheVariants as work

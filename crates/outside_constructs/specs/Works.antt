@@ -1,8 +1,8 @@
 -- What each part of a module that is left to do gives, and its weight, by which a walk comes to its end.
 use Rattle.std.specs.Prelude.{ℕ, suc, ◌+◌, ◌-◌, ◌*◌, ◌++◌, List, [], ◌∷◌, map, drop, length}
 use Rattle.std.specs.Option.{option_map}
-use Rattle.es6_ast.specs.Findings.{joined, maybe}
-use Rattle.es6_ast.specs.Outside.{Inside, Scope, BodyFound, StatementFound, block_names, block_pairs, body_names, declaring, expression_found, function_found, heritage_pairs, nothing, statement_found}
+use Rattle.es6_static_semantics.specs.Findings.{joined, maybe}
+use Rattle.es6_static_semantics.specs.Outside.{Inside, Scope, BodyFound, StatementFound, block_names, block_pairs, body_names, declaring, expression_found, function_found, heritage_pairs, nothing, statement_found}
 use Rattle.es6_ast.specs.declared.tree.Case.{Case, out-Case}
 use Rattle.es6_ast.specs.declared.module.Item.{Item}
 use Rattle.es6_ast.specs.declared.module.Item.TheVariants as item

@@ -1,7 +1,7 @@
 //! Accesses and calls (ECMA-262, 6th edition, 12.3), and expressions that are keys.
 
 ghost use Rattle.std.specs.Prelude.{[], cond, map, codes};
-ghost use Rattle.es6_ast.specs.Outside.{are_iterator, chain_pairs, expression_found, first_is_call, is_iterator_key, is_text};
+ghost use Rattle.es6_static_semantics.specs.Outside.{are_iterator, chain_pairs, expression_found, first_is_call, is_iterator_key, is_text};
 ghost use Rattle.es6_sizes.specs.Sizes.{expression_size, link_size, sizes};
 ghost use Rattle.module_scopes.specs.Parts.{link_found};
 ghost use Rattle.std.specs.Prelude.{◌≡◌, ◌+◌, ◌*◌, ◌<◌, OnOk};

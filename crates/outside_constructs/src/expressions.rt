@@ -3,7 +3,7 @@
 ghost use Rattle.std.specs.Prelude.{◌≡◌, ◌+◌, ◌*◌, ◌<◌, OnOk};
 ghost use Rattle.outside_constructs.specs.Left.{done, met, outcome, weight};
 ghost use Rattle.outside_constructs.specs.Works.{weight_of};
-ghost use Rattle.es6_ast.specs.Outside.{expression_found};
+ghost use Rattle.es6_static_semantics.specs.Outside.{expression_found};
 ghost use Rattle.es6_sizes.specs.Sizes.{argument_size, element_size, expression_size, template_size};
 ghost use Rattle.module_scopes.specs.Parts.{argument_found, element_found, template_found};
 

@@ -3,8 +3,8 @@
 ghost use Rattle.std.specs.Prelude.{◌≡◌, ◌+◌, ◌*◌, ◌<◌, OnOk};
 ghost use Rattle.outside_constructs.specs.Left.{done, met, outcome, weight};
 ghost use Rattle.outside_constructs.specs.Works.{weight_of};
-ghost use Rattle.es6_ast.specs.Outside.{body_names, class_found, declaring};
-ghost use Rattle.es6_ast.specs.Findings.{joined};
+ghost use Rattle.es6_static_semantics.specs.Outside.{body_names, class_found, declaring};
+ghost use Rattle.es6_static_semantics.specs.Findings.{joined};
 ghost use Rattle.es6_sizes.specs.Sizes.{arrow_size, block_size, class_size, parameter_size};
 ghost use Rattle.module_scopes.specs.Parts.{arrow_found, block_found, parameter_found};
 

@@ -4,8 +4,8 @@ ghost use Rattle.std.specs.Prelude.{◌≡◌, ◌+◌, ◌*◌, ◌<◌, OnOk};
 ghost use Rattle.outside_constructs.specs.Left.{done, met, outcome, weight};
 ghost use Rattle.outside_constructs.specs.Works.{weight_of};
 ghost use Rattle.std.specs.Prelude.{[], ◌∷◌, ◌++◌, ◌&&◌, not};
-ghost use Rattle.es6_ast.specs.Findings.{joined, when};
-ghost use Rattle.es6_ast.specs.Outside.{all_named, default_found, export_pairs, host_pairs, imported_names, is_bare_or_list, is_host, item_found, more_names, named, some_name};
+ghost use Rattle.es6_static_semantics.specs.Findings.{joined, when};
+ghost use Rattle.es6_static_semantics.specs.Outside.{all_named, default_found, export_pairs, host_pairs, imported_names, is_bare_or_list, is_host, item_found, more_names, named, some_name};
 ghost use Rattle.outside_constructs.specs.Left.{meets};
 ghost use Rattle.outside_constructs.specs.Works.{default_size, item_size};
 

@@ -1,7 +1,7 @@
 //! Rules at a name or a target (ECMA-262, 6th edition, 8.1, 12.2 and 12.3).
 
 ghost use Rattle.std.specs.Prelude.{◌≡◌, ◌++◌};
-ghost use Rattle.es6_ast.specs.Outside.{all_named, deleted, expression_found, global_pairs, heritage_pairs, host_pairs, in_object_pairs, name_found, named, reference_pairs, some_name, super_pairs};
+ghost use Rattle.es6_static_semantics.specs.Outside.{all_named, deleted, expression_found, global_pairs, heritage_pairs, host_pairs, in_object_pairs, name_found, named, reference_pairs, some_name, super_pairs};
 ghost use Rattle.outside_constructs.specs.Left.{meets};
 
 use crate::globals::{is_kept_global, is_known_global};

@@ -5,7 +5,7 @@ ghost use Rattle.outside_constructs.specs.Left.{done, met, outcome, weight};
 ghost use Rattle.outside_constructs.specs.Works.{weight_of};
 ghost use Rattle.std.specs.Prelude.{◌||◌, codes, nat_eq};
 ghost use Rattle.std.specs.List.{starts_with};
-ghost use Rattle.es6_ast.specs.Outside.{is_proto};
+ghost use Rattle.es6_static_semantics.specs.Outside.{is_proto};
 ghost use Rattle.es6_sizes.specs.Sizes.{method_size, property_size};
 ghost use Rattle.module_scopes.specs.Parts.{method_found, property_found};
 

@@ -3,8 +3,8 @@
 ghost use Rattle.std.specs.Prelude.{◌≡◌, [], None, IfOk, IfSome};
 ghost use Rattle.std.specs.Option.{option_map};
 ghost use Rattle.early_findings.specs.Pairs.{pair_of};
-ghost use Rattle.es6_ast.specs.Findings.{IsFirst, least_pair};
-ghost use Rattle.es6_ast.specs.Outside.{outside_pairs};
+ghost use Rattle.es6_static_semantics.specs.Findings.{IsFirst, least_pair};
+ghost use Rattle.es6_static_semantics.specs.Outside.{outside_pairs};
 
 use crate::stack::Stack;
 use crate::walk::Walk;

@@ -1,8 +1,8 @@
 //! The scopes that a walk enters (ECMA-262, 6th edition, 13 and 14).
 
 ghost use Rattle.std.specs.Prelude.{◌≡◌, ◌∷◌, ◌++◌, [], false, map, OnOk};
-ghost use Rattle.es6_ast.specs.Findings.{joined};
-ghost use Rattle.es6_ast.specs.Outside.{arguments_name, block_names, body_names, class_found, knows, parts_names, some_name, statement_found};
+ghost use Rattle.es6_static_semantics.specs.Findings.{joined};
+ghost use Rattle.es6_static_semantics.specs.Outside.{arguments_name, block_names, body_names, class_found, knows, parts_names, some_name, statement_found};
 ghost use Rattle.module_scopes.specs.Parts.{block_found, case_found, for_first_found, for_target_found, parameter_found, pattern_found};
 ghost use Rattle.es6_ast.specs.declared.tree.Function.{out-Function};
 ghost use Rattle.outside_constructs.specs.Left.{entered};

@@ -3,8 +3,8 @@
 ghost use Rattle.std.specs.Prelude.{◌≡◌, ◌+◌, ◌*◌, ◌<◌, OnOk};
 ghost use Rattle.outside_constructs.specs.Left.{done, met, outcome, weight};
 ghost use Rattle.outside_constructs.specs.Works.{weight_of};
-ghost use Rattle.es6_ast.specs.Outside.{block_names, block_pairs, declaring, expression_found, statement_found};
-ghost use Rattle.es6_ast.specs.Findings.{joined, maybe};
+ghost use Rattle.es6_static_semantics.specs.Outside.{block_names, block_pairs, declaring, expression_found, statement_found};
+ghost use Rattle.es6_static_semantics.specs.Findings.{joined, maybe};
 ghost use Rattle.std.specs.Option.{option_map};
 ghost use Rattle.std.specs.Prelude.{◌++◌, map};
 ghost use Rattle.es6_sizes.specs.Sizes.{block_size, case_size, catch_size, expression_size, for_first_size, for_target_size, maybe_size, sizes, statement_size};

@@ -4,7 +4,7 @@ ghost use Rattle.std.specs.Prelude.{◌≡◌, ◌+◌, ◌*◌, ◌<◌, OnOk};
 ghost use Rattle.outside_constructs.specs.Left.{done, met, outcome, weight};
 ghost use Rattle.outside_constructs.specs.Works.{weight_of};
 ghost use Rattle.std.specs.Prelude.{◌∷◌, ◌++◌};
-ghost use Rattle.es6_ast.specs.Outside.{all_named, expression_found, global_pairs, some_name, super_pairs};
+ghost use Rattle.es6_static_semantics.specs.Outside.{all_named, expression_found, global_pairs, some_name, super_pairs};
 ghost use Rattle.es6_sizes.specs.Sizes.{array_part_size, object_part_size};
 ghost use Rattle.module_scopes.specs.Parts.{array_part_found, object_part_found};
 ghost use Rattle.outside_constructs.specs.Left.{meets};

@@ -1,7 +1,7 @@
 use Rattle.std.proofs.Common.{◌≡◌, OnOk, refl, sym, subst}
 use Rattle.es6_ast.specs.declared.operators.AssignOperator.{AssignOperator}
 use Rattle.es6_ast.specs.declared.operators.AssignOperator.TheVariants as assign
-use Rattle.es6_ast.specs.Early.{Inside, TargetsFound, assigned_by, pattern_found}
+use Rattle.es6_static_semantics.specs.Early.{Inside, TargetsFound, assigned_by, pattern_found}
 use Rattle.es6_sizes.specs.Sizes.{pattern_size}
 use Rattle.early_walk.specs.Tasks.{Splits, inside}
 use Rattle.early_walk.specs.Works.{state}

@@ -1,7 +1,7 @@
 use Rattle.std.proofs.Common.{◌≡◌, sym, ap, ◌∙◌}
 use Rattle.std.specs.Option.{option_map}
-use Rattle.es6_ast.specs.Findings.{IsFirst, least_pair}
-use Rattle.es6_ast.specs.Early.{early_pairs}
+use Rattle.es6_static_semantics.specs.Findings.{IsFirst, least_pair}
+use Rattle.es6_static_semantics.specs.Early.{early_pairs}
 use Rattle.early_findings.specs.Pairs.{pair_of}
 use Rattle.early_findings.proofs.Least.{least_pair-first, least_pair-none, view-first}
 use Rattle.early_errors.proofs.module.first_early.Goals as goal

@@ -1,6 +1,6 @@
 use Rattle.std.proofs.Common.{◌≡◌, None, drop, map}
-use Rattle.es6_ast.specs.Findings.{joined}
-use Rattle.es6_ast.specs.Early.{item_found}
+use Rattle.es6_static_semantics.specs.Findings.{joined}
+use Rattle.es6_static_semantics.specs.Early.{item_found}
 use Rattle.early_findings.specs.Pairs.{least_with}
 use Rattle.early_walk.specs.Tasks.{Rests}
 use Rattle.early_walk.specs.Works.{state}

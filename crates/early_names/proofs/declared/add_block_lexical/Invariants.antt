@@ -1,5 +1,5 @@
 use Rattle.std.proofs.Common.{◌≡◌, ◌++◌, drop, map}
-use Rattle.es6_ast.specs.Early.{block_lexical, statement_found}
+use Rattle.es6_static_semantics.specs.Early.{block_lexical, statement_found}
 use Rattle.early_names.proofs.declared.add_block_lexical.Given as goal
 
 abbrev pub invariant-loop-statement : goal.invariant-loop-statement

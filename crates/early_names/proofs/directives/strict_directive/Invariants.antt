@@ -1,5 +1,5 @@
 use Rattle.std.proofs.Common.{◌≡◌, drop, map}
-use Rattle.es6_ast.specs.Early.{statement_found, strict_directive}
+use Rattle.es6_static_semantics.specs.Early.{statement_found, strict_directive}
 use Rattle.early_names.proofs.directives.strict_directive.Given as goal
 
 abbrev pub invariant-loop-statement : goal.invariant-loop-statement

@@ -1,5 +1,5 @@
 use Rattle.std.proofs.Common.{◌≡◌, Some, ◌+◌, nat_eq, length, ◌&&◌, not, get_or, sym, ap, ◌∙◌}
-use Rattle.es6_ast.specs.Early.{ArgumentFound, element_found}
+use Rattle.es6_static_semantics.specs.Early.{ArgumentFound, element_found}
 use Rattle.early_names.specs.Misfits.{element_misfit}
 use Rattle.early_names.proofs.Fits.{elements_misfit-step, first-found}
 use Rattle.early_names.proofs.misfits.+misfits.Goals as goal

@@ -1,5 +1,5 @@
 use Rattle.std.proofs.Common.{◌≡◌, drop, map}
-use Rattle.es6_ast.specs.Early.{element_found, property_found}
+use Rattle.es6_static_semantics.specs.Early.{element_found, property_found}
 use Rattle.es6_ast.specs.Targets.{elements_misfit, first_misfit}
 use Rattle.early_names.proofs.misfits.+misfits.Given as goal
 

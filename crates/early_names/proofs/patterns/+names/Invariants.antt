@@ -1,5 +1,5 @@
 use Rattle.std.proofs.Common.{◌≡◌, ◌++◌, drop, map}
-use Rattle.es6_ast.specs.Early.{array_part_found, object_part_found, parameter_names}
+use Rattle.es6_static_semantics.specs.Early.{array_part_found, object_part_found, parameter_names}
 use Rattle.early_names.proofs.patterns.+names.Given as goal
 
 abbrev pub invariant-add_array_names-loop-part : goal.invariant-add_array_names-loop-part

@@ -1,5 +1,5 @@
 use Rattle.std.proofs.Common.{◌≡◌, ◌++◌, drop, map}
-use Rattle.es6_ast.specs.Early.{parameter_names, part_found}
+use Rattle.es6_static_semantics.specs.Early.{parameter_names, part_found}
 use Rattle.early_names.proofs.patterns.add_part_names.Given as goal
 
 abbrev pub invariant-loop-part : goal.invariant-loop-part

@@ -1,5 +1,5 @@
 use Rattle.std.proofs.Common.{◌∙◌}
-use Rattle.es6_ast.specs.Early.{LinkFound, link_found}
+use Rattle.es6_static_semantics.specs.Early.{LinkFound, link_found}
 use Rattle.early_names.proofs.Fits.{ends_in_access-last}
 use Rattle.early_names.proofs.targets.ends_in_access.Goals as goal
 

@@ -1,6 +1,6 @@
 use Rattle.std.proofs.Common.{◌≡◌, drop}
-use Rattle.es6_ast.specs.Findings.{joined}
-use Rattle.es6_ast.specs.Early.{bound}
+use Rattle.es6_static_semantics.specs.Findings.{joined}
+use Rattle.es6_static_semantics.specs.Early.{bound}
 use Rattle.early_findings.specs.Pairs.{least_with}
 use Rattle.early_names.proofs.twice.names_bound.Given as goal
 

@@ -1,5 +1,5 @@
 use Rattle.std.proofs.Common.{◌≡◌, take, drop, []}
-use Rattle.es6_ast.specs.Findings.{repeated}
+use Rattle.es6_static_semantics.specs.Findings.{repeated}
 use Rattle.early_findings.specs.Pairs.{least_with}
 use Rattle.early_names.specs.Indexes.{Indexes}
 use Rattle.early_names.proofs.twice.repeated.Given as goal

@@ -1,5 +1,5 @@
 use Rattle.std.proofs.Common.{◌≡◌, drop}
-use Rattle.es6_ast.specs.Findings.{shared}
+use Rattle.es6_static_semantics.specs.Findings.{shared}
 use Rattle.early_findings.specs.Pairs.{least_with}
 use Rattle.early_names.proofs.twice.shared.Given as goal
 

@@ -1,5 +1,5 @@
 use Rattle.std.proofs.Common.{◌≡◌, ◌++◌, ◌∷◌, [], drop}
-use Rattle.es6_ast.specs.Findings.{joined}
+use Rattle.es6_static_semantics.specs.Findings.{joined}
 use Rattle.early_statements.proofs.items.add_listed.Given as goal
 
 abbrev pub invariant-loop-name : goal.invariant-loop-name

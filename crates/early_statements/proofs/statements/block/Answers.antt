@@ -1,8 +1,8 @@
 use Rattle.std.proofs.Common.{ℕ, suc, List, map, OnOk, refl, sym, ap, ◌∙◌, subst}
 use Rattle.std.proofs.lemmas.Result.{on_ok_weaker}
 use Rattle.es6_ast.specs.declared.tree.Statement.{Statement}
-use Rattle.es6_ast.specs.Findings.{Pair}
-use Rattle.es6_ast.specs.Early.{StatementFound, block_found, block_lexical, block_pairs, block_vars, scope_pairs, statement_found, statements_pairs}
+use Rattle.es6_static_semantics.specs.Findings.{Pair}
+use Rattle.es6_static_semantics.specs.Early.{StatementFound, block_found, block_lexical, block_pairs, block_vars, scope_pairs, statement_found, statements_pairs}
 use Rattle.es6_sizes.specs.Sizes.{sizes, statement_size}
 use Rattle.early_walk.specs.Places.{around}
 use Rattle.early_walk.specs.Tasks.{Splits, State, noted, outer}

@@ -1,7 +1,7 @@
 use Rattle.std.proofs.Common.{List, [], ◌++◌, sym, ap, ◌∙◌, append_assoc}
 use Rattle.std.proofs.lemmas.Result.{on_ok_weaker}
-use Rattle.es6_ast.specs.Findings.{Pair, repeated, shared}
-use Rattle.es6_ast.specs.Early.{Label, PartFound, block_found, block_lexical, block_pairs, block_vars, catch_found, pattern_found}
+use Rattle.es6_static_semantics.specs.Findings.{Pair, repeated, shared}
+use Rattle.es6_static_semantics.specs.Early.{Label, PartFound, block_found, block_lexical, block_pairs, block_vars, catch_found, pattern_found}
 use Rattle.es6_sizes.specs.Sizes.{catch_size}
 use Rattle.early_walk.specs.Places.{around}
 use Rattle.early_walk.specs.Rules.{catch_rules}

@@ -2,7 +2,7 @@ use Rattle.std.proofs.Common.{ℕ, ◌+◌, suc, OnOk, sym, subst}
 use Rattle.std.specs.Option.{option_map}
 use Rattle.es6_ast.specs.declared.tree.Statement.{Statement}
 use Rattle.es6_ast.specs.declared.tree.Statement.TheVariants as statement
-use Rattle.es6_ast.specs.Early.{StatementFound, statement_found}
+use Rattle.es6_static_semantics.specs.Early.{StatementFound, statement_found}
 use Rattle.es6_sizes.specs.Sizes.{block_size, catch_size, maybe_size}
 use Rattle.early_walk.specs.Parts.{statement_left}
 use Rattle.early_walk.specs.Tasks.{Splits, outer}

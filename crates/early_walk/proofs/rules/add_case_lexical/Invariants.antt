@@ -1,6 +1,6 @@
 use Rattle.std.proofs.Common.{◌≡◌, ◌++◌, drop, map}
-use Rattle.es6_ast.specs.Findings.{joined}
-use Rattle.es6_ast.specs.Early.{block_lexical, case_found}
+use Rattle.es6_static_semantics.specs.Findings.{joined}
+use Rattle.es6_static_semantics.specs.Early.{block_lexical, case_found}
 use Rattle.early_walk.proofs.rules.add_case_lexical.Given as goal
 
 abbrev pub invariant-loop-case : goal.invariant-loop-case

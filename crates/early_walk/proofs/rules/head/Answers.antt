@@ -1,5 +1,5 @@
 use Rattle.std.proofs.Common.{◌≡◌, ◌==◌, true, length}
-use Rattle.es6_ast.specs.Early.{statement_found}
+use Rattle.es6_static_semantics.specs.Early.{statement_found}
 use Rattle.early_walk.proofs.Late.{head_of_none}
 use Rattle.early_walk.proofs.rules.head.Goals as goal
 

@@ -1,6 +1,6 @@
 use Rattle.std.proofs.Common.{◌≡◌, ◌++◌, drop, map}
-use Rattle.es6_ast.specs.Findings.{joined}
-use Rattle.es6_ast.specs.Early.{block_vars, case_found, condition_found, statement_found}
+use Rattle.es6_static_semantics.specs.Findings.{joined}
+use Rattle.es6_static_semantics.specs.Early.{block_vars, case_found, condition_found, statement_found}
 use Rattle.early_walk.proofs.vars.+vars.Given as goal
 
 abbrev pub invariant-add_block_vars-loop-statement : goal.invariant-add_block_vars-loop-statement

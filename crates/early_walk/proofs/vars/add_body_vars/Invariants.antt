@@ -1,6 +1,6 @@
 use Rattle.std.proofs.Common.{◌≡◌, ◌++◌, drop, map}
-use Rattle.es6_ast.specs.Findings.{joined}
-use Rattle.es6_ast.specs.Early.{statement_found}
+use Rattle.es6_static_semantics.specs.Findings.{joined}
+use Rattle.es6_static_semantics.specs.Early.{statement_found}
 use Rattle.early_walk.proofs.vars.add_body_vars.Given as goal
 
 abbrev pub invariant-loop-statement : goal.invariant-loop-statement

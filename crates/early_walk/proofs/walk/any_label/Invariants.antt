@@ -1,5 +1,5 @@
 use Rattle.std.proofs.Common.{◌≡◌, drop}
-use Rattle.es6_ast.specs.Early.{has_label}
+use Rattle.es6_static_semantics.specs.Early.{has_label}
 use Rattle.early_walk.proofs.walk.any_label.Given as goal
 
 abbrev pub invariant-loop-label : goal.invariant-loop-label

@@ -1,4 +1,4 @@
-use Rattle.es6_ast.specs.Outside.{outside_pairs}
+use Rattle.es6_static_semantics.specs.Outside.{outside_pairs}
 use Rattle.outside_constructs.proofs.First.{first_of, none_of}
 use Rattle.outside_constructs.proofs.outside.first_outside.Goals as goal
 

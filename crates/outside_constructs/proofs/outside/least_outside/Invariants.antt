@@ -1,7 +1,7 @@
 use Rattle.std.proofs.Common.{◌≡◌, [], None, false, map, drop}
 use Rattle.early_findings.specs.Pairs.{least_with}
-use Rattle.es6_ast.specs.Findings.{joined}
-use Rattle.es6_ast.specs.Outside.{Scope, item_found}
+use Rattle.es6_static_semantics.specs.Findings.{joined}
+use Rattle.es6_static_semantics.specs.Outside.{Scope, item_found}
 use Rattle.outside_constructs.proofs.outside.least_outside.Given as goal
 
 abbrev pub invariant-loop-item : goal.invariant-loop-item

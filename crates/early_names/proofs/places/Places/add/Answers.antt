@@ -1,6 +1,6 @@
 use Rattle.std.proofs.Common.{◌≡◌, Some, cond, false, true, ap, sym, ◌∙◌}
 use Rattle.std.specs.Str.{bytes_eq}
-use Rattle.es6_ast.specs.Findings.{is_name_of}
+use Rattle.es6_static_semantics.specs.Findings.{is_name_of}
 use Rattle.early_names.specs.Indexes.{place_of}
 use Rattle.early_names.proofs.Listed.{get_by-updates, kept, placed}
 use Rattle.early_names.proofs.places.Places.add.Goals as goal

@@ -1,6 +1,6 @@
 use Rattle.std.proofs.Common.{◌&&◌, sym, ap, ◌∙◌}
 use Rattle.std.specs.Str.{bytes_eq}
-use Rattle.es6_ast.specs.Early.{Label, has_loop_label}
+use Rattle.es6_static_semantics.specs.Early.{Label, has_loop_label}
 use Rattle.early_walk.specs.Works.{state}
 use Rattle.early_walk.proofs.Stacks.{list_any-reverse}
 use Rattle.early_walk.proofs.walk.Walk.has_loop_label.Goals as goal

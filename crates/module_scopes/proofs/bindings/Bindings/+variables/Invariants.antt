@@ -1,6 +1,6 @@
 use Rattle.std.proofs.Common.{◌≡◌, ◌++◌, false, map, drop}
-use Rattle.es6_ast.specs.Findings.{joined}
-use Rattle.es6_ast.specs.Outside.{block_vars, knows, statement_found}
+use Rattle.es6_static_semantics.specs.Findings.{joined}
+use Rattle.es6_static_semantics.specs.Outside.{block_vars, knows, statement_found}
 use Rattle.module_scopes.specs.Parts.{case_found, condition_found}
 use Rattle.module_scopes.proofs.bindings.Bindings.+variables.Given as goal
 

@@ -1,5 +1,5 @@
 use Rattle.std.proofs.Common.{◌≡◌, ◌++◌, false, map, drop}
-use Rattle.es6_ast.specs.Outside.{block_names, knows, statement_found}
+use Rattle.es6_static_semantics.specs.Outside.{block_names, knows, statement_found}
 use Rattle.module_scopes.proofs.bindings.Bindings.block.Given as goal
 
 abbrev pub invariant-loop-statement : goal.invariant-loop-statement

@@ -1,6 +1,6 @@
 use Rattle.std.proofs.Common.{◌≡◌, ◌++◌, map, drop}
-use Rattle.es6_ast.specs.Findings.{joined}
-use Rattle.es6_ast.specs.Outside.{item_found}
+use Rattle.es6_static_semantics.specs.Findings.{joined}
+use Rattle.es6_static_semantics.specs.Outside.{item_found}
 use Rattle.module_scopes.proofs.bindings.Bindings.items.Given as goal
 
 abbrev pub invariant-loop-item : goal.invariant-loop-item

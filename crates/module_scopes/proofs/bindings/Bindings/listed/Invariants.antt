@@ -1,6 +1,6 @@
 use Rattle.std.proofs.Common.{◌≡◌, [], ◌∷◌, ◌++◌, map, drop}
-use Rattle.es6_ast.specs.Findings.{joined}
-use Rattle.es6_ast.specs.Outside.{knows}
+use Rattle.es6_static_semantics.specs.Findings.{joined}
+use Rattle.es6_static_semantics.specs.Outside.{knows}
 use Rattle.module_scopes.proofs.bindings.Bindings.listed.Given as goal
 
 abbrev pub invariant-loop-name : goal.invariant-loop-name

@@ -1,5 +1,5 @@
 use Rattle.std.proofs.Common.{◌≡◌, ◌++◌, false, map, drop}
-use Rattle.es6_ast.specs.Outside.{knows, parts_names}
+use Rattle.es6_static_semantics.specs.Outside.{knows, parts_names}
 use Rattle.module_scopes.specs.Parts.{parameter_found}
 use Rattle.module_scopes.proofs.bindings.Bindings.parameters.Given as goal
 

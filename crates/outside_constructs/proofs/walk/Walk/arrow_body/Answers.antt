@@ -4,8 +4,8 @@ use Rattle.early_findings.specs.Pairs.{least_with}
 use Rattle.es6_ast.specs.declared.tree.Argument.TheFolds.{the_lemmas}
 use Rattle.es6_ast.specs.declared.tree.Argument.TheOpen.{BlockBody}
 use Rattle.es6_ast.specs.declared.tree.ArrowBody.{out-ArrowBody, fold_out-ArrowBody}
-use Rattle.es6_ast.specs.Findings.{joined}
-use Rattle.es6_ast.specs.Outside.{BodyFound, body_names}
+use Rattle.es6_static_semantics.specs.Findings.{joined}
+use Rattle.es6_static_semantics.specs.Outside.{BodyFound, body_names}
 use Rattle.module_scopes.specs.Parts.{arrow_body_found, block_found}
 use Rattle.outside_constructs.specs.Left.{end_of}
 use Rattle.outside_constructs.specs.Works.{inside_body}

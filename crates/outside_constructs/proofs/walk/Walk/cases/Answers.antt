@@ -1,7 +1,7 @@
 use Rattle.std.proofs.Common.{false, map, ap, ◌∙◌}
 use Rattle.std.proofs.lemmas.Result.{on_ok_weaker}
-use Rattle.es6_ast.specs.Findings.{joined}
-use Rattle.es6_ast.specs.Outside.{block_names, knows}
+use Rattle.es6_static_semantics.specs.Findings.{joined}
+use Rattle.es6_static_semantics.specs.Outside.{block_names, knows}
 use Rattle.module_scopes.specs.Parts.{case_found}
 use Rattle.outside_constructs.proofs.Entered.{inside}
 use Rattle.outside_constructs.specs.Left.{outcome}

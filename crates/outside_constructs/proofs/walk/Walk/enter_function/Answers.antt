@@ -1,7 +1,7 @@
 use Rattle.std.proofs.Common.{◌≡◌, ◌∷◌, ◌++◌, [], false, List, codes, map, sym, ap, ◌∙◌}
 use Rattle.std.proofs.lemmas.Result.{on_ok_weaker}
 use Rattle.es6_ast.specs.declared.tree.Identifier.{Identifier}
-use Rattle.es6_ast.specs.Outside.{Known, knows, parts_names, some_name}
+use Rattle.es6_static_semantics.specs.Outside.{Known, knows, parts_names, some_name}
 use Rattle.module_scopes.specs.Parts.{parameter_found}
 use Rattle.outside_constructs.proofs.ArgumentNames.{arguments_names}
 use Rattle.outside_constructs.specs.Left.{entered}

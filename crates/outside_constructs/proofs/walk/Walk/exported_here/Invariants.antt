@@ -1,7 +1,7 @@
 use Rattle.std.proofs.Common.{◌≡◌, ◌++◌, drop}
 use Rattle.early_findings.specs.Pairs.{least_with}
-use Rattle.es6_ast.specs.Findings.{joined}
-use Rattle.es6_ast.specs.Outside.{host_pairs, named}
+use Rattle.es6_static_semantics.specs.Findings.{joined}
+use Rattle.es6_static_semantics.specs.Outside.{host_pairs, named}
 use Rattle.outside_constructs.proofs.walk.Walk.exported_here.Given as goal
 
 abbrev pub invariant-loop-name : goal.invariant-loop-name

@@ -1,8 +1,8 @@
 use Rattle.std.proofs.Common.{◌++◌, ◌∷◌, false, List, map, sym, ap, ◌∙◌}
 use Rattle.std.proofs.lemmas.Result.{on_ok_weaker}
 use Rattle.early_findings.specs.Pairs.{least_with}
-use Rattle.es6_ast.specs.Findings.{Pair, earlier, joined}
-use Rattle.es6_ast.specs.Outside.{Inside, Known, Scope, StatementFound, TargetsFound, all_named, arguments_name, body_names, knows, parts_names, some_name, statement_found}
+use Rattle.es6_static_semantics.specs.Findings.{Pair, earlier, joined}
+use Rattle.es6_static_semantics.specs.Outside.{Inside, Known, Scope, StatementFound, TargetsFound, all_named, arguments_name, body_names, knows, parts_names, some_name, statement_found}
 use Rattle.module_scopes.specs.Parts.{parameter_found}
 use Rattle.outside_constructs.proofs.Entered.{function_out, inside, scope_in}
 use Rattle.outside_constructs.proofs.Outcomes.{fold_append}

@@ -54,7 +54,7 @@ use Rattle.es6_ast.specs.declared.module.ExportName.{ExportName}
 use Rattle.es6_ast.specs.declared.module.DefaultExport.{DefaultExport}
 use Rattle.es6_ast.specs.declared.module.DefaultExport.TheVariants.{DefaultFunction, DefaultClass, DefaultValue}
 use Rattle.es6_ast.specs.declared.module.Specifier.{Specifier}
-use Rattle.es6_ast.specs.Findings.{Pair, when, joined, maybe, is_name_of, repeated, shared, clashes}
+use Rattle.es6_static_semantics.specs.Findings.{Pair, when, joined, maybe, is_name_of, repeated, shared, clashes}
 use Rattle.es6_ast.specs.Targets.{AsTarget, AsElement, NoElement, OneElement, LastElement, expression_target}
 
 -- a label, and whether it labels a loop

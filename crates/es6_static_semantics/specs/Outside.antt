@@ -27,7 +27,7 @@ use Rattle.es6_ast.specs.declared.module.ExportName.{ExportName}
 use Rattle.es6_ast.specs.declared.module.DefaultExport.{DefaultExport}
 use Rattle.es6_ast.specs.declared.module.DefaultExport.TheVariants.{DefaultFunction, DefaultClass, DefaultValue}
 use Rattle.es6_ast.specs.declared.module.Specifier.{Specifier}
-use Rattle.es6_ast.specs.Findings.{Pair, when, joined, maybe}
+use Rattle.es6_static_semantics.specs.Findings.{Pair, when, joined, maybe}
 
 -- a name that is declared, and whether it is imported from the host
 pub record Known : Type 0 where

@@ -12,10 +12,10 @@ use Rattle.es6_ast.specs.declared.graph.LoadedModule.{LoadedModule}
 use Rattle.es6_ast.specs.declared.graph.Request.{Request}
 use Rattle.es6_ast.specs.Semicolons.{SpellsModule}
 use Rattle.es6_ast.specs.Depth.{open_constructs}
-use Rattle.es6_ast.specs.Findings.{joined}
-use Rattle.es6_ast.specs.Early.{early_pairs}
-use Rattle.es6_ast.specs.Outside.{outside_pairs}
-use Rattle.es6_ast.specs.Endings.{wants, AllResolve}
+use Rattle.es6_static_semantics.specs.Findings.{joined}
+use Rattle.es6_static_semantics.specs.Early.{early_pairs}
+use Rattle.es6_static_semantics.specs.Outside.{outside_pairs}
+use Rattle.es6_static_semantics.specs.Endings.{wants, AllResolve}
 
 -- the specifiers of a module, in text order (ModuleRequests, 15.2.1.10, of an import 15.2.2.5, of an export 15.2.3.10)
 abbrev pub from_of : Option Specifier → List Specifier

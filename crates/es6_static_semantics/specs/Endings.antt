@@ -18,8 +18,8 @@ use Rattle.es6_ast.specs.declared.graph.LoadedModule.{LoadedModule}
 use Rattle.es6_ast.specs.declared.graph.Request.{Request}
 use Rattle.es6_ast.specs.declared.graph.EndOf.{EndOf}
 use Rattle.es6_ast.specs.declared.graph.EndOf.TheVariants.{Local, Host}
-use Rattle.es6_ast.specs.Findings.{joined}
-use Rattle.es6_ast.specs.Early.{function_found, class_found, item_found}
+use Rattle.es6_static_semantics.specs.Findings.{joined}
+use Rattle.es6_static_semantics.specs.Early.{function_found, class_found, item_found}
 
 -- the name of another module under a specifier
 pub record Elsewhere : Type 0 where

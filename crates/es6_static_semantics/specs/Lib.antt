@@ -1,0 +1,5 @@
+pub mod Findings
+pub mod Early
+pub mod Outside
+pub mod Endings
+pub mod Graphs
