@@ -1,4 +1,5 @@
 pub mod Tokens
+pub mod Spans
 pub mod Targets
 pub mod Settings
 pub mod Grammar

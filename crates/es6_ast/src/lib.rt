@@ -8,6 +8,7 @@ mod graph;
 mod module;
 mod operators;
 mod settings;
+mod spans;
 mod tree;
 
 pub use graph::{EndOf, Graph, LoadedModule, Request};

@@ -10,7 +10,7 @@ mod parse;
 mod readers;
 mod statement_limit;
 
-pub use es6_refine::{RefineFault, refine_parameters, refine_pattern};
+pub use es6_trees::{RefineFault, refine_parameters, refine_pattern};
 pub use fault::{ParseFault, fault_of, place_of};
 pub use inner::{inner_statement, nested_expression};
 pub use parse::{Context, parse_expression, parse_statement};

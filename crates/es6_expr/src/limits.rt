@@ -6,11 +6,11 @@ ghost use Rattle.es6_cursor.specs.Reads.{ReadsAs};
 ghost use Rattle.es6_expr.specs.Tie.{limit_of};
 
 use es6_cursor::{Cursor, Flags, Halt, Nested, Stop};
-use es6_makers::MakesParts;
+use es6_makers::MakesReadings;
 
 /// The fault of an expression.
 #[tactic(auto, using(es6_cursor::proofs::Rules::groups), unfolding(es6_reading::specs::Expressions::expression_at_limit, es6_reading::specs::Parser::no_expression))]
-fn expression_at_limit<G: MakesParts>(cursor: &Cursor, flags: Flags) -> Result<G::Reading, Halt>
+fn expression_at_limit<G: MakesReadings>(cursor: &Cursor, flags: Flags) -> Result<G::Reading, Halt>
     ensures { ReadsAs G.seen (expression_at_limit (begins_expression flags) cursor.now) result cursor.now }
 {
     if cursor.next_begins_expression(flags) {
@@ -21,7 +21,7 @@ fn expression_at_limit<G: MakesParts>(cursor: &Cursor, flags: Flags) -> Result<G
 
 /// The fault of a UnaryExpression.
 #[tactic(auto, using(es6_cursor::proofs::Rules::groups), unfolding(es6_reading::specs::Expressions::expression_at_limit, es6_reading::specs::Parser::no_expression))]
-fn unary_at_limit<G: MakesParts>(cursor: &Cursor) -> Result<G::Reading, Halt>
+fn unary_at_limit<G: MakesReadings>(cursor: &Cursor) -> Result<G::Reading, Halt>
     ensures { ReadsAs G.seen (expression_at_limit begins_unary cursor.now) result cursor.now }
 {
     if cursor.next_begins_unary() {
@@ -32,7 +32,7 @@ fn unary_at_limit<G: MakesParts>(cursor: &Cursor) -> Result<G::Reading, Halt>
 
 /// The fault of what stands after `new` or `extends`.
 #[tactic(auto, using(es6_cursor::proofs::Rules::groups), unfolding(es6_reading::specs::Expressions::operand_at_limit, es6_reading::specs::Parser::no_number))]
-fn operand_at_limit<G: MakesParts>(cursor: &Cursor) -> Result<G::Reading, Halt>
+fn operand_at_limit<G: MakesReadings>(cursor: &Cursor) -> Result<G::Reading, Halt>
     ensures { ReadsAs G.seen (operand_at_limit cursor.now) result cursor.now }
 {
     if cursor.next_begins_operand() {
@@ -43,7 +43,7 @@ fn operand_at_limit<G: MakesParts>(cursor: &Cursor) -> Result<G::Reading, Halt>
 
 /// The fault where an expression would open one construct too many.
 #[tactic(auto, unfolding(crate::specs::Tie::limit_of))]
-pub fn nested_at_limit<G: MakesParts>(
+pub fn nested_at_limit<G: MakesReadings>(
     cursor: &Cursor,
     flags: Flags,
     nested: Nested,

@@ -10,7 +10,7 @@ ghost use Rattle.es6_expr.specs.Limits.{begins_other};
 
 use es6_cursor::{Cursor, Flags, Halt, Stand, Stop, is_among, is_mark, is_word};
 use es6_lexer::{Punctuator, Token, TokenKind};
-use es6_makers::MakesParts;
+use es6_makers::MakesSimpleStatements;
 
 /// The words that begin a statement, but `return`.
 const STATEMENT_WORDS: [&[u8]; 11] = [
@@ -86,7 +86,7 @@ fn next_begins_statement(cursor: &Cursor, flags: Flags, stand: Stand) -> bool
 
 /// The fault of a statement, which would be one construct too many.
 #[tactic(auto, using(es6_cursor::proofs::Rules::groups), unfolding(es6_reading::specs::Statements::statement_at_limit, es6_reading::specs::Parser::no_expression))]
-pub fn statement_at_limit<G: MakesParts>(
+pub fn statement_at_limit<G: MakesSimpleStatements>(
     cursor: &Cursor,
     flags: Flags,
     stand: Stand,

@@ -6,29 +6,52 @@
 #![tactic(auto)]
 
 mod arguments;
-mod assignments;
+mod classes;
+mod declarations;
 mod elements;
 mod expressions;
+mod functions;
 mod groups;
+mod handlers;
 mod items;
 mod links;
+mod loops;
 mod operators;
-mod parts;
+mod patterns;
 mod properties;
 mod readings;
 mod statements;
 mod templates;
 
 pub use arguments::MakesArguments;
-pub use assignments::MakesAssignments;
+pub use classes::{MakesClasses, MakesMembers};
+pub use declarations::{MakesDeclarations, MakesStatements};
 pub use elements::MakesElements;
-pub use expressions::MakesExpressions;
+pub use expressions::{MakesAssignments, MakesExpressions};
+pub use functions::{
+    MakesArrows, MakesFunctions, MakesMethods, MakesParameterLists, MakesParameters,
+    MakesSignatures,
+};
 pub use groups::MakesGroups;
-pub use items::MakesItems;
+pub use handlers::{MakesCatches, MakesTries};
+pub use items::{
+    MakesClassExports, MakesExports, MakesFunctionExports, MakesItems, MakesModules,
+    MakesStatementItems, MakesValueExports, MakesWholeModules,
+};
 pub use links::MakesLinks;
+pub use loops::{
+    MakesForAssignments, MakesForHeaders, MakesForStatements, MakesForVariables, MakesLoops,
+    MakesVariables,
+};
 pub use operators::MakesOperators;
-pub use parts::MakesParts;
-pub use properties::MakesProperties;
-pub use readings::MakesReadings;
-pub use statements::MakesStatements;
+pub use patterns::{
+    MakesArrayParts, MakesBindings, MakesKeys, MakesObjectParts, MakesParts, MakesPatterns,
+    MakesTargets,
+};
+pub use properties::{MakesObjects, MakesProperties};
+pub use readings::{MakesOptionals, MakesReadings};
+pub use statements::{
+    MakesBlocks, MakesCases, MakesConditions, MakesExpressionStatements, MakesReturns,
+    MakesSimpleStatements, MakesStatementLists,
+};
 pub use templates::MakesTemplates;

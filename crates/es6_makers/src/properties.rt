@@ -1,19 +1,20 @@
 //! The nodes of object literals (ECMA-262, 6th edition, 12.2.6).
 
-ghost use Rattle.std.specs.Prelude.{◌≡◌, ◌++◌, ◌∷◌, [], List, OnOk};
+ghost use Rattle.std.specs.Prelude.{[], ◌++◌, ◌∷◌, ◌≡◌, List, OnOk};
 ghost use Rattle.es6_ast.specs.declared.tree.Expression.TheVariants as expr;
 ghost use Rattle.es6_ast.specs.declared.tree.Property.TheVariants as property;
 ghost use Rattle.es6_ast.specs.declared.tree.Property.{Property};
 ghost use Rattle.es6_reading.specs.Expressions.{left};
 
-use crate::parts::MakesParts;
+use crate::functions::MakesMethods;
+use crate::readings::MakesReadings;
 use es_text::Span;
 use es6_ast::Identifier;
 use shared_text::Name;
 use std::alloc::{AllocError, Global};
 
-/// Makes object literals.
-pub trait MakesProperties: MakesParts {
+/// Makes object literals, and properties that are names.
+pub trait MakesProperties: MakesReadings {
     type Property: Drop;
 
     type Properties: Drop;
@@ -21,10 +22,6 @@ pub trait MakesProperties: MakesParts {
     ghost seen_property: { Self.Property → Property };
 
     ghost seen_properties: { Self.Properties → List Property };
-
-    /// 12.2.6
-    fn plain_property(span: Span, key: Self::Key, value: Self::Reading) -> Self::Property
-        ensures { Self.seen_property result ≡ property.Plain span (Self.seen_key key) (Self.seen value).value };
 
     fn shorthand(span: Span, name: Name) -> Self::Property
         ensures { Self.seen_property result ≡ property.Shorthand span name };
@@ -37,9 +34,6 @@ pub trait MakesProperties: MakesParts {
     ) -> Self::Property
         ensures { Self.seen_property result ≡ property.Initialized span name equals (Self.seen value).value };
 
-    fn defined_property(method: Self::Method) -> Self::Property
-        ensures { Self.seen_property result ≡ property.Defined (Self.seen_method method) };
-
     fn no_properties(alloc: Global) -> Self::Properties
         ensures { Self.seen_properties result ≡ [] };
 
@@ -51,4 +45,14 @@ pub trait MakesProperties: MakesParts {
 
     fn object(span: Span, properties: Self::Properties) -> Self::Reading
         ensures { Self.seen result ≡ left (expr.ObjectList span (Self.seen_properties properties)) };
+}
+
+/// Makes properties with names of any kind.
+pub trait MakesObjects: MakesProperties + MakesMethods {
+    /// 12.2.6
+    fn plain_property(span: Span, key: Self::Key, value: Self::Reading) -> Self::Property
+        ensures { Self.seen_property result ≡ property.Plain span (Self.seen_key key) (Self.seen value).value };
+
+    fn defined_property(method: Self::Method) -> Self::Property
+        ensures { Self.seen_property result ≡ property.Defined (Self.seen_method method) };
 }

@@ -1,8 +1,10 @@
 //! The nodes of templates (ECMA-262, 6th edition, 12.2.9).
 
-ghost use Rattle.std.specs.Prelude.{◌≡◌, ◌++◌, ◌∷◌, [], List, OnOk};
+ghost use Rattle.std.specs.Prelude.{[], ◌++◌, ◌∷◌, ◌≡◌, List, OnOk};
+ghost use Rattle.es6_ast.specs.declared.tree.Expression.TheVariants as expr;
 ghost use Rattle.es6_ast.specs.declared.tree.Template.{Template, roll-Template};
 ghost use Rattle.es6_ast.specs.declared.tree.TemplatePart.{TemplatePart};
+ghost use Rattle.es6_reading.specs.Expressions.{left};
 ghost use Rattle.es6_reading.specs.Parts.{template_part};
 
 use crate::readings::MakesReadings;
@@ -33,4 +35,7 @@ pub trait MakesTemplates: MakesReadings {
 
     fn template(span: Span, first: Stretch, rest: Self::TemplateParts) -> Self::Template
         ensures { Self.seen_template result ≡ roll-Template (record { span = span; first = first; rest = Self.seen_template_parts rest }) };
+
+    fn template_expression(template: Self::Template) -> Self::Reading
+        ensures { Self.seen result ≡ left (expr.Template (Self.seen_template template)) };
 }

@@ -10,12 +10,12 @@ use crate::conditional::{arrow, conditional};
 use es6_ast::AssignOperator;
 use es6_cursor::{Cursor, Flags, Halt, Nested, Stand, Stop, TURNS};
 use es6_lexer::Punctuator;
-use es6_makers::{MakesAssignments, MakesExpressions, MakesOperators};
+use es6_makers::{MakesAssignments, MakesExpressions, MakesOperators, MakesTargets};
 
 /// What follows an assignment operator, whose target begins at the offset.
 #[tactic(auto, using(es6_cursor::proofs::Rules::groups, es6_cursor::proofs::Rooms::fuel_turns), unfolding(es6_reading::specs::Expressions::assigned_with))]
 fn assigned_with<
-    G: MakesAssignments,
+    G: MakesTargets,
     E: Fn(&mut Cursor, u16, Flags, Nested) -> Result<G::Reading, Halt>,
 >(
     cursor: &mut Cursor,

@@ -10,7 +10,7 @@ use crate::binary::binary;
 use crate::nested::assignment_within;
 use es6_cursor::{Cursor, Flags, Halt, Nested, Stand};
 use es6_lexer::Punctuator;
-use es6_makers::{MakesAssignments, MakesExpressions, MakesOperators, MakesReadings};
+use es6_makers::{MakesArrows, MakesExpressions, MakesOperators, MakesReadings};
 use es6_read_parts::inner_block;
 
 /// The `:` of a conditional expression, and what follows it.
@@ -73,7 +73,7 @@ pub fn conditional<
 /// The block after `=>`, with the parameters before it, of which the first begins at the offset.
 #[tactic(auto, using(es6_cursor::proofs::Rules::groups), unfolding(crate::specs::Branches::arrow_with_block))]
 fn arrow_with_block<
-    G: MakesAssignments,
+    G: MakesArrows,
     S: Fn(&mut Cursor, u16, Flags, Stand) -> Result<G::Statement, Halt>,
 >(
     cursor: &mut Cursor,
@@ -93,7 +93,7 @@ fn arrow_with_block<
 /// The expression after `=>`, in the same way.
 #[tactic(auto, using(es6_cursor::proofs::Rules::groups), unfolding(crate::specs::Branches::arrow_with_value))]
 fn arrow_with_value<
-    G: MakesAssignments,
+    G: MakesArrows,
     E: Fn(&mut Cursor, u16, Flags, Nested) -> Result<G::Reading, Halt>,
 >(
     cursor: &mut Cursor,
@@ -114,7 +114,7 @@ fn arrow_with_value<
 /// What follows `=>`, with the parameters before it, of which the first begins at the offset.
 #[tactic(auto, using(es6_cursor::proofs::Rules::groups), unfolding(es6_reading::specs::Expressions::arrow_body, crate::specs::Branches::arrow_with_block, crate::specs::Branches::arrow_with_value))]
 fn arrow_body<
-    G: MakesAssignments,
+    G: MakesArrows,
     E: Fn(&mut Cursor, u16, Flags, Nested) -> Result<G::Reading, Halt>,
     S: Fn(&mut Cursor, u16, Flags, Stand) -> Result<G::Statement, Halt>,
 >(
@@ -150,7 +150,7 @@ fn before_arrow<G: MakesReadings>(cursor: &Cursor, head: G::Reading) -> Result<G
 /// What follows the parameters of an arrow function, of which the first begins at the offset.
 #[tactic(auto, using(es6_cursor::proofs::Rules::groups, es6_cursor::proofs::Choices::on_arrow, es6_cursor::proofs::Choices::off_arrow), unfolding(es6_reading::specs::Parser::refused))]
 fn after_parameters<
-    G: MakesAssignments,
+    G: MakesArrows,
     E: Fn(&mut Cursor, u16, Flags, Nested) -> Result<G::Reading, Halt>,
     S: Fn(&mut Cursor, u16, Flags, Stand) -> Result<G::Statement, Halt>,
 >(
@@ -178,7 +178,7 @@ fn after_parameters<
 /// parameters.
 #[tactic(auto, using(es6_cursor::proofs::Rules::groups, crate::proofs::Arrows::arrow_is, crate::proofs::Arrows::no_arrow_is))]
 pub fn arrow<
-    G: MakesAssignments,
+    G: MakesArrows,
     E: Fn(&mut Cursor, u16, Flags, Nested) -> Result<G::Reading, Halt>,
     S: Fn(&mut Cursor, u16, Flags, Stand) -> Result<G::Statement, Halt>,
 >(

@@ -9,7 +9,7 @@ ghost use Rattle.es6_reading.specs.Expressions.{elements, properties};
 use crate::property::inner_property;
 use es6_cursor::{Cursor, Flags, Halt, Nested, Stand, Stop, TURNS};
 use es6_lexer::Punctuator;
-use es6_makers::{MakesElements, MakesProperties};
+use es6_makers::{MakesElements, MakesObjects};
 use es6_read_parts::argument;
 
 /// The elements of an array literal, and whether a comma follows the last one.
@@ -67,7 +67,7 @@ pub fn elements<
 /// The properties after the opening brace, and the closing brace.
 #[tactic(auto, using(es6_cursor::proofs::Rules::lists, crate::proofs::ListTurns::properties_turn, crate::proofs::ListTurns::properties_more, crate::proofs::ListTurns::properties_end), unfolding(es6_reading::specs::Expressions::properties))]
 pub fn properties<
-    G: MakesProperties,
+    G: MakesObjects,
     E: Fn(&mut Cursor, u16, Flags, Nested) -> Result<G::Reading, Halt>,
     S: Fn(&mut Cursor, u16, Flags, Stand) -> Result<G::Statement, Halt>,
 >(

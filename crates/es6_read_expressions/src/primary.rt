@@ -11,7 +11,9 @@ use crate::lists::{elements, properties};
 use crate::template::template;
 use es6_cursor::{Cursor, Flags, Halt, Nested, Role, Stand, open};
 use es6_lexer::Punctuator;
-use es6_makers::{MakesElements, MakesExpressions, MakesProperties, MakesReadings};
+use es6_makers::{
+    MakesClasses, MakesElements, MakesExpressions, MakesFunctions, MakesObjects, MakesReadings,
+};
 use es6_read_parts::{class_after_word, function_after_word};
 
 /// Where no operand begins: a regular expression is reported only where an operator might stand.
@@ -48,7 +50,7 @@ fn array<G: MakesElements, E: Fn(&mut Cursor, u16, Flags, Nested) -> Result<G::R
 /// The properties of an object literal, which begins at the offset (12.2.6).
 #[tactic(auto, using(es6_cursor::proofs::Rules::groups), unfolding(crate::specs::Primaries::object))]
 fn object<
-    G: MakesProperties,
+    G: MakesObjects,
     E: Fn(&mut Cursor, u16, Flags, Nested) -> Result<G::Reading, Halt>,
     S: Fn(&mut Cursor, u16, Flags, Stand) -> Result<G::Statement, Halt>,
 >(
@@ -146,7 +148,7 @@ fn held_or_template<
 /// What follows `function`, which begins at the offset (14.1).
 #[tactic(auto, using(es6_cursor::proofs::Rules::groups), unfolding(crate::specs::Primaries::function_of))]
 fn function<
-    G: MakesExpressions,
+    G: MakesFunctions,
     E: Fn(&mut Cursor, u16, Flags, Nested) -> Result<G::Reading, Halt>,
     S: Fn(&mut Cursor, u16, Flags, Stand) -> Result<G::Statement, Halt>,
 >(
@@ -169,7 +171,7 @@ fn function<
 /// What follows `class`, which begins at the offset (14.5).
 #[tactic(auto, using(es6_cursor::proofs::Rules::groups), unfolding(crate::specs::Primaries::class_of))]
 fn class<
-    G: MakesExpressions,
+    G: MakesClasses,
     E: Fn(&mut Cursor, u16, Flags, Nested) -> Result<G::Reading, Halt>,
     S: Fn(&mut Cursor, u16, Flags, Stand) -> Result<G::Statement, Halt>,
 >(

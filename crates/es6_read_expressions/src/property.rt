@@ -13,7 +13,7 @@ use es_text::Span;
 use es6_ast::{Identifier, MethodKind};
 use es6_cursor::{Cursor, Flags, Halt, Nested, Stand, Stop};
 use es6_lexer::Punctuator;
-use es6_makers::{MakesProperties, MakesReadings};
+use es6_makers::{MakesObjects, MakesProperties, MakesReadings};
 use es6_read_parts::{accessor, accessor_name, generator_method, key, method_after_key};
 use shared_text::Name;
 use std::alloc::{AllocError, Global};
@@ -34,7 +34,7 @@ fn value_of_property<
 /// The value after the colon of a property that begins at the offset.
 #[tactic(auto, using(es6_cursor::proofs::Rules::groups), unfolding(es6_reading::specs::Expressions::value_of_key))]
 fn value_of_key<
-    G: MakesProperties,
+    G: MakesObjects,
     E: Fn(&mut Cursor, u16, Flags, Nested) -> Result<G::Reading, Halt>,
 >(
     cursor: &mut Cursor,
@@ -54,7 +54,7 @@ fn value_of_key<
 
 #[tactic(auto, using(es6_cursor::proofs::Nests::fewer_expressions, es6_cursor::proofs::Nests::fewer_statements), unfolding(es6_reading::specs::Expressions::method_of_key))]
 fn method_of_key<
-    G: MakesProperties,
+    G: MakesObjects,
     E: Fn(&mut Cursor, u16, Flags, Nested) -> Result<G::Reading, Halt>,
     S: Fn(&mut Cursor, u16, Flags, Stand) -> Result<G::Statement, Halt>,
 >(
@@ -78,7 +78,7 @@ fn method_of_key<
 
 #[tactic(auto, using(es6_cursor::proofs::Choices::choices), unfolding(es6_reading::specs::Expressions::after_key))]
 fn after_key<
-    G: MakesProperties,
+    G: MakesObjects,
     E: Fn(&mut Cursor, u16, Flags, Nested) -> Result<G::Reading, Halt>,
     S: Fn(&mut Cursor, u16, Flags, Stand) -> Result<G::Statement, Halt>,
 >(
@@ -147,7 +147,7 @@ fn shorthand<
 /// After a name that may stand alone.
 #[tactic(auto, using(es6_cursor::proofs::Choices::choices), unfolding(es6_reading::specs::Expressions::after_name))]
 fn after_name<
-    G: MakesProperties,
+    G: MakesObjects,
     E: Fn(&mut Cursor, u16, Flags, Nested) -> Result<G::Reading, Halt>,
     S: Fn(&mut Cursor, u16, Flags, Stand) -> Result<G::Statement, Halt>,
 >(
@@ -183,7 +183,7 @@ fn accessor_word(alloc: Global, span: Span, setter: bool) -> Result<Identifier, 
 /// An accessor, which begins at the offset, after its word (14.3).
 #[tactic(auto, using(es6_cursor::proofs::Nests::fewer_expressions, es6_cursor::proofs::Nests::fewer_statements), unfolding(crate::specs::Properties::named_accessor))]
 fn named_accessor<
-    G: MakesProperties,
+    G: MakesObjects,
     E: Fn(&mut Cursor, u16, Flags, Nested) -> Result<G::Reading, Halt>,
     S: Fn(&mut Cursor, u16, Flags, Stand) -> Result<G::Statement, Halt>,
 >(
@@ -206,7 +206,7 @@ fn named_accessor<
 /// The property that begins with `get` or `set` at the offset: a name of its own, else an accessor's word.
 #[tactic(auto, using(es6_cursor::proofs::Choices::choices), unfolding(es6_reading::specs::Expressions::after_accessor_word, crate::specs::Properties::named_accessor))]
 fn after_accessor_word<
-    G: MakesProperties,
+    G: MakesObjects,
     E: Fn(&mut Cursor, u16, Flags, Nested) -> Result<G::Reading, Halt>,
     S: Fn(&mut Cursor, u16, Flags, Stand) -> Result<G::Statement, Halt>,
 >(
@@ -233,7 +233,7 @@ fn after_accessor_word<
 /// A generator method, which begins at the offset, after its `*` (14.4).
 #[tactic(auto, using(es6_cursor::proofs::Nests::fewer_expressions, es6_cursor::proofs::Nests::fewer_statements), unfolding(crate::specs::Properties::generator_property))]
 fn generator_property<
-    G: MakesProperties,
+    G: MakesObjects,
     E: Fn(&mut Cursor, u16, Flags, Nested) -> Result<G::Reading, Halt>,
     S: Fn(&mut Cursor, u16, Flags, Stand) -> Result<G::Statement, Halt>,
 >(
@@ -255,7 +255,7 @@ fn generator_property<
 /// A property that begins with no name that may stand alone, at the offset.
 #[tactic(auto, using(es6_cursor::proofs::Nests::fewer_expressions), unfolding(crate::specs::Properties::computed_property))]
 fn computed_property<
-    G: MakesProperties,
+    G: MakesObjects,
     E: Fn(&mut Cursor, u16, Flags, Nested) -> Result<G::Reading, Halt>,
     S: Fn(&mut Cursor, u16, Flags, Stand) -> Result<G::Statement, Halt>,
 >(
@@ -278,7 +278,7 @@ fn computed_property<
 /// PropertyDefinition, or a name with the initializer that only patterns may have (12.2.6).
 #[tactic(auto, using(es6_cursor::proofs::Choices::choices), unfolding(es6_reading::specs::Expressions::one_property, crate::specs::Properties::computed_property, crate::specs::Properties::generator_property))]
 fn one_property<
-    G: MakesProperties,
+    G: MakesObjects,
     E: Fn(&mut Cursor, u16, Flags, Nested) -> Result<G::Reading, Halt>,
     S: Fn(&mut Cursor, u16, Flags, Stand) -> Result<G::Statement, Halt>,
 >(
@@ -313,7 +313,7 @@ fn one_property<
 /// A property, which is a construct of its own.
 #[tactic(auto, using(crate::proofs::Inside::property_none, crate::proofs::Inside::property_some))]
 pub fn inner_property<
-    G: MakesProperties,
+    G: MakesObjects,
     E: Fn(&mut Cursor, u16, Flags, Nested) -> Result<G::Reading, Halt>,
     S: Fn(&mut Cursor, u16, Flags, Stand) -> Result<G::Statement, Halt>,
 >(

@@ -14,7 +14,10 @@ use es_text::Span;
 use es6_ast::{ExportName, VariableKind};
 use es6_cursor::{Cursor, Flags, Halt, Nested, Stand, Stop, TURNS, enter, is_identifier};
 use es6_lexer::Punctuator;
-use es6_makers::MakesItems;
+use es6_makers::{
+    MakesClassExports, MakesDeclarations, MakesExports, MakesFunctionExports, MakesItems,
+    MakesReadings, MakesValueExports,
+};
 use es6_read_parts::{class_after_word, function_after_word};
 use es6_read_statements::{class_declaration, function_declaration, variables_statement};
 use sqlite_items::Items;
@@ -128,7 +131,7 @@ fn export_all<G: MakesItems>(cursor: &mut Cursor, room: u16, begin: u32) -> Resu
 /// AssignmentExpression, which the reader of what stands one construct deeper reads where one construct more may open.
 #[tactic(auto, using(crate::proofs::Inside::assignment_next))]
 fn value_after_default<
-    G: MakesItems,
+    G: MakesReadings,
     E: Fn(&mut Cursor, u16, Flags, Nested) -> Result<G::Reading, Halt>,
 >(cursor: &mut Cursor, room: u16, expression: &E) -> Result<G::Reading, Halt>
     requires below { room < 65535 }
@@ -140,13 +143,10 @@ fn value_after_default<
 
 /// An expression after `default`, which has the span.
 #[tactic(auto, using(es6_cursor::proofs::Rules::statements), unfolding(es6_reading::specs::Modules::default_value))]
-fn default_value<G: MakesItems, E: Fn(&mut Cursor, u16, Flags, Nested) -> Result<G::Reading, Halt>>(
-    cursor: &mut Cursor,
-    room: u16,
-    begin: u32,
-    word: Span,
-    expression: &E,
-) -> Result<G::Item, Halt>
+fn default_value<
+    G: MakesValueExports,
+    E: Fn(&mut Cursor, u16, Flags, Nested) -> Result<G::Reading, Halt>,
+>(cursor: &mut Cursor, room: u16, begin: u32, word: Span, expression: &E) -> Result<G::Item, Halt>
     requires below { room < 65535 }
     requires expressions { ReadsExpressions G.seen (room + 1) (E.pre expression.now) (E.post expression.now) }
     ensures { ReadsAs G.seen_item (default_value (inner room) begin word cursor.old) result cursor.new }
@@ -160,7 +160,7 @@ fn default_value<G: MakesItems, E: Fn(&mut Cursor, u16, Flags, Nested) -> Result
 /// A function after `export default function`; the word `default` has the span.
 #[tactic(auto, using(es6_cursor::proofs::Rules::groups, es6_cursor::proofs::Nests::fewer_expressions, es6_cursor::proofs::Nests::fewer_statements), unfolding(crate::specs::Exports::default_function))]
 fn default_function<
-    G: MakesItems,
+    G: MakesFunctionExports,
     E: Fn(&mut Cursor, u16, Flags, Nested) -> Result<G::Reading, Halt>,
     S: Fn(&mut Cursor, u16, Flags, Stand) -> Result<G::Statement, Halt>,
 >(
@@ -187,7 +187,7 @@ fn default_function<
 /// A class after `export default class`.
 #[tactic(auto, using(es6_cursor::proofs::Rules::groups, es6_cursor::proofs::Nests::fewer_expressions, es6_cursor::proofs::Nests::fewer_statements), unfolding(crate::specs::Exports::default_class))]
 fn default_class<
-    G: MakesItems,
+    G: MakesClassExports,
     E: Fn(&mut Cursor, u16, Flags, Nested) -> Result<G::Reading, Halt>,
     S: Fn(&mut Cursor, u16, Flags, Stand) -> Result<G::Statement, Halt>,
 >(
@@ -220,7 +220,7 @@ fn default_class<
 /// What follows `default`, which has the span.
 #[tactic(auto, using(es6_cursor::proofs::Rules::groups), unfolding(es6_reading::specs::Modules::export_default, crate::specs::Exports::default_function, crate::specs::Exports::default_class))]
 fn export_default<
-    G: MakesItems,
+    G: MakesExports,
     E: Fn(&mut Cursor, u16, Flags, Nested) -> Result<G::Reading, Halt>,
     S: Fn(&mut Cursor, u16, Flags, Stand) -> Result<G::Statement, Halt>,
 >(
@@ -251,7 +251,7 @@ fn export_default<
 /// Variables, a function or a class.
 #[tactic(auto, using(es6_cursor::proofs::Rules::groups, es6_cursor::proofs::Nests::fewer_expressions, es6_cursor::proofs::Nests::fewer_statements), unfolding(es6_reading::specs::Modules::exported_declaration, es6_reading::specs::Parser::refused))]
 fn exported_declaration<
-    G: MakesItems,
+    G: MakesDeclarations,
     E: Fn(&mut Cursor, u16, Flags, Nested) -> Result<G::Reading, Halt>,
     S: Fn(&mut Cursor, u16, Flags, Stand) -> Result<G::Statement, Halt>,
 >(cursor: &mut Cursor, room: u16, expression: &E, statement: &S) -> Result<G::Statement, Halt>
@@ -286,7 +286,7 @@ fn exported_declaration<
 
 #[tactic(auto, using(es6_cursor::proofs::Rules::groups), unfolding(es6_reading::specs::Modules::export_declaration))]
 fn export_declaration<
-    G: MakesItems,
+    G: MakesExports,
     E: Fn(&mut Cursor, u16, Flags, Nested) -> Result<G::Reading, Halt>,
     S: Fn(&mut Cursor, u16, Flags, Stand) -> Result<G::Statement, Halt>,
 >(
@@ -309,7 +309,7 @@ fn export_declaration<
 /// What follows `export`, which begins at the offset.
 #[tactic(auto, using(es6_cursor::proofs::Rules::groups, crate::proofs::Names::default_at, crate::proofs::Names::default_missed), unfolding(es6_reading::specs::Modules::export_item))]
 pub fn export_item<
-    G: MakesItems,
+    G: MakesExports,
     E: Fn(&mut Cursor, u16, Flags, Nested) -> Result<G::Reading, Halt>,
     S: Fn(&mut Cursor, u16, Flags, Stand) -> Result<G::Statement, Halt>,
 >(

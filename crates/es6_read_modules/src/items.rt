@@ -12,12 +12,12 @@ ghost use Rattle.es6_reading.specs.Modules.{items, one_item, statement_item, who
 use crate::export::export_item;
 use crate::import::import_item;
 use es6_cursor::{Cursor, Flags, Halt, Nested, Stand, Stop, TURNS};
-use es6_makers::MakesItems;
+use es6_makers::{MakesExports, MakesSimpleStatements, MakesStatementItems, MakesWholeModules};
 
 /// A statement or declaration, which the reader of what stands one construct deeper reads where one construct more may open.
 #[tactic(auto, using(crate::proofs::Inside::statement_next))]
 fn listed_statement<
-    G: MakesItems,
+    G: MakesSimpleStatements,
     S: Fn(&mut Cursor, u16, Flags, Stand) -> Result<G::Statement, Halt>,
 >(cursor: &mut Cursor, room: u16, statement: &S) -> Result<G::Statement, Halt>
     requires below { room < 65535 }
@@ -29,7 +29,7 @@ fn listed_statement<
 
 #[tactic(auto, using(es6_cursor::proofs::Rules::groups), unfolding(es6_reading::specs::Modules::statement_item))]
 fn statement_item<
-    G: MakesItems,
+    G: MakesStatementItems,
     S: Fn(&mut Cursor, u16, Flags, Stand) -> Result<G::Statement, Halt>,
 >(cursor: &mut Cursor, room: u16, statement: &S) -> Result<G::Item, Halt>
     requires below { room < 65535 }
@@ -43,7 +43,7 @@ fn statement_item<
 /// ModuleItem.
 #[tactic(auto, using(es6_cursor::proofs::Rules::groups), unfolding(es6_reading::specs::Modules::one_item))]
 fn one_item<
-    G: MakesItems,
+    G: MakesExports,
     E: Fn(&mut Cursor, u16, Flags, Nested) -> Result<G::Reading, Halt>,
     S: Fn(&mut Cursor, u16, Flags, Stand) -> Result<G::Statement, Halt>,
 >(cursor: &mut Cursor, room: u16, expression: &E, statement: &S) -> Result<G::Item, Halt>
@@ -65,7 +65,7 @@ fn one_item<
 /// The items up to the end of the text.
 #[tactic(auto, using(es6_cursor::proofs::Rules::lists, crate::proofs::ItemLists::item_turns), unfolding(es6_reading::specs::Modules::items))]
 fn items<
-    G: MakesItems,
+    G: MakesWholeModules,
     E: Fn(&mut Cursor, u16, Flags, Nested) -> Result<G::Reading, Halt>,
     S: Fn(&mut Cursor, u16, Flags, Stand) -> Result<G::Statement, Halt>,
 >(cursor: &mut Cursor, room: u16, expression: &E, statement: &S) -> Result<G::Items, Halt>
@@ -88,7 +88,7 @@ fn items<
 /// A module. The end of the text stands last.
 #[tactic(auto, using(es6_cursor::proofs::Rules::groups, crate::proofs::Names::at_end, crate::proofs::Names::no_end), unfolding(es6_reading::specs::Modules::whole_module, es6_reading::specs::Parser::refused))]
 pub fn whole_module<
-    G: MakesItems,
+    G: MakesWholeModules,
     E: Fn(&mut Cursor, u16, Flags, Nested) -> Result<G::Reading, Halt>,
     S: Fn(&mut Cursor, u16, Flags, Stand) -> Result<G::Statement, Halt>,
 >(cursor: &mut Cursor, room: u16, expression: &E, statement: &S) -> Result<G::Module, Halt>

@@ -7,12 +7,12 @@ ghost use Rattle.es6_reading.specs.Parts.{block, statements};
 
 use es6_cursor::{Cursor, Flags, Halt, Stand, Stop, TURNS, enter};
 use es6_lexer::Punctuator;
-use es6_makers::MakesParts;
+use es6_makers::{MakesBlocks, MakesStatementLists};
 
 /// The statements of a block or a function after the opening brace, and the closing brace.
 #[tactic(auto, using(es6_cursor::proofs::Rules::lists, crate::proofs::PartLists::statement_turns), unfolding(es6_reading::specs::Parts::statements))]
 pub fn statements<
-    G: MakesParts,
+    G: MakesStatementLists,
     S: Fn(&mut Cursor, u16, Flags, Stand) -> Result<G::Statement, Halt>,
 >(cursor: &mut Cursor, room: u16, flags: Flags, statement: &S) -> Result<G::Statements, Halt>
     requires statements { ReadsStatements G.seen_statement room (S.pre statement.now) (S.post statement.now) }
@@ -31,7 +31,7 @@ pub fn statements<
 
 /// Block.
 #[tactic(auto, using(es6_cursor::proofs::Rules::groups), unfolding(es6_reading::specs::Parts::block))]
-pub fn block<G: MakesParts, S: Fn(&mut Cursor, u16, Flags, Stand) -> Result<G::Statement, Halt>>(
+pub fn block<G: MakesBlocks, S: Fn(&mut Cursor, u16, Flags, Stand) -> Result<G::Statement, Halt>>(
     cursor: &mut Cursor,
     room: u16,
     flags: Flags,

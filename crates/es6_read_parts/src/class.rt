@@ -10,12 +10,12 @@ use crate::class_members::members;
 use es6_ast::Identifier;
 use es6_cursor::{Cursor, Flags, Halt, Nested, Stand, enter};
 use es6_lexer::Punctuator;
-use es6_makers::MakesParts;
+use es6_makers::{MakesClasses, MakesMembers, MakesOptionals};
 
 /// ClassHeritage, or nothing.
 #[tactic(auto, using(es6_cursor::proofs::Rules::groups), unfolding(es6_reading::specs::Parts::heritage))]
 #[inline(never)]
-fn heritage<G: MakesParts, E: Fn(&mut Cursor, u16, Flags, Nested) -> Result<G::Reading, Halt>>(
+fn heritage<G: MakesOptionals, E: Fn(&mut Cursor, u16, Flags, Nested) -> Result<G::Reading, Halt>>(
     cursor: &mut Cursor,
     room: u16,
     flags: Flags,
@@ -34,7 +34,7 @@ fn heritage<G: MakesParts, E: Fn(&mut Cursor, u16, Flags, Nested) -> Result<G::R
 /// ClassBody in its braces.
 #[tactic(auto, using(es6_cursor::proofs::Rules::groups), unfolding(crate::specs::Classes::class_body))]
 fn class_body<
-    G: MakesParts,
+    G: MakesMembers,
     E: Fn(&mut Cursor, u16, Flags, Nested) -> Result<G::Reading, Halt>,
     S: Fn(&mut Cursor, u16, Flags, Stand) -> Result<G::Statement, Halt>,
 >(
@@ -55,7 +55,7 @@ fn class_body<
 /// What follows the name of a class, which begins at the offset.
 #[tactic(auto, using(es6_cursor::proofs::Rules::groups), unfolding(es6_reading::specs::Parts::rest_of_class, crate::specs::Classes::class_body))]
 fn rest_of_class<
-    G: MakesParts,
+    G: MakesClasses,
     E: Fn(&mut Cursor, u16, Flags, Nested) -> Result<G::Reading, Halt>,
     S: Fn(&mut Cursor, u16, Flags, Stand) -> Result<G::Statement, Halt>,
 >(
@@ -79,7 +79,7 @@ fn rest_of_class<
 
 #[tactic(auto, using(es6_cursor::proofs::Rules::groups), unfolding(es6_reading::specs::Parts::named_class))]
 fn named_class<
-    G: MakesParts,
+    G: MakesClasses,
     E: Fn(&mut Cursor, u16, Flags, Nested) -> Result<G::Reading, Halt>,
     S: Fn(&mut Cursor, u16, Flags, Stand) -> Result<G::Statement, Halt>,
 >(
@@ -110,7 +110,7 @@ fn named_class<
 #[tactic(auto, using(es6_cursor::proofs::Rules::groups), unfolding(es6_reading::specs::Parts::class_after_word))]
 #[inline(never)]
 pub fn class_after_word<
-    G: MakesParts,
+    G: MakesClasses,
     E: Fn(&mut Cursor, u16, Flags, Nested) -> Result<G::Reading, Halt>,
     S: Fn(&mut Cursor, u16, Flags, Stand) -> Result<G::Statement, Halt>,
 >(

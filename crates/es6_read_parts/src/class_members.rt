@@ -10,14 +10,14 @@ use crate::method::{method, method_after_key};
 use es6_ast::MethodKind;
 use es6_cursor::{Cursor, Flags, Halt, Nested, Stand, Stop, TURNS};
 use es6_lexer::Punctuator;
-use es6_makers::MakesParts;
+use es6_makers::MakesMembers;
 use shared_text::Name;
 
 /// What follows `static`, which begins at the offset: the parameters of a method of that name, else a static method.
 #[tactic(auto, using(es6_cursor::proofs::Rules::groups), unfolding(es6_reading::specs::Parts::member_after_static))]
 #[inline(never)]
 fn member_after_static<
-    G: MakesParts,
+    G: MakesMembers,
     E: Fn(&mut Cursor, u16, Flags, Nested) -> Result<G::Reading, Halt>,
     S: Fn(&mut Cursor, u16, Flags, Stand) -> Result<G::Statement, Halt>,
 >(
@@ -54,7 +54,7 @@ fn member_after_static<
 /// A member that is no semicolon.
 #[tactic(auto, using(es6_cursor::proofs::Rules::groups), unfolding(es6_reading::specs::Parts::one_member))]
 pub fn one_member<
-    G: MakesParts,
+    G: MakesMembers,
     E: Fn(&mut Cursor, u16, Flags, Nested) -> Result<G::Reading, Halt>,
     S: Fn(&mut Cursor, u16, Flags, Stand) -> Result<G::Statement, Halt>,
 >(
@@ -79,7 +79,7 @@ pub fn one_member<
 /// The members after the opening brace, and the closing brace.
 #[tactic(auto, using(es6_cursor::proofs::Rules::lists, crate::proofs::PartLists::member_turns), unfolding(es6_reading::specs::Parts::members))]
 pub fn members<
-    G: MakesParts,
+    G: MakesMembers,
     E: Fn(&mut Cursor, u16, Flags, Nested) -> Result<G::Reading, Halt>,
     S: Fn(&mut Cursor, u16, Flags, Stand) -> Result<G::Statement, Halt>,
 >(

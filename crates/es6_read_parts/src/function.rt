@@ -14,12 +14,12 @@ use crate::signature::Signature;
 use es6_ast::Identifier;
 use es6_cursor::{Cursor, Flags, Halt, Nested, Stand, enter};
 use es6_lexer::Punctuator;
-use es6_makers::MakesParts;
+use es6_makers::{MakesFunctions, MakesSignatures, MakesStatementLists};
 
 /// The body of a function or a generator function, in braces.
 #[tactic(auto, using(es6_cursor::proofs::Rules::groups), unfolding(es6_reading::specs::Parts::function_body))]
 pub fn function_body<
-    G: MakesParts,
+    G: MakesStatementLists,
     S: Fn(&mut Cursor, u16, Flags, Stand) -> Result<G::Statement, Halt>,
 >(cursor: &mut Cursor, room: u16, generator: bool, statement: &S) -> Result<G::Statements, Halt>
     requires statements { ReadsStatements G.seen_statement room (S.pre statement.now) (S.post statement.now) }
@@ -32,7 +32,7 @@ pub fn function_body<
 /// The parameters and the body of a function, from the opening parenthesis on.
 #[tactic(auto, using(es6_cursor::proofs::Rules::groups), unfolding(es6_reading::specs::Parts::signature))]
 pub fn signature<
-    G: MakesParts,
+    G: MakesSignatures,
     E: Fn(&mut Cursor, u16, Flags, Nested) -> Result<G::Reading, Halt>,
     S: Fn(&mut Cursor, u16, Flags, Stand) -> Result<G::Statement, Halt>,
 >(
@@ -63,7 +63,7 @@ fn star(cursor: &mut Cursor) -> bool
 /// What follows the name of a function, which begins at the offset.
 #[tactic(auto, using(es6_cursor::proofs::Rules::groups), unfolding(es6_reading::specs::Parts::rest_of_function))]
 fn rest_of_function<
-    G: MakesParts,
+    G: MakesFunctions,
     E: Fn(&mut Cursor, u16, Flags, Nested) -> Result<G::Reading, Halt>,
     S: Fn(&mut Cursor, u16, Flags, Stand) -> Result<G::Statement, Halt>,
 >(
@@ -89,7 +89,7 @@ fn rest_of_function<
 /// The name of a function that begins at the offset, and what follows it (14.1).
 #[tactic(auto, using(es6_cursor::proofs::Rules::groups), unfolding(es6_reading::specs::Parts::named_function))]
 pub fn named_function<
-    G: MakesParts,
+    G: MakesFunctions,
     E: Fn(&mut Cursor, u16, Flags, Nested) -> Result<G::Reading, Halt>,
     S: Fn(&mut Cursor, u16, Flags, Stand) -> Result<G::Statement, Halt>,
 >(
@@ -120,7 +120,7 @@ pub fn named_function<
 #[tactic(auto, using(es6_cursor::proofs::Rules::groups), unfolding(es6_reading::specs::Parts::function_after_word))]
 #[inline(never)]
 pub fn function_after_word<
-    G: MakesParts,
+    G: MakesFunctions,
     E: Fn(&mut Cursor, u16, Flags, Nested) -> Result<G::Reading, Halt>,
     S: Fn(&mut Cursor, u16, Flags, Stand) -> Result<G::Statement, Halt>,
 >(

@@ -9,12 +9,12 @@ use crate::blocks::block;
 use crate::class_members::one_member;
 use crate::patterns::{binding, initialized, one_object_part, one_part};
 use es6_cursor::{Cursor, Flags, Halt, Nested, Stand, Stop};
-use es6_makers::MakesParts;
+use es6_makers::{MakesBindings, MakesBlocks, MakesMembers};
 
 /// Block, which is a construct of its own (13.2).
 #[tactic(auto, using(crate::proofs::Inside::block_none, crate::proofs::Inside::block_some, es6_cursor::proofs::Nests::fewer_statements))]
 pub fn inner_block<
-    G: MakesParts,
+    G: MakesBlocks,
     S: Fn(&mut Cursor, u16, Flags, Stand) -> Result<G::Statement, Halt>,
 >(cursor: &mut Cursor, room: u16, flags: Flags, statement: &S) -> Result<G::Block, Halt>
     requires statements { ReadsStatements G.seen_statement room (S.pre statement.now) (S.post statement.now) }
@@ -30,7 +30,7 @@ pub fn inner_block<
 /// A name that is bound, or a BindingPattern, one construct deeper (13.3.3).
 #[tactic(auto, using(crate::proofs::Inside::target_none, crate::proofs::Inside::target_some, es6_cursor::proofs::Nests::fewer_expressions))]
 pub fn inner_target<
-    G: MakesParts,
+    G: MakesBindings,
     E: Fn(&mut Cursor, u16, Flags, Nested) -> Result<G::Reading, Halt>,
 >(cursor: &mut Cursor, room: u16, flags: Flags, expression: &E) -> Result<G::Pattern, Halt>
     requires expressions { ReadsExpressions G.seen room (E.pre expression.now) (E.post expression.now) }
@@ -47,7 +47,7 @@ pub fn inner_target<
 #[tactic(auto, using(crate::proofs::Inside::part_none, crate::proofs::Inside::part_some, es6_cursor::proofs::Nests::fewer_expressions))]
 #[cycle(reader)]
 pub fn inner_part<
-    G: MakesParts,
+    G: MakesBindings,
     E: Fn(&mut Cursor, u16, Flags, Nested) -> Result<G::Reading, Halt>,
 >(cursor: &mut Cursor, room: u16, flags: Flags, expression: &E) -> Result<G::Part, Halt>
     requires expressions { ReadsExpressions G.seen room (E.pre expression.now) (E.post expression.now) }
@@ -64,7 +64,7 @@ pub fn inner_part<
 #[tactic(auto, using(crate::proofs::Inside::object_part_none, crate::proofs::Inside::object_part_some, es6_cursor::proofs::Nests::fewer_expressions))]
 #[cycle(reader)]
 pub fn inner_object_part<
-    G: MakesParts,
+    G: MakesBindings,
     E: Fn(&mut Cursor, u16, Flags, Nested) -> Result<G::Reading, Halt>,
 >(cursor: &mut Cursor, room: u16, flags: Flags, expression: &E) -> Result<G::ObjectPart, Halt>
     requires expressions { ReadsExpressions G.seen room (E.pre expression.now) (E.post expression.now) }
@@ -80,7 +80,7 @@ pub fn inner_object_part<
 /// A variable, one construct deeper (13.3).
 #[tactic(auto, using(crate::proofs::Inside::variable_none, crate::proofs::Inside::variable_some, es6_cursor::proofs::Nests::fewer_expressions))]
 pub fn inner_variable<
-    G: MakesParts,
+    G: MakesBindings,
     E: Fn(&mut Cursor, u16, Flags, Nested) -> Result<G::Reading, Halt>,
 >(cursor: &mut Cursor, room: u16, flags: Flags, expression: &E) -> Result<G::Part, Halt>
     requires expressions { ReadsExpressions G.seen room (E.pre expression.now) (E.post expression.now) }
@@ -96,7 +96,7 @@ pub fn inner_variable<
 /// A member of a class, which is a construct of its own (14.5).
 #[tactic(auto, using(crate::proofs::Inside::member_none, crate::proofs::Inside::member_some, es6_cursor::proofs::Nests::fewer_expressions, es6_cursor::proofs::Nests::fewer_statements))]
 pub fn inner_member<
-    G: MakesParts,
+    G: MakesMembers,
     E: Fn(&mut Cursor, u16, Flags, Nested) -> Result<G::Reading, Halt>,
     S: Fn(&mut Cursor, u16, Flags, Stand) -> Result<G::Statement, Halt>,
 >(

@@ -7,12 +7,12 @@ ghost use Rattle.es6_reading.specs.Parts.{computed_key, key};
 
 use es6_cursor::{Cursor, Flags, Halt, Nested, open};
 use es6_lexer::Punctuator;
-use es6_makers::MakesParts;
+use es6_makers::MakesKeys;
 
 /// What follows the bracket of a computed name, which begins at the offset.
 #[tactic(auto, using(es6_cursor::proofs::Rules::groups), unfolding(es6_reading::specs::Parts::computed_key))]
 #[inline(never)]
-fn computed_key<G: MakesParts, E: Fn(&mut Cursor, u16, Flags, Nested) -> Result<G::Reading, Halt>>(
+fn computed_key<G: MakesKeys, E: Fn(&mut Cursor, u16, Flags, Nested) -> Result<G::Reading, Halt>>(
     cursor: &mut Cursor,
     room: u16,
     flags: Flags,
@@ -29,7 +29,7 @@ fn computed_key<G: MakesParts, E: Fn(&mut Cursor, u16, Flags, Nested) -> Result<
 
 /// The name of a property.
 #[tactic(auto, using(es6_cursor::proofs::Rules::groups, crate::proofs::PlacedKeys::on_key, crate::proofs::PlacedKeys::off_key))]
-pub fn key<G: MakesParts, E: Fn(&mut Cursor, u16, Flags, Nested) -> Result<G::Reading, Halt>>(
+pub fn key<G: MakesKeys, E: Fn(&mut Cursor, u16, Flags, Nested) -> Result<G::Reading, Halt>>(
     cursor: &mut Cursor,
     room: u16,
     flags: Flags,

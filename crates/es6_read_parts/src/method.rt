@@ -15,14 +15,14 @@ use crate::signature::Signature;
 use es6_ast::MethodKind;
 use es6_cursor::{Cursor, Flags, Halt, Nested, Stand, enter};
 use es6_lexer::Punctuator;
-use es6_makers::MakesParts;
+use es6_makers::{MakesMethods, MakesParameterLists, MakesParameters};
 use shared_text::Name;
 
 /// What follows the name of a method, which begins at the offset.
 #[tactic(auto, using(es6_cursor::proofs::Rules::groups), unfolding(es6_reading::specs::Parts::method_after_key))]
 #[inline(never)]
 pub fn method_after_key<
-    G: MakesParts,
+    G: MakesMethods,
     E: Fn(&mut Cursor, u16, Flags, Nested) -> Result<G::Reading, Halt>,
     S: Fn(&mut Cursor, u16, Flags, Stand) -> Result<G::Statement, Halt>,
 >(
@@ -58,7 +58,7 @@ pub fn method_after_key<
 
 /// The closing parenthesis of a getter's parameters.
 #[tactic(auto, using(es6_cursor::proofs::Rules::groups), unfolding(es6_reading::specs::Parts::no_parameter))]
-fn no_parameter<G: MakesParts>(cursor: &mut Cursor) -> Result<G::Parameters, Halt>
+fn no_parameter<G: MakesParameters>(cursor: &mut Cursor) -> Result<G::Parameters, Halt>
     ensures { ReadsAs G.seen_parameters (no_parameter cursor.old) result cursor.new }
 {
     cursor.expect_mark(Punctuator::RightParenthesis)?;
@@ -67,11 +67,10 @@ fn no_parameter<G: MakesParts>(cursor: &mut Cursor) -> Result<G::Parameters, Hal
 
 /// The parameter of a setter, and the closing parenthesis.
 #[tactic(auto, using(es6_cursor::proofs::Rules::groups), unfolding(es6_reading::specs::Parts::one_parameter))]
-fn one_parameter<G: MakesParts, E: Fn(&mut Cursor, u16, Flags, Nested) -> Result<G::Reading, Halt>>(
-    cursor: &mut Cursor,
-    room: u16,
-    expression: &E,
-) -> Result<G::Parameters, Halt>
+fn one_parameter<
+    G: MakesParameterLists,
+    E: Fn(&mut Cursor, u16, Flags, Nested) -> Result<G::Reading, Halt>,
+>(cursor: &mut Cursor, room: u16, expression: &E) -> Result<G::Parameters, Halt>
     requires expressions { ReadsExpressions G.seen room (E.pre expression.now) (E.post expression.now) }
     ensures { ReadsAs G.seen_parameters (one_parameter (inner room) cursor.old) result cursor.new }
 {
@@ -84,7 +83,7 @@ fn one_parameter<G: MakesParts, E: Fn(&mut Cursor, u16, Flags, Nested) -> Result
 
 #[tactic(auto, using(es6_cursor::proofs::Rules::groups), unfolding(es6_reading::specs::Parts::accessor_parameters))]
 fn accessor_parameters<
-    G: MakesParts,
+    G: MakesParameterLists,
     E: Fn(&mut Cursor, u16, Flags, Nested) -> Result<G::Reading, Halt>,
 >(cursor: &mut Cursor, room: u16, setter: bool, expression: &E) -> Result<G::Parameters, Halt>
     requires expressions { ReadsExpressions G.seen room (E.pre expression.now) (E.post expression.now) }
@@ -110,7 +109,7 @@ fn accessor_kind(setter: bool) -> MethodKind
 /// The parameters of an accessor in parentheses.
 #[tactic(auto, using(es6_cursor::proofs::Rules::groups), unfolding(crate::specs::Accessors::enclosed_parameters))]
 fn enclosed_parameters<
-    G: MakesParts,
+    G: MakesParameterLists,
     E: Fn(&mut Cursor, u16, Flags, Nested) -> Result<G::Reading, Halt>,
 >(cursor: &mut Cursor, room: u16, setter: bool, expression: &E) -> Result<G::Parameters, Halt>
     requires expressions { ReadsExpressions G.seen room (E.pre expression.now) (E.post expression.now) }
@@ -123,7 +122,7 @@ fn enclosed_parameters<
 /// What follows the name of an accessor, which begins at the offset.
 #[tactic(auto, unfolding(crate::specs::Accessors::accessor_after_key))]
 fn accessor_after_key<
-    G: MakesParts,
+    G: MakesMethods,
     E: Fn(&mut Cursor, u16, Flags, Nested) -> Result<G::Reading, Halt>,
     S: Fn(&mut Cursor, u16, Flags, Stand) -> Result<G::Statement, Halt>,
 >(
@@ -160,7 +159,7 @@ fn accessor_after_key<
 #[tactic(auto, using(es6_cursor::proofs::Rules::groups), unfolding(es6_reading::specs::Parts::accessor, crate::specs::Accessors::accessor_after_key, crate::specs::Accessors::enclosed_parameters))]
 #[inline(never)]
 pub fn accessor<
-    G: MakesParts,
+    G: MakesMethods,
     E: Fn(&mut Cursor, u16, Flags, Nested) -> Result<G::Reading, Halt>,
     S: Fn(&mut Cursor, u16, Flags, Stand) -> Result<G::Statement, Halt>,
 >(
@@ -183,7 +182,7 @@ pub fn accessor<
 /// What follows the `*` of a generator method, which begins at the offset.
 #[tactic(auto, using(es6_cursor::proofs::Rules::groups), unfolding(es6_reading::specs::Parts::generator_method))]
 pub fn generator_method<
-    G: MakesParts,
+    G: MakesMethods,
     E: Fn(&mut Cursor, u16, Flags, Nested) -> Result<G::Reading, Halt>,
     S: Fn(&mut Cursor, u16, Flags, Stand) -> Result<G::Statement, Halt>,
 >(
@@ -222,7 +221,7 @@ pub fn accessor_name(setter: bool) -> &'static [u8]
 #[tactic(auto, using(es6_cursor::proofs::Rules::groups), unfolding(es6_reading::specs::Parts::method_after_accessor_word))]
 #[inline(never)]
 fn method_after_accessor_word<
-    G: MakesParts,
+    G: MakesMethods,
     E: Fn(&mut Cursor, u16, Flags, Nested) -> Result<G::Reading, Halt>,
     S: Fn(&mut Cursor, u16, Flags, Stand) -> Result<G::Statement, Halt>,
 >(
@@ -259,7 +258,7 @@ fn method_after_accessor_word<
 /// MethodDefinition.
 #[tactic(auto, using(es6_cursor::proofs::Rules::groups), unfolding(es6_reading::specs::Parts::method))]
 pub fn method<
-    G: MakesParts,
+    G: MakesMethods,
     E: Fn(&mut Cursor, u16, Flags, Nested) -> Result<G::Reading, Halt>,
     S: Fn(&mut Cursor, u16, Flags, Stand) -> Result<G::Statement, Halt>,
 >(

@@ -9,12 +9,12 @@ ghost use Rattle.es6_read_parts.specs.Patterns.{last_parameter};
 use crate::inner::inner_part;
 use es6_cursor::{Cursor, Flags, Halt, Nested, Stop, TURNS};
 use es6_lexer::Punctuator;
-use es6_makers::MakesParts;
+use es6_makers::{MakesParameterLists, MakesParameters};
 
 /// These parameters, and what follows the `...` of a rest, which begins at the offset, up to the closing parenthesis.
 #[tactic(auto, using(es6_cursor::proofs::Rules::groups), unfolding(crate::specs::Patterns::last_parameter, es6_reading::specs::Parts::rest_parameter))]
 #[inline(never)]
-fn last_parameter<G: MakesParts>(
+fn last_parameter<G: MakesParameters>(
     cursor: &mut Cursor,
     begin: u32,
     parameters: G::Parameters,
@@ -34,7 +34,7 @@ fn last_parameter<G: MakesParts>(
 #[tactic(auto, using(es6_cursor::proofs::Rules::lists, crate::proofs::PartLists::parameter_turns), unfolding(es6_reading::specs::Parts::more_parameters))]
 #[inline(never)]
 fn more_parameters<
-    G: MakesParts,
+    G: MakesParameterLists,
     E: Fn(&mut Cursor, u16, Flags, Nested) -> Result<G::Reading, Halt>,
 >(cursor: &mut Cursor, room: u16, flags: Flags, expression: &E) -> Result<G::Parameters, Halt>
     requires expressions { ReadsExpressions G.seen room (E.pre expression.now) (E.post expression.now) }
@@ -59,7 +59,7 @@ fn more_parameters<
 /// The parameters after the opening parenthesis, and the closing parenthesis.
 #[tactic(auto, using(es6_cursor::proofs::Rules::groups), unfolding(es6_reading::specs::Parts::parameters))]
 pub fn parameters<
-    G: MakesParts,
+    G: MakesParameterLists,
     E: Fn(&mut Cursor, u16, Flags, Nested) -> Result<G::Reading, Halt>,
 >(cursor: &mut Cursor, room: u16, flags: Flags, expression: &E) -> Result<G::Parameters, Halt>
     requires expressions { ReadsExpressions G.seen room (E.pre expression.now) (E.post expression.now) }

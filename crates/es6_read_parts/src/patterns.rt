@@ -11,12 +11,12 @@ use crate::keys::key;
 use es6_ast::Identifier;
 use es6_cursor::{Cursor, Flags, Halt, Nested, Stop, TURNS, enter, open};
 use es6_lexer::Punctuator;
-use es6_makers::MakesParts;
+use es6_makers::{MakesArrayParts, MakesBindings, MakesObjectParts};
 
 /// These parts, and what follows the `...` of a rest, which begins at the offset, up to the closing bracket.
 #[tactic(auto, using(es6_cursor::proofs::Rules::groups), unfolding(es6_reading::specs::Parts::rest_part))]
 #[inline(never)]
-fn rest_part<G: MakesParts>(
+fn rest_part<G: MakesArrayParts>(
     cursor: &mut Cursor,
     begin: u32,
     parts: G::ArrayParts,
@@ -36,12 +36,10 @@ fn rest_part<G: MakesParts>(
 #[tactic(auto, using(es6_cursor::proofs::Rules::lists, crate::proofs::PatternLists::array_turns), unfolding(es6_reading::specs::Parts::array_parts))]
 #[cycle(reader)]
 #[inline(never)]
-fn array_parts<G: MakesParts, E: Fn(&mut Cursor, u16, Flags, Nested) -> Result<G::Reading, Halt>>(
-    cursor: &mut Cursor,
-    room: u16,
-    flags: Flags,
-    expression: &E,
-) -> Result<G::ArrayParts, Halt>
+fn array_parts<
+    G: MakesBindings,
+    E: Fn(&mut Cursor, u16, Flags, Nested) -> Result<G::Reading, Halt>,
+>(cursor: &mut Cursor, room: u16, flags: Flags, expression: &E) -> Result<G::ArrayParts, Halt>
     requires expressions { ReadsExpressions G.seen room (E.pre expression.now) (E.post expression.now) }
     ensures { ReadsAs G.seen_array_parts (array_parts (inner room) flags (inner room).fuel cursor.old) result cursor.new }
 {
@@ -72,12 +70,10 @@ fn array_parts<G: MakesParts, E: Fn(&mut Cursor, u16, Flags, Nested) -> Result<G
 #[tactic(auto, using(es6_cursor::proofs::Rules::lists, crate::proofs::PatternLists::object_turns), unfolding(es6_reading::specs::Parts::object_parts))]
 #[cycle(reader)]
 #[inline(never)]
-fn object_parts<G: MakesParts, E: Fn(&mut Cursor, u16, Flags, Nested) -> Result<G::Reading, Halt>>(
-    cursor: &mut Cursor,
-    room: u16,
-    flags: Flags,
-    expression: &E,
-) -> Result<G::ObjectParts, Halt>
+fn object_parts<
+    G: MakesBindings,
+    E: Fn(&mut Cursor, u16, Flags, Nested) -> Result<G::Reading, Halt>,
+>(cursor: &mut Cursor, room: u16, flags: Flags, expression: &E) -> Result<G::ObjectParts, Halt>
     requires expressions { ReadsExpressions G.seen room (E.pre expression.now) (E.post expression.now) }
     ensures { ReadsAs G.seen_object_parts (object_parts (inner room) flags (inner room).fuel cursor.old) result cursor.new }
 {
@@ -101,7 +97,7 @@ fn object_parts<G: MakesParts, E: Fn(&mut Cursor, u16, Flags, Nested) -> Result<
 #[cycle(reader)]
 #[inline(never)]
 fn object_pattern<
-    G: MakesParts,
+    G: MakesBindings,
     E: Fn(&mut Cursor, u16, Flags, Nested) -> Result<G::Reading, Halt>,
 >(
     cursor: &mut Cursor,
@@ -123,7 +119,7 @@ fn object_pattern<
 #[cycle(reader)]
 #[inline(never)]
 fn binding_pattern<
-    G: MakesParts,
+    G: MakesBindings,
     E: Fn(&mut Cursor, u16, Flags, Nested) -> Result<G::Reading, Halt>,
 >(
     cursor: &mut Cursor,
@@ -145,12 +141,10 @@ fn binding_pattern<
 /// A name that is bound, or a BindingPattern.
 #[tactic(auto, using(es6_cursor::proofs::Rules::groups), unfolding(es6_reading::specs::Parts::binding))]
 #[cycle(reader)]
-pub fn binding<G: MakesParts, E: Fn(&mut Cursor, u16, Flags, Nested) -> Result<G::Reading, Halt>>(
-    cursor: &mut Cursor,
-    room: u16,
-    flags: Flags,
-    expression: &E,
-) -> Result<G::Pattern, Halt>
+pub fn binding<
+    G: MakesBindings,
+    E: Fn(&mut Cursor, u16, Flags, Nested) -> Result<G::Reading, Halt>,
+>(cursor: &mut Cursor, room: u16, flags: Flags, expression: &E) -> Result<G::Pattern, Halt>
     requires expressions { ReadsExpressions G.seen room (E.pre expression.now) (E.post expression.now) }
     ensures { ReadsAs G.seen_pattern (binding (inner room) flags cursor.old) result cursor.new }
 {
@@ -166,7 +160,7 @@ pub fn binding<G: MakesParts, E: Fn(&mut Cursor, u16, Flags, Nested) -> Result<G
 #[tactic(auto, using(es6_cursor::proofs::Rules::groups), unfolding(es6_reading::specs::Parts::initialized))]
 #[cycle(reader)]
 pub fn initialized<
-    G: MakesParts,
+    G: MakesBindings,
     E: Fn(&mut Cursor, u16, Flags, Nested) -> Result<G::Reading, Halt>,
 >(
     cursor: &mut Cursor,
@@ -181,21 +175,19 @@ pub fn initialized<
     let begin = cursor.begin();
     let pattern = binding::<G, E>(cursor, room, flags, expression)?;
     if !cursor.take_mark(Punctuator::Assign) {
-        return Ok(G::part(cursor.span_from(begin), pattern, G::absent()));
+        return Ok(G::part(cursor.span_from(begin), pattern));
     }
     let value = expression(cursor, room, value_flags, Nested::Assignment)?;
-    Ok(G::part(cursor.span_from(begin), pattern, G::present(value)))
+    Ok(G::part_with_default(cursor.span_from(begin), pattern, value))
 }
 
 /// BindingElement.
 #[tactic(auto, using(es6_cursor::proofs::Rules::groups), unfolding(es6_reading::specs::Parts::one_part))]
 #[cycle(reader)]
-pub fn one_part<G: MakesParts, E: Fn(&mut Cursor, u16, Flags, Nested) -> Result<G::Reading, Halt>>(
-    cursor: &mut Cursor,
-    room: u16,
-    flags: Flags,
-    expression: &E,
-) -> Result<G::Part, Halt>
+pub fn one_part<
+    G: MakesBindings,
+    E: Fn(&mut Cursor, u16, Flags, Nested) -> Result<G::Reading, Halt>,
+>(cursor: &mut Cursor, room: u16, flags: Flags, expression: &E) -> Result<G::Part, Halt>
     requires expressions { ReadsExpressions G.seen room (E.pre expression.now) (E.post expression.now) }
     ensures { ReadsAs G.seen_part (one_part (inner room) flags cursor.old) result cursor.new }
 {
@@ -205,7 +197,7 @@ pub fn one_part<G: MakesParts, E: Fn(&mut Cursor, u16, Flags, Nested) -> Result<
 /// What follows the colon of a property with this key, which begins at the offset.
 #[tactic(auto, using(es6_cursor::proofs::Rules::groups), unfolding(es6_reading::specs::Parts::keyed_part))]
 #[cycle(reader)]
-fn keyed_part<G: MakesParts, E: Fn(&mut Cursor, u16, Flags, Nested) -> Result<G::Reading, Halt>>(
+fn keyed_part<G: MakesBindings, E: Fn(&mut Cursor, u16, Flags, Nested) -> Result<G::Reading, Halt>>(
     cursor: &mut Cursor,
     room: u16,
     flags: Flags,
@@ -223,7 +215,10 @@ fn keyed_part<G: MakesParts, E: Fn(&mut Cursor, u16, Flags, Nested) -> Result<G:
 /// What follows a name that is bound under itself and begins at the offset: its default, or nothing.
 #[tactic(auto, using(es6_cursor::proofs::Rules::groups), unfolding(es6_reading::specs::Parts::named_part))]
 #[inline(never)]
-fn named_part<G: MakesParts, E: Fn(&mut Cursor, u16, Flags, Nested) -> Result<G::Reading, Halt>>(
+fn named_part<
+    G: MakesObjectParts,
+    E: Fn(&mut Cursor, u16, Flags, Nested) -> Result<G::Reading, Halt>,
+>(
     cursor: &mut Cursor,
     room: u16,
     flags: Flags,
@@ -237,11 +232,11 @@ fn named_part<G: MakesParts, E: Fn(&mut Cursor, u16, Flags, Nested) -> Result<G:
     if !cursor.take_mark(Punctuator::Assign) {
         let span = name.span;
         let pattern = G::name_target(cursor.alloc(), name)?;
-        return Ok(G::named_part(G::part(span, pattern, G::absent())));
+        return Ok(G::named_part(G::part(span, pattern)));
     }
     let value = expression(cursor, room, flags.with_in(), Nested::Assignment)?;
     let pattern = G::name_target(cursor.alloc(), name)?;
-    let part = G::part(cursor.span_from(begin), pattern, G::present(value));
+    let part = G::part_with_default(cursor.span_from(begin), pattern, value);
     Ok(G::named_part(part))
 }
 
@@ -249,7 +244,7 @@ fn named_part<G: MakesParts, E: Fn(&mut Cursor, u16, Flags, Nested) -> Result<G:
 #[tactic(auto, using(es6_cursor::proofs::Rules::groups), unfolding(es6_reading::specs::Parts::one_object_part))]
 #[cycle(reader)]
 pub fn one_object_part<
-    G: MakesParts,
+    G: MakesBindings,
     E: Fn(&mut Cursor, u16, Flags, Nested) -> Result<G::Reading, Halt>,
 >(cursor: &mut Cursor, room: u16, flags: Flags, expression: &E) -> Result<G::ObjectPart, Halt>
     requires expressions { ReadsExpressions G.seen room (E.pre expression.now) (E.post expression.now) }

@@ -10,16 +10,14 @@ ghost use Rattle.std.specs.Prelude.{true};
 use crate::conditions::parenthesized;
 use es6_cursor::{Cursor, Flags, Halt, Nested, Stand, Stop, TURNS, enter};
 use es6_lexer::Punctuator;
-use es6_makers::MakesStatements;
+use es6_makers::{MakesCases, MakesStatementLists};
 
 /// The statements of a clause.
 #[tactic(auto, using(es6_cursor::proofs::Rules::lists, crate::proofs::CaseLists::in_case_turn, crate::proofs::CaseLists::in_case_more, crate::proofs::CaseLists::in_case_end), unfolding(es6_reading::specs::Statements::in_case))]
-fn in_case<G: MakesStatements, S: Fn(&mut Cursor, u16, Flags, Stand) -> Result<G::Statement, Halt>>(
-    cursor: &mut Cursor,
-    room: u16,
-    flags: Flags,
-    statement: &S,
-) -> Result<G::Statements, Halt>
+fn in_case<
+    G: MakesStatementLists,
+    S: Fn(&mut Cursor, u16, Flags, Stand) -> Result<G::Statement, Halt>,
+>(cursor: &mut Cursor, room: u16, flags: Flags, statement: &S) -> Result<G::Statements, Halt>
     requires statements { ReadsStatements G.seen_statement room (S.pre statement.now) (S.post statement.now) }
     ensures { ReadsAs G.seen_statements (in_case (inner room) flags (inner room).fuel cursor.old) result cursor.new }
 {
@@ -37,7 +35,7 @@ fn in_case<G: MakesStatements, S: Fn(&mut Cursor, u16, Flags, Stand) -> Result<G
 /// What follows the word `case`.
 #[tactic(auto, using(es6_cursor::proofs::Rules::groups), unfolding(es6_reading::specs::Statements::case_clause))]
 fn case_clause<
-    G: MakesStatements,
+    G: MakesCases,
     E: Fn(&mut Cursor, u16, Flags, Nested) -> Result<G::Reading, Halt>,
     S: Fn(&mut Cursor, u16, Flags, Stand) -> Result<G::Statement, Halt>,
 >(
@@ -61,7 +59,7 @@ fn case_clause<
 /// What follows the word `default`.
 #[tactic(auto, using(es6_cursor::proofs::Rules::groups), unfolding(es6_reading::specs::Statements::default_clause))]
 fn default_clause<
-    G: MakesStatements,
+    G: MakesCases,
     S: Fn(&mut Cursor, u16, Flags, Stand) -> Result<G::Statement, Halt>,
 >(cursor: &mut Cursor, room: u16, flags: Flags, begin: u32, statement: &S) -> Result<G::Case, Halt>
     requires statements { ReadsStatements G.seen_statement room (S.pre statement.now) (S.post statement.now) }
@@ -82,7 +80,7 @@ pub struct Clause<C: Drop> {
 /// A clause, which begins at the offset. It may be the default clause if there was none before.
 #[tactic(auto, using(es6_cursor::proofs::Rules::groups), unfolding(crate::specs::Enclosed::one_clause, es6_reading::specs::Parser::refused))]
 fn one_clause<
-    G: MakesStatements,
+    G: MakesCases,
     E: Fn(&mut Cursor, u16, Flags, Nested) -> Result<G::Reading, Halt>,
     S: Fn(&mut Cursor, u16, Flags, Stand) -> Result<G::Statement, Halt>,
 >(
@@ -118,7 +116,7 @@ fn one_clause<
 /// The clauses after the opening brace, of which one may be the default, and the closing brace.
 #[tactic(auto, using(es6_cursor::proofs::Rules::lists, crate::proofs::CaseLists::cases_turns))]
 fn cases<
-    G: MakesStatements,
+    G: MakesCases,
     E: Fn(&mut Cursor, u16, Flags, Nested) -> Result<G::Reading, Halt>,
     S: Fn(&mut Cursor, u16, Flags, Stand) -> Result<G::Statement, Halt>,
 >(
@@ -157,7 +155,7 @@ fn cases<
 /// CaseBlock.
 #[tactic(auto, using(crate::proofs::Enclosed::in_block, crate::proofs::Enclosed::no_block))]
 fn case_block<
-    G: MakesStatements,
+    G: MakesCases,
     E: Fn(&mut Cursor, u16, Flags, Nested) -> Result<G::Reading, Halt>,
     S: Fn(&mut Cursor, u16, Flags, Stand) -> Result<G::Statement, Halt>,
 >(
@@ -179,7 +177,7 @@ fn case_block<
 #[tactic(auto, unfolding(es6_reading::specs::Statements::switch_statement, crate::specs::Enclosed::case_block))]
 #[inline(never)]
 pub fn switch_statement<
-    G: MakesStatements,
+    G: MakesCases,
     E: Fn(&mut Cursor, u16, Flags, Nested) -> Result<G::Reading, Halt>,
     S: Fn(&mut Cursor, u16, Flags, Stand) -> Result<G::Statement, Halt>,
 >(

@@ -10,11 +10,11 @@ ghost use Rattle.es6_reading.specs.Statements.{condition, if_statement, otherwis
 
 use es6_cursor::{Cursor, Flags, Halt, Nested, Stand, Stop, TURNS, enter};
 use es6_lexer::Punctuator;
-use es6_makers::MakesStatements;
+use es6_makers::{MakesConditions, MakesReadings, MakesSimpleStatements};
 
 /// The statement under another.
 pub fn under<
-    G: MakesStatements,
+    G: MakesSimpleStatements,
     S: Fn(&mut Cursor, u16, Flags, Stand) -> Result<G::Statement, Halt>,
 >(cursor: &mut Cursor, room: u16, flags: Flags, statement: &S) -> Result<G::Statement, Halt>
     requires statements { ReadsStatements G.seen_statement room (S.pre statement.now) (S.post statement.now) }
@@ -26,7 +26,7 @@ pub fn under<
 /// An expression behind an opening parenthesis, and the closing one.
 #[tactic(auto, using(es6_cursor::proofs::Rules::groups), unfolding(crate::specs::Enclosed::closed_expression))]
 fn closed_expression<
-    G: MakesStatements,
+    G: MakesReadings,
     E: Fn(&mut Cursor, u16, Flags, Nested) -> Result<G::Reading, Halt>,
 >(cursor: &mut Cursor, room: u16, flags: Flags, expression: &E) -> Result<G::Reading, Halt>
     requires expressions { ReadsExpressions G.seen room (E.pre expression.now) (E.post expression.now) }
@@ -40,7 +40,7 @@ fn closed_expression<
 /// An expression in parentheses.
 #[tactic(auto, using(crate::proofs::Enclosed::in_parentheses, crate::proofs::Enclosed::no_parentheses))]
 pub fn parenthesized<
-    G: MakesStatements,
+    G: MakesReadings,
     E: Fn(&mut Cursor, u16, Flags, Nested) -> Result<G::Reading, Halt>,
 >(cursor: &mut Cursor, room: u16, flags: Flags, expression: &E) -> Result<G::Reading, Halt>
     requires expressions { ReadsExpressions G.seen room (E.pre expression.now) (E.post expression.now) }
@@ -53,7 +53,7 @@ pub fn parenthesized<
 /// From `if` to the end of the statement under it.
 #[tactic(auto, using(es6_cursor::proofs::Rules::groups), unfolding(es6_reading::specs::Statements::condition))]
 fn condition<
-    G: MakesStatements,
+    G: MakesConditions,
     E: Fn(&mut Cursor, u16, Flags, Nested) -> Result<G::Reading, Halt>,
     S: Fn(&mut Cursor, u16, Flags, Stand) -> Result<G::Statement, Halt>,
 >(
@@ -85,7 +85,7 @@ pub enum Alternative<C: Drop, T: Drop> {
 
 #[tactic(auto, using(es6_cursor::proofs::Rules::groups), unfolding(crate::specs::Enclosed::one_alternative))]
 fn one_alternative<
-    G: MakesStatements,
+    G: MakesConditions,
     E: Fn(&mut Cursor, u16, Flags, Nested) -> Result<G::Reading, Halt>,
     S: Fn(&mut Cursor, u16, Flags, Stand) -> Result<G::Statement, Halt>,
 >(
@@ -120,7 +120,7 @@ pub struct Alternatives<C: Drop, T: Drop> {
 /// Each `else` behind a condition.
 #[tactic(auto, using(es6_cursor::proofs::Rules::lists, crate::proofs::Alternatives::otherwise_turns))]
 fn otherwise<
-    G: MakesStatements,
+    G: MakesConditions,
     E: Fn(&mut Cursor, u16, Flags, Nested) -> Result<G::Reading, Halt>,
     S: Fn(&mut Cursor, u16, Flags, Stand) -> Result<G::Statement, Halt>,
 >(
@@ -154,7 +154,7 @@ fn otherwise<
 #[tactic(auto, unfolding(es6_reading::specs::Statements::if_statement))]
 #[inline(never)]
 pub fn if_statement<
-    G: MakesStatements,
+    G: MakesConditions,
     E: Fn(&mut Cursor, u16, Flags, Nested) -> Result<G::Reading, Halt>,
     S: Fn(&mut Cursor, u16, Flags, Stand) -> Result<G::Statement, Halt>,
 >(

@@ -6,14 +6,14 @@ ghost use Rattle.es6_cursor.specs.Reads.{ReadsAs};
 ghost use Rattle.es6_reading.specs.Statements.{class_declaration, function_declaration, labelled_function};
 
 use es6_cursor::{Cursor, Flags, Halt, Nested, Stand};
-use es6_makers::MakesStatements;
+use es6_makers::{MakesClasses, MakesFunctions};
 use es6_read_parts::{class_after_word, function_after_word, named_function};
 
 /// What follows the word `function`, which begins at the offset.
 #[tactic(auto, unfolding(es6_reading::specs::Statements::function_declaration))]
 #[inline(never)]
 pub fn function_declaration<
-    G: MakesStatements,
+    G: MakesFunctions,
     E: Fn(&mut Cursor, u16, Flags, Nested) -> Result<G::Reading, Halt>,
     S: Fn(&mut Cursor, u16, Flags, Stand) -> Result<G::Statement, Halt>,
 >(
@@ -37,7 +37,7 @@ pub fn function_declaration<
 #[tactic(auto, unfolding(es6_reading::specs::Statements::class_declaration))]
 #[inline(never)]
 pub fn class_declaration<
-    G: MakesStatements,
+    G: MakesClasses,
     E: Fn(&mut Cursor, u16, Flags, Nested) -> Result<G::Reading, Halt>,
     S: Fn(&mut Cursor, u16, Flags, Stand) -> Result<G::Statement, Halt>,
 >(
@@ -62,7 +62,7 @@ pub fn class_declaration<
 #[tactic(auto, unfolding(es6_reading::specs::Statements::labelled_function))]
 #[inline(never)]
 pub fn labelled_function<
-    G: MakesStatements,
+    G: MakesFunctions,
     E: Fn(&mut Cursor, u16, Flags, Nested) -> Result<G::Reading, Halt>,
     S: Fn(&mut Cursor, u16, Flags, Stand) -> Result<G::Statement, Halt>,
 >(

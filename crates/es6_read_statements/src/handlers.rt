@@ -8,12 +8,12 @@ ghost use Rattle.es6_reading.specs.Statements.{after_handler, catch_parameter, h
 
 use es6_cursor::{Cursor, Flags, Halt, Nested, Stand, enter};
 use es6_lexer::Punctuator;
-use es6_makers::MakesStatements;
+use es6_makers::{MakesBindings, MakesCatches, MakesTries};
 use es6_read_parts::{block, inner_target};
 
 #[tactic(auto, using(es6_cursor::proofs::Rules::groups), unfolding(es6_reading::specs::Statements::catch_parameter))]
 fn catch_parameter<
-    G: MakesStatements,
+    G: MakesBindings,
     E: Fn(&mut Cursor, u16, Flags, Nested) -> Result<G::Reading, Halt>,
 >(cursor: &mut Cursor, room: u16, flags: Flags, expression: &E) -> Result<G::Pattern, Halt>
     requires expressions { ReadsExpressions G.seen room (E.pre expression.now) (E.post expression.now) }
@@ -27,7 +27,7 @@ fn catch_parameter<
 /// CatchParameter in its parentheses.
 #[tactic(auto, using(crate::proofs::Enclosed::in_parameter, crate::proofs::Enclosed::no_parameter))]
 fn enclosed_parameter<
-    G: MakesStatements,
+    G: MakesBindings,
     E: Fn(&mut Cursor, u16, Flags, Nested) -> Result<G::Reading, Halt>,
 >(cursor: &mut Cursor, room: u16, flags: Flags, expression: &E) -> Result<G::Pattern, Halt>
     requires expressions { ReadsExpressions G.seen room (E.pre expression.now) (E.post expression.now) }
@@ -39,7 +39,7 @@ fn enclosed_parameter<
 
 #[tactic(auto, using(es6_cursor::proofs::Rules::groups), unfolding(es6_reading::specs::Statements::handler, crate::specs::Enclosed::enclosed_parameter))]
 fn handler<
-    G: MakesStatements,
+    G: MakesCatches,
     E: Fn(&mut Cursor, u16, Flags, Nested) -> Result<G::Reading, Halt>,
     S: Fn(&mut Cursor, u16, Flags, Stand) -> Result<G::Statement, Halt>,
 >(
@@ -63,7 +63,7 @@ fn handler<
 /// The finally behind a catch, if there is one.
 #[tactic(auto, using(es6_cursor::proofs::Rules::groups), unfolding(es6_reading::specs::Statements::after_handler))]
 fn after_handler<
-    G: MakesStatements,
+    G: MakesTries,
     S: Fn(&mut Cursor, u16, Flags, Stand) -> Result<G::Statement, Halt>,
 >(
     cursor: &mut Cursor,
@@ -87,10 +87,7 @@ fn after_handler<
 
 /// The finally behind a block with no catch.
 #[tactic(auto, unfolding(es6_reading::specs::Statements::only_finally))]
-fn only_finally<
-    G: MakesStatements,
-    S: Fn(&mut Cursor, u16, Flags, Stand) -> Result<G::Statement, Halt>,
->(
+fn only_finally<G: MakesTries, S: Fn(&mut Cursor, u16, Flags, Stand) -> Result<G::Statement, Halt>>(
     cursor: &mut Cursor,
     room: u16,
     flags: Flags,
@@ -110,7 +107,7 @@ fn only_finally<
 #[tactic(auto, using(es6_cursor::proofs::Rules::groups), unfolding(es6_reading::specs::Statements::try_statement))]
 #[inline(never)]
 pub fn try_statement<
-    G: MakesStatements,
+    G: MakesCatches,
     E: Fn(&mut Cursor, u16, Flags, Nested) -> Result<G::Reading, Halt>,
     S: Fn(&mut Cursor, u16, Flags, Stand) -> Result<G::Statement, Halt>,
 >(

@@ -8,12 +8,12 @@ ghost use Rattle.std.specs.Prelude.{◌+◌, ◌<◌};
 
 use crate::sequence::sequence;
 use es6_cursor::{Cursor, Flags, Halt, Nested};
-use es6_makers::MakesStatements;
+use es6_makers::{MakesExpressionStatements, MakesOptionals, MakesReturns, MakesSimpleStatements};
 
 /// What follows the word `continue` (13.8).
 #[tactic(auto, using(es6_cursor::proofs::Rules::statements), unfolding(es6_reading::specs::Statements::continue_statement))]
 #[inline(never)]
-pub fn continue_statement<G: MakesStatements>(
+pub fn continue_statement<G: MakesSimpleStatements>(
     cursor: &mut Cursor,
     room: u16,
     begin: u32,
@@ -28,7 +28,7 @@ pub fn continue_statement<G: MakesStatements>(
 /// What follows the word `break` (13.9).
 #[tactic(auto, using(es6_cursor::proofs::Rules::statements), unfolding(es6_reading::specs::Statements::break_statement))]
 #[inline(never)]
-pub fn break_statement<G: MakesStatements>(
+pub fn break_statement<G: MakesSimpleStatements>(
     cursor: &mut Cursor,
     room: u16,
     begin: u32,
@@ -42,7 +42,7 @@ pub fn break_statement<G: MakesStatements>(
 
 /// The value of a `return`, if it has one.
 #[tactic(auto, using(es6_cursor::proofs::Rules::groups), unfolding(es6_reading::specs::Statements::returned))]
-fn returned<G: MakesStatements, E: Fn(&mut Cursor, u16, Flags, Nested) -> Result<G::Reading, Halt>>(
+fn returned<G: MakesOptionals, E: Fn(&mut Cursor, u16, Flags, Nested) -> Result<G::Reading, Halt>>(
     cursor: &mut Cursor,
     room: u16,
     flags: Flags,
@@ -63,7 +63,7 @@ fn returned<G: MakesStatements, E: Fn(&mut Cursor, u16, Flags, Nested) -> Result
 #[tactic(auto, using(es6_cursor::proofs::Rules::statements), unfolding(es6_reading::specs::Statements::return_statement))]
 #[inline(never)]
 pub fn return_statement<
-    G: MakesStatements,
+    G: MakesReturns,
     E: Fn(&mut Cursor, u16, Flags, Nested) -> Result<G::Reading, Halt>,
 >(
     cursor: &mut Cursor,
@@ -85,7 +85,7 @@ pub fn return_statement<
 #[tactic(auto, using(es6_cursor::proofs::Rules::statements), unfolding(es6_reading::specs::Statements::throw_statement, es6_reading::specs::Parser::refused))]
 #[inline(never)]
 pub fn throw_statement<
-    G: MakesStatements,
+    G: MakesExpressionStatements,
     E: Fn(&mut Cursor, u16, Flags, Nested) -> Result<G::Reading, Halt>,
 >(
     cursor: &mut Cursor,
@@ -109,7 +109,7 @@ pub fn throw_statement<
 /// What follows the word `debugger` (13.16).
 #[tactic(auto, using(es6_cursor::proofs::Rules::statements), unfolding(es6_reading::specs::Statements::debugger_statement))]
 #[inline(never)]
-pub fn debugger_statement<G: MakesStatements>(
+pub fn debugger_statement<G: MakesSimpleStatements>(
     cursor: &mut Cursor,
     room: u16,
     begin: u32,

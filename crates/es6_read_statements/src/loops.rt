@@ -15,7 +15,10 @@ use es_text::Span;
 use es6_ast::{AssignOperator, VariableKind};
 use es6_cursor::{Cursor, Flags, Halt, Nested, Stand, Stop, enter};
 use es6_lexer::Punctuator;
-use es6_makers::MakesStatements;
+use es6_makers::{
+    MakesExpressionStatements, MakesForAssignments, MakesForHeaders, MakesForStatements,
+    MakesForVariables, MakesLoops, MakesOptionals,
+};
 use es6_read_parts::inner_variable;
 use std::alloc::{AllocError, Global};
 
@@ -23,7 +26,7 @@ use std::alloc::{AllocError, Global};
 #[tactic(auto, using(es6_cursor::proofs::Rules::statements), unfolding(es6_reading::specs::Statements::do_statement))]
 #[inline(never)]
 pub fn do_statement<
-    G: MakesStatements,
+    G: MakesExpressionStatements,
     E: Fn(&mut Cursor, u16, Flags, Nested) -> Result<G::Reading, Halt>,
     S: Fn(&mut Cursor, u16, Flags, Stand) -> Result<G::Statement, Halt>,
 >(
@@ -50,7 +53,7 @@ pub fn do_statement<
 #[tactic(auto, unfolding(es6_reading::specs::Statements::while_statement))]
 #[inline(never)]
 pub fn while_statement<
-    G: MakesStatements,
+    G: MakesExpressionStatements,
     E: Fn(&mut Cursor, u16, Flags, Nested) -> Result<G::Reading, Halt>,
     S: Fn(&mut Cursor, u16, Flags, Stand) -> Result<G::Statement, Halt>,
 >(
@@ -80,7 +83,7 @@ pub enum Header<F: Drop, O: Drop, T: Drop, R: Drop> {
 
 /// An expression, if there is one, and the mark behind it.
 #[tactic(auto, using(es6_cursor::proofs::Rules::groups), unfolding(es6_reading::specs::Statements::optional))]
-fn optional<G: MakesStatements, E: Fn(&mut Cursor, u16, Flags, Nested) -> Result<G::Reading, Halt>>(
+fn optional<G: MakesOptionals, E: Fn(&mut Cursor, u16, Flags, Nested) -> Result<G::Reading, Halt>>(
     cursor: &mut Cursor,
     room: u16,
     flags: Flags,
@@ -101,7 +104,7 @@ fn optional<G: MakesStatements, E: Fn(&mut Cursor, u16, Flags, Nested) -> Result
 /// What follows the first semicolon.
 #[tactic(auto, unfolding(es6_reading::specs::Statements::rest_of_for))]
 fn rest_of_for<
-    G: MakesStatements,
+    G: MakesForHeaders,
     E: Fn(&mut Cursor, u16, Flags, Nested) -> Result<G::Reading, Halt>,
 >(
     cursor: &mut Cursor,
@@ -131,7 +134,7 @@ fn rest_of_for<
 /// What follows `of`.
 #[tactic(auto, using(es6_cursor::proofs::Rules::groups), unfolding(es6_reading::specs::Statements::rest_of_of))]
 fn rest_of_of<
-    G: MakesStatements,
+    G: MakesForHeaders,
     E: Fn(&mut Cursor, u16, Flags, Nested) -> Result<G::Reading, Halt>,
 >(
     cursor: &mut Cursor,
@@ -151,7 +154,7 @@ fn rest_of_of<
 /// The first semicolon, behind these variables.
 #[tactic(auto, using(es6_cursor::proofs::Rules::groups), unfolding(es6_reading::specs::Statements::first_variables))]
 fn first_variables<
-    G: MakesStatements,
+    G: MakesForVariables,
     E: Fn(&mut Cursor, u16, Flags, Nested) -> Result<G::Reading, Halt>,
 >(
     cursor: &mut Cursor,
@@ -174,7 +177,7 @@ fn first_variables<
 /// The variables behind the first.
 #[tactic(auto, using(es6_cursor::proofs::Rules::groups), unfolding(es6_reading::specs::Statements::after_first_variable, es6_reading::specs::Parser::refused))]
 fn after_first_variable<
-    G: MakesStatements,
+    G: MakesForVariables,
     E: Fn(&mut Cursor, u16, Flags, Nested) -> Result<G::Reading, Halt>,
 >(
     cursor: &mut Cursor,
@@ -204,7 +207,7 @@ fn after_first_variable<
 /// What follows a variable with no initializer: `of`, or more variables. An `in` is outside the profile.
 #[tactic(auto, using(es6_cursor::proofs::Rules::groups), unfolding(es6_reading::specs::Statements::after_bare_variable))]
 fn after_bare_variable<
-    G: MakesStatements,
+    G: MakesForVariables,
     E: Fn(&mut Cursor, u16, Flags, Nested) -> Result<G::Reading, Halt>,
 >(
     cursor: &mut Cursor,
@@ -233,7 +236,7 @@ fn after_bare_variable<
 /// What follows the word that declares variables.
 #[tactic(auto, using(es6_cursor::proofs::Rules::groups), unfolding(es6_reading::specs::Statements::for_variables))]
 fn for_variables<
-    G: MakesStatements,
+    G: MakesForVariables,
     E: Fn(&mut Cursor, u16, Flags, Nested) -> Result<G::Reading, Halt>,
 >(
     cursor: &mut Cursor,
@@ -255,7 +258,7 @@ fn for_variables<
 
 #[tactic(auto, using(es6_cursor::proofs::Rules::groups), unfolding(es6_reading::specs::Statements::first_expression))]
 fn first_expression<
-    G: MakesStatements,
+    G: MakesForHeaders,
     E: Fn(&mut Cursor, u16, Flags, Nested) -> Result<G::Reading, Halt>,
 >(
     cursor: &mut Cursor,
@@ -275,7 +278,7 @@ fn first_expression<
 /// What follows the `of` behind what is assigned in turn.
 #[tactic(auto, using(es6_cursor::proofs::Rules::groups, es6_cursor::proofs::Rooms::fuel_turns), unfolding(es6_reading::specs::Statements::assigned_in_turn))]
 fn assigned_in_turn<
-    G: MakesStatements,
+    G: MakesForAssignments,
     E: Fn(&mut Cursor, u16, Flags, Nested) -> Result<G::Reading, Halt>,
 >(
     cursor: &mut Cursor,
@@ -294,7 +297,7 @@ fn assigned_in_turn<
 /// The header that begins with an expression. An `in` behind a left-hand-side expression is outside the profile.
 #[tactic(auto, using(es6_cursor::proofs::Rules::groups), unfolding(es6_reading::specs::Statements::for_expression))]
 fn for_expression<
-    G: MakesStatements,
+    G: MakesForAssignments,
     E: Fn(&mut Cursor, u16, Flags, Nested) -> Result<G::Reading, Halt>,
 >(
     cursor: &mut Cursor,
@@ -306,7 +309,7 @@ fn for_expression<
     ensures { ReadsAs (header_of G.seen_first G.seen_optional G.seen_target G.seen) (for_expression (inner room) flags cursor.old) result cursor.new }
 {
     let first = expression(cursor, room, flags.without_in(), Nested::Sequence)?;
-    if !G::is_target(&first) {
+    if !G::is_left(&first) {
         return first_expression::<G, E>(cursor, room, flags, first, expression);
     }
     if cursor.next_is_word(b"in") {
@@ -320,7 +323,7 @@ fn for_expression<
 
 #[tactic(auto, using(es6_cursor::proofs::Rules::groups), unfolding(es6_reading::specs::Statements::for_header))]
 fn for_header<
-    G: MakesStatements,
+    G: MakesForStatements,
     E: Fn(&mut Cursor, u16, Flags, Nested) -> Result<G::Reading, Halt>,
 >(
     cursor: &mut Cursor,
@@ -341,7 +344,7 @@ fn for_header<
     for_expression::<G, E>(cursor, room, flags, expression)
 }
 
-fn loop_of<G: MakesStatements>(
+fn loop_of<G: MakesLoops>(
     alloc: Global,
     span: Span,
     header: Header<G::ForFirst, G::Optional, G::ForTarget, G::Reading>,
@@ -362,7 +365,7 @@ fn loop_of<G: MakesStatements>(
 /// The header in its parentheses.
 #[tactic(auto, using(crate::proofs::Enclosed::in_header, crate::proofs::Enclosed::no_header))]
 fn enclosed_header<
-    G: MakesStatements,
+    G: MakesForStatements,
     E: Fn(&mut Cursor, u16, Flags, Nested) -> Result<G::Reading, Halt>,
 >(
     cursor: &mut Cursor,
@@ -381,7 +384,7 @@ fn enclosed_header<
 #[tactic(auto, unfolding(es6_reading::specs::Statements::for_statement, crate::specs::Enclosed::enclosed_header))]
 #[inline(never)]
 pub fn for_statement<
-    G: MakesStatements,
+    G: MakesForStatements,
     E: Fn(&mut Cursor, u16, Flags, Nested) -> Result<G::Reading, Halt>,
     S: Fn(&mut Cursor, u16, Flags, Stand) -> Result<G::Statement, Halt>,
 >(

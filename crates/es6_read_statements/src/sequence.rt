@@ -7,16 +7,14 @@ ghost use Rattle.es6_reading.specs.Expressions.{sequence};
 ghost use Rattle.std.specs.Prelude.{◌+◌, ◌<◌};
 
 use es6_cursor::{Cursor, Flags, Halt, Nested};
-use es6_makers::MakesParts;
+use es6_makers::MakesReadings;
 
 /// Expression. It opens no construct of its own, so it reads as what stands in a construct further out.
 #[tactic(auto, using(crate::proofs::FurtherOut::sequence_next))]
-pub fn sequence<G: MakesParts, E: Fn(&mut Cursor, u16, Flags, Nested) -> Result<G::Reading, Halt>>(
-    cursor: &mut Cursor,
-    room: u16,
-    flags: Flags,
-    expression: &E,
-) -> Result<G::Reading, Halt>
+pub fn sequence<
+    G: MakesReadings,
+    E: Fn(&mut Cursor, u16, Flags, Nested) -> Result<G::Reading, Halt>,
+>(cursor: &mut Cursor, room: u16, flags: Flags, expression: &E) -> Result<G::Reading, Halt>
     requires below { room < 65535 }
     requires expressions { ReadsExpressions G.seen (room + 1) (E.pre expression.now) (E.post expression.now) }
     ensures { ReadsAs G.seen (sequence (inner room) flags cursor.old) result cursor.new }

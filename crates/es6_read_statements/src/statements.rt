@@ -21,13 +21,16 @@ use crate::variables::variables_statement;
 use es6_ast::{Identifier, VariableKind};
 use es6_cursor::{Cursor, Flags, Halt, Nested, Stand, Stop};
 use es6_lexer::Punctuator;
-use es6_makers::MakesStatements;
+use es6_makers::{
+    MakesBlocks, MakesDeclarations, MakesExpressionStatements, MakesSimpleStatements,
+    MakesStatements,
+};
 use es6_read_parts::block;
 
 #[tactic(auto, unfolding(es6_reading::specs::Statements::block_statement))]
 #[inline(never)]
 fn block_statement<
-    G: MakesStatements,
+    G: MakesBlocks,
     S: Fn(&mut Cursor, u16, Flags, Stand) -> Result<G::Statement, Halt>,
 >(cursor: &mut Cursor, room: u16, flags: Flags, statement: &S) -> Result<G::Statement, Halt>
     requires statements { ReadsStatements G.seen_statement room (S.pre statement.now) (S.post statement.now) }
@@ -39,7 +42,7 @@ fn block_statement<
 /// The end of an expression as a statement (13.5).
 #[tactic(auto, using(es6_cursor::proofs::Rules::statements), unfolding(es6_reading::specs::Statements::expression_end))]
 #[inline(never)]
-fn expression_end<G: MakesStatements>(
+fn expression_end<G: MakesExpressionStatements>(
     cursor: &mut Cursor,
     room: u16,
     begin: u32,
@@ -54,7 +57,7 @@ fn expression_end<G: MakesStatements>(
 /// The end of a name as a statement (13.5).
 #[tactic(auto, using(es6_cursor::proofs::Rules::statements), unfolding(es6_reading::specs::Statements::expression_end))]
 #[inline(never)]
-fn name_end<G: MakesStatements>(
+fn name_end<G: MakesSimpleStatements>(
     cursor: &mut Cursor,
     room: u16,
     begin: u32,
@@ -70,7 +73,7 @@ fn name_end<G: MakesStatements>(
 #[tactic(auto, unfolding(es6_reading::specs::Statements::labelled))]
 #[inline(never)]
 fn labelled<
-    G: MakesStatements,
+    G: MakesSimpleStatements,
     S: Fn(&mut Cursor, u16, Flags, Stand) -> Result<G::Statement, Halt>,
 >(
     cursor: &mut Cursor,
@@ -91,7 +94,7 @@ fn labelled<
 /// What follows an identifier that is the whole of an expression: it may be a label.
 #[tactic(auto, using(es6_cursor::proofs::Rules::groups))]
 fn label_or_end<
-    G: MakesStatements,
+    G: MakesSimpleStatements,
     S: Fn(&mut Cursor, u16, Flags, Stand) -> Result<G::Statement, Halt>,
 >(
     cursor: &mut Cursor,
@@ -113,7 +116,7 @@ fn label_or_end<
 /// An expression as a statement, or a statement with a label.
 #[tactic(auto, unfolding(es6_reading::specs::Statements::expression_statement))]
 fn expression_statement<
-    G: MakesStatements,
+    G: MakesExpressionStatements,
     E: Fn(&mut Cursor, u16, Flags, Nested) -> Result<G::Reading, Halt>,
     S: Fn(&mut Cursor, u16, Flags, Stand) -> Result<G::Statement, Halt>,
 >(
@@ -138,7 +141,7 @@ fn expression_statement<
 /// An expression statement. A `with` is outside the profile.
 #[tactic(auto, using(es6_cursor::proofs::Rules::groups), unfolding(es6_reading::specs::Statements::plain_statement))]
 fn plain_statement<
-    G: MakesStatements,
+    G: MakesExpressionStatements,
     E: Fn(&mut Cursor, u16, Flags, Nested) -> Result<G::Reading, Halt>,
     S: Fn(&mut Cursor, u16, Flags, Stand) -> Result<G::Statement, Halt>,
 >(
@@ -167,7 +170,7 @@ fn plain_statement<
 #[tactic(auto, using(es6_cursor::proofs::Rules::groups, es6_cursor::proofs::Nests::fewer_expressions))]
 #[inline(never)]
 fn listed_statement<
-    G: MakesStatements,
+    G: MakesDeclarations,
     E: Fn(&mut Cursor, u16, Flags, Nested) -> Result<G::Reading, Halt>,
     S: Fn(&mut Cursor, u16, Flags, Stand) -> Result<G::Statement, Halt>,
 >(
@@ -199,7 +202,7 @@ fn listed_statement<
 #[tactic(auto, using(es6_cursor::proofs::Rules::groups, es6_cursor::proofs::Nests::fewer_expressions))]
 #[inline(never)]
 fn under_label<
-    G: MakesStatements,
+    G: MakesDeclarations,
     E: Fn(&mut Cursor, u16, Flags, Nested) -> Result<G::Reading, Halt>,
     S: Fn(&mut Cursor, u16, Flags, Stand) -> Result<G::Statement, Halt>,
 >(
@@ -224,7 +227,7 @@ fn under_label<
 /// What else may stand there.
 #[tactic(auto, using(es6_cursor::proofs::Rules::groups))]
 fn other_statement<
-    G: MakesStatements,
+    G: MakesDeclarations,
     E: Fn(&mut Cursor, u16, Flags, Nested) -> Result<G::Reading, Halt>,
     S: Fn(&mut Cursor, u16, Flags, Stand) -> Result<G::Statement, Halt>,
 >(
@@ -257,7 +260,7 @@ fn other_statement<
 /// A `return` where one may stand, or what else may stand there.
 #[tactic(auto, using(es6_cursor::proofs::Rules::groups))]
 fn return_or_other<
-    G: MakesStatements,
+    G: MakesDeclarations,
     E: Fn(&mut Cursor, u16, Flags, Nested) -> Result<G::Reading, Halt>,
     S: Fn(&mut Cursor, u16, Flags, Stand) -> Result<G::Statement, Halt>,
 >(
@@ -286,7 +289,7 @@ fn return_or_other<
 #[tactic(auto, using(es6_cursor::proofs::Rules::groups), unfolding(es6_reading::specs::Statements::jump_statement))]
 #[inline(never)]
 fn jump_statement<
-    G: MakesStatements,
+    G: MakesDeclarations,
     E: Fn(&mut Cursor, u16, Flags, Nested) -> Result<G::Reading, Halt>,
     S: Fn(&mut Cursor, u16, Flags, Stand) -> Result<G::Statement, Halt>,
 >(

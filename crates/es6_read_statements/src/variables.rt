@@ -10,12 +10,12 @@ ghost use Rattle.es6_reading.specs.Statements.{one_variable, variables, variable
 use es6_ast::VariableKind;
 use es6_cursor::{Cursor, Flags, Halt, Nested, Stop, TURNS};
 use es6_lexer::Punctuator;
-use es6_makers::MakesStatements;
+use es6_makers::{MakesBindings, MakesParts, MakesVariables};
 use es6_read_parts::{initialized, inner_variable};
 
 /// A variable that was read: a pattern has an initializer.
 #[tactic(auto, using(es6_cursor::proofs::Rules::groups), unfolding(es6_reading::specs::Parser::refused))]
-fn whole_variable<G: MakesStatements>(cursor: &Cursor, variable: G::Part) -> Result<G::Part, Halt>
+fn whole_variable<G: MakesParts>(cursor: &Cursor, variable: G::Part) -> Result<G::Part, Halt>
     ensures { ReadsAs G.seen_part (whole_variable (G.seen_part variable) cursor.now) result cursor.now }
 {
     if G::is_whole(&variable) {
@@ -28,7 +28,7 @@ fn whole_variable<G: MakesStatements>(cursor: &Cursor, variable: G::Part) -> Res
 /// A variable of a statement.
 #[tactic(auto, using(es6_cursor::proofs::Rules::groups), unfolding(es6_reading::specs::Statements::one_variable))]
 fn declared_variable<
-    G: MakesStatements,
+    G: MakesBindings,
     E: Fn(&mut Cursor, u16, Flags, Nested) -> Result<G::Reading, Halt>,
 >(cursor: &mut Cursor, room: u16, flags: Flags, expression: &E) -> Result<G::Part, Halt>
     requires expressions { ReadsExpressions G.seen room (E.pre expression.now) (E.post expression.now) }
@@ -41,7 +41,7 @@ fn declared_variable<
 /// A variable of a for header.
 #[tactic(auto, using(es6_cursor::proofs::Rules::groups), unfolding(es6_reading::specs::Statements::one_variable))]
 fn for_variable<
-    G: MakesStatements,
+    G: MakesBindings,
     E: Fn(&mut Cursor, u16, Flags, Nested) -> Result<G::Reading, Halt>,
 >(cursor: &mut Cursor, room: u16, flags: Flags, expression: &E) -> Result<G::Part, Halt>
     requires expressions { ReadsExpressions G.seen room (E.pre expression.now) (E.post expression.now) }
@@ -53,10 +53,12 @@ fn for_variable<
 
 /// The variables of a statement.
 #[tactic(auto, using(es6_cursor::proofs::Rules::lists, crate::proofs::VariableLists::variables_turn, crate::proofs::VariableLists::variables_more), unfolding(es6_reading::specs::Statements::variables))]
-fn variables<
-    G: MakesStatements,
-    E: Fn(&mut Cursor, u16, Flags, Nested) -> Result<G::Reading, Halt>,
->(cursor: &mut Cursor, room: u16, flags: Flags, expression: &E) -> Result<G::Parts, Halt>
+fn variables<G: MakesVariables, E: Fn(&mut Cursor, u16, Flags, Nested) -> Result<G::Reading, Halt>>(
+    cursor: &mut Cursor,
+    room: u16,
+    flags: Flags,
+    expression: &E,
+) -> Result<G::Parts, Halt>
     requires expressions { ReadsExpressions G.seen room (E.pre expression.now) (E.post expression.now) }
     ensures { ReadsAs G.seen_parts (variables (initialized (inner room) flags flags) (inner room).fuel cursor.old) result cursor.new }
 {
@@ -74,7 +76,7 @@ fn variables<
 /// The variables of a for header behind a comma (13.7.4).
 #[tactic(auto, using(es6_cursor::proofs::Rules::lists, crate::proofs::VariableLists::variables_turn, crate::proofs::VariableLists::variables_more), unfolding(es6_reading::specs::Statements::variables))]
 pub fn more_variables<
-    G: MakesStatements,
+    G: MakesVariables,
     E: Fn(&mut Cursor, u16, Flags, Nested) -> Result<G::Reading, Halt>,
 >(cursor: &mut Cursor, room: u16, flags: Flags, expression: &E) -> Result<G::Parts, Halt>
     requires expressions { ReadsExpressions G.seen room (E.pre expression.now) (E.post expression.now) }
@@ -95,7 +97,7 @@ pub fn more_variables<
 #[tactic(auto, using(es6_cursor::proofs::Rules::statements), unfolding(es6_reading::specs::Statements::variables_statement))]
 #[inline(never)]
 pub fn variables_statement<
-    G: MakesStatements,
+    G: MakesVariables,
     E: Fn(&mut Cursor, u16, Flags, Nested) -> Result<G::Reading, Halt>,
 >(
     cursor: &mut Cursor,

@@ -21,7 +21,7 @@ use Rattle.es6_ast.specs.declared.settings.Stand.TheVariants.{Listed, Labelled}
 use Rattle.es6_ast.specs.Tokens.{Filled, IsWord, across}
 use Rattle.es6_ast.specs.Grammar as g
 use Rattle.es6_ast.specs.Grammar.{IsEnd, of_module, NotStar, NotWord, IsStatement}
-use Rattle.es6_reading.specs.Refine.{Open}
+use Rattle.es6_ast.specs.Spans.{Open}
 use Rattle.es6_reading.specs.Statements.{compound_statement, statement}
 use Rattle.es6_reading.specs.Modules.{export_item, exported_declaration, export_declaration, is_end}
 use Rattle.es6_reading.proofs.Reading.{Eventually, then_}

@@ -25,7 +25,8 @@ use Rattle.es6_ast.specs.Tokens.{Filled, IsMark, across}
 use Rattle.es6_ast.specs.Targets.{is_simple}
 use Rattle.es6_ast.specs.Grammar.{with_in, level_left_hand_side, name_target, name_alone, IsName, IsExpression, IsTarget}
 use Rattle.es6_reading.specs.Parser.{mark}
-use Rattle.es6_reading.specs.Refine.{Fits, span_of, made_part, rest_of, else_itself, array_parts_of, property_part, object_parts_of, refine, refine_pattern, target_before}
+use Rattle.es6_ast.specs.Spans.{span_of}
+use Rattle.es6_reading.specs.Refine.{Fits, made_part, rest_of, else_itself, array_parts_of, property_part, object_parts_of, refine, refine_pattern, target_before}
 use Rattle.es6_reading.proofs.Posts.{Misses}
 use Rattle.es6_reading.proofs.RefineTargets.{HasNoDefault, reads_part, part-alone, name-across}
 use Rattle.es6_reading.proofs.RefineParameters.{IsNoSequence}

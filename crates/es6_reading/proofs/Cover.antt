@@ -14,7 +14,8 @@ use Rattle.es6_ast.specs.Tokens.{Filled}
 use Rattle.es6_ast.specs.Targets.{as_target, is_pattern, misfit}
 use Rattle.es6_ast.specs.Grammar as g
 use Rattle.es6_ast.specs.Grammar.{is_plain, level_left_hand_side, IsExpression, IsAssigned}
-use Rattle.es6_reading.specs.Refine.{Open, Refined, Fits, Misfit, TooNested, refined_map, simple, refine, refine_pattern, refine_part, else_itself, target_before}
+use Rattle.es6_ast.specs.Spans.{Open}
+use Rattle.es6_reading.specs.Refine.{Refined, Fits, Misfit, TooNested, refined_map, simple, refine, refine_pattern, refine_part, else_itself, target_before}
 use Rattle.es6_reading.specs.Refinements.{Places, no_misfit, first_misfit_at, too_deep, ComesFrom, ComeFromExpressions}
 use Rattle.es6_reading.proofs.RefineTargetOf.{layer_target, as_target-is}
 use Rattle.es6_reading.proofs.RefineTargets.{reads_part, IsAlone, target-alone}

@@ -11,7 +11,8 @@ use Rattle.es6_ast.specs.Targets.{is_simple, no_target, ends_in_access}
 use Rattle.es6_ast.specs.Grammar as g
 use Rattle.es6_ast.specs.Grammar.{IsExpression, IsNode}
 use Rattle.es6_ast.proofs.TargetLaws.{pattern_misfit}
-use Rattle.es6_reading.specs.Refine.{Open, Refined, Fits, Misfit, TooNested, span_of, fits_if, is_access, held_at, simple, simple_in}
+use Rattle.es6_ast.specs.Spans.{Open, span_of}
+use Rattle.es6_reading.specs.Refine.{Refined, Fits, Misfit, TooNested, fits_if, is_access, held_at, simple, simple_in}
 use Rattle.es6_reading.proofs.RefineViews.{IsAnother, View, a_name, an_array, an_object, an_access, a_group, an_assignment, a_sequence, another}
 use Rattle.es6_reading.proofs.RefineBinds.{view-of}
 use Rattle.es6_reading.proofs.RefineTargetOf.{layer_target, as_target-is, Decides, it_is, it_is_not, unknown, simple-decides, not-by-default}

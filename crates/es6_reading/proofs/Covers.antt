@@ -25,7 +25,8 @@ use Rattle.es6_ast.specs.Tokens.{Filled, IsMark, across}
 use Rattle.es6_ast.specs.Targets.{is_simple, is_pattern, misfit}
 use Rattle.es6_ast.specs.Grammar as g
 use Rattle.es6_ast.specs.Grammar.{with_in, level_assignment, level_left_hand_side, level_primary, IsName, IsExpression, IsAssigned, IsTarget, IsPattern, IsPart, IsRest, IsKey, IsArgument, IsProperty, IsObjectPart, AreElements, AreProperties, AreArrayParts, AreObjectParts}
-use Rattle.es6_reading.specs.Refine.{Refined, Fits, span_of, bound, is_name, made_part, target_of_default, rest_of, array_parts_of, property_part, object_parts_of, refine}
+use Rattle.es6_ast.specs.Spans.{span_of}
+use Rattle.es6_reading.specs.Refine.{Refined, Fits, bound, is_name, made_part, target_of_default, rest_of, array_parts_of, property_part, object_parts_of, refine}
 use Rattle.es6_reading.proofs.RefineTargetOf.{simple-is-no-literal}
 use Rattle.es6_reading.proofs.RefineTargets.{HasNoDefault, reads_part, target-alone, part-alone, name-across}
 use Rattle.es6_reading.proofs.RefineParameters.{IsNoSequence}

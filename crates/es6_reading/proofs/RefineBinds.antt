@@ -17,7 +17,8 @@ use Rattle.es6_ast.specs.declared.settings.Flags.{Flags}
 use Rattle.es6_ast.specs.Tokens.{Filled}
 use Rattle.es6_ast.specs.Grammar as g
 use Rattle.es6_ast.specs.Grammar.{with_in, IsName, IsExpression, IsTarget, IsPattern, IsPart, IsRest, AreArrayParts, AreObjectParts, IsObjectPart}
-use Rattle.es6_reading.specs.Refine.{Open, Fits, is_name_in, is_name, begin_of_expression, bound, rest_binds, array_part_binds, object_part_binds, all_bind, binds_names}
+use Rattle.es6_ast.specs.Spans.{Open}
+use Rattle.es6_reading.specs.Refine.{Fits, is_name_in, is_name, begin_of_expression, bound, rest_binds, array_part_binds, object_part_binds, all_bind, binds_names}
 use Rattle.es6_reading.specs.Refinements.{IfFits, fits, misfits, too_nested}
 use Rattle.es6_reading.proofs.Refines.{weaken-fits, then-fits, if-fits}
 use Rattle.es6_reading.proofs.RefineViews.{IsAccess, IsAnother, View, a_name, an_array, an_object, an_access, a_group, an_assignment, a_sequence, another, view}

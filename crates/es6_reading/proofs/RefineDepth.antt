@@ -21,7 +21,8 @@ use Rattle.es6_ast.specs.declared.settings.Flags.{Flags}
 use Rattle.es6_ast.specs.Tokens.{Filled}
 use Rattle.es6_ast.specs.Grammar as g
 use Rattle.es6_ast.specs.Grammar.{IsExpression, IsNode, IsAssigned, IsArgument, IsProperty, AreElements, AreProperties}
-use Rattle.es6_reading.specs.Refine.{Open, span_of, simple, made_part, target_of_default, is_last, part_in, argument_part, array_parts_of, property_part, object_parts_of, refine}
+use Rattle.es6_ast.specs.Spans.{Open, span_of}
+use Rattle.es6_reading.specs.Refine.{simple, made_part, target_of_default, is_last, part_in, argument_part, array_parts_of, property_part, object_parts_of, refine}
 use Rattle.es6_reading.proofs.RefineTargets.{reads_part, IsAlone, HasNoDefault, target-alone, part-alone}
 use Rattle.es6_reading.proofs.Enough.{Settled, Settles, settles-now, settles-then, settles-both, settles-within, settled-map, settled-cons}
 use Rattle.es6_reading.proofs.CoverSimple.{Deep, deep-node}

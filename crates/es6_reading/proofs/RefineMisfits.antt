@@ -26,7 +26,8 @@ use Rattle.es6_ast.specs.Targets.{AsTarget, AsElement, as_target, is_pattern, mi
 use Rattle.es6_ast.specs.Grammar as g
 use Rattle.es6_ast.specs.Grammar.{level_left_hand_side, IsExpression, IsAssigned, IsTarget}
 use Rattle.es6_ast.proofs.TargetLaws.{is_access as is_access', as_argument, as_element, pattern_misfit, property_misfit}
-use Rattle.es6_reading.specs.Refine.{Open, Refined, Fits, refined_map, refined_cons, fits_if, held_at, span_of, is_access, simple, simple_in, alone, made_part, target_of_default, is_last, argument_part, element_part, array_parts_of, property_part, object_parts_of, target_in, part_in, refine, refine_pattern, else_itself, target_before}
+use Rattle.es6_ast.specs.Spans.{Open, span_of}
+use Rattle.es6_reading.specs.Refine.{Refined, Fits, refined_map, refined_cons, fits_if, held_at, is_access, simple, simple_in, alone, made_part, target_of_default, is_last, argument_part, element_part, array_parts_of, property_part, object_parts_of, target_in, part_in, refine, refine_pattern, else_itself, target_before}
 use Rattle.es6_reading.specs.Refinements.{IfFits, fits, misfits, too_nested, Places, no_misfit, first_misfit_at, too_deep}
 use Rattle.es6_reading.proofs.RefineTargetOf.{arrow_place, class_place, function_place, template_place, layer_target, as_target-is, accesses-are, Decides, it_is, it_is_not, unknown, simple-decides, simple-is-no-literal}
 use Rattle.es6_reading.proofs.RefineTargets.{reads_part, IsAlone, HasNoDefault, part-alone, targets}

@@ -18,7 +18,8 @@ use Rattle.es6_ast.specs.declared.tree.Argument.TheOpen as layer
 use Rattle.es6_ast.specs.declared.tree.Argument.TheOpen.{Argument-F, ArrayPart-F, Element-F, Expression-F, ObjectPart-F, Pattern-F, Property-F}
 use Rattle.es6_ast.specs.declared.settings.Shape.{Shape}
 use Rattle.es6_ast.specs.declared.settings.Shape.TheVariants.{Bare, Grouped, Covered, LeftHandSide, Other}
-use Rattle.es6_reading.specs.Refine.{Open, Refined, Fits, Misfit, TooNested, refined_map, refined_cons, refined_then, held_at, span_of, simple_in, simple, alone, all_bind, array_part_binds, object_part_binds, binds_in, binds_names, made_part, target_of_default, part_in, rest_of, argument_part, element_part, is_last, array_parts_of, property_part, object_parts_of, target_in, refine, refine_pattern, refine_part, else_itself, target_before, parameters_of, parts_of, rest_parameter, parameters_in, refine_parameters}
+use Rattle.es6_ast.specs.Spans.{Open, span_of}
+use Rattle.es6_reading.specs.Refine.{Refined, Fits, Misfit, TooNested, refined_map, refined_cons, refined_then, held_at, simple_in, simple, alone, all_bind, array_part_binds, object_part_binds, binds_in, binds_names, made_part, target_of_default, part_in, rest_of, argument_part, element_part, is_last, array_parts_of, property_part, object_parts_of, target_in, refine, refine_pattern, refine_part, else_itself, target_before, parameters_of, parts_of, rest_parameter, parameters_in, refine_parameters}
 use Rattle.es6_reading.specs.Expressions.{parameters_before}
 use Rattle.es6_reading.proofs.Follows.{plus}
 

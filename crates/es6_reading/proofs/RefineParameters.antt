@@ -12,7 +12,8 @@ use Rattle.es6_ast.specs.declared.settings.Flags.{Flags}
 use Rattle.es6_ast.specs.Tokens.{Filled, IsMark}
 use Rattle.es6_ast.specs.Grammar as g
 use Rattle.es6_ast.specs.Grammar.{with_in, level_sequence, level_assignment, name_target, IsName, IsExpression, IsPart, AreMore, AreParameters, AreArrowParameters}
-use Rattle.es6_reading.specs.Refine.{Open, refined_map, refine_part, parameters_of, parts_in, parts_of, rest_parameter, parameters_in, refine_parameters}
+use Rattle.es6_ast.specs.Spans.{Open}
+use Rattle.es6_reading.specs.Refine.{refined_map, refine_part, parameters_of, parts_in, parts_of, rest_parameter, parameters_in, refine_parameters}
 use Rattle.es6_reading.specs.Refinements.{IfFits, fits, misfits, IsCover, empty_cover, rest_cover, held_cover}
 use Rattle.es6_reading.proofs.Refines.{map-fits, weaken-fits, cons-fits}
 use Rattle.es6_reading.proofs.RefineViews.{IsAccess, IsAnother, View, a_name, an_array, an_object, an_access, a_group, an_assignment, a_sequence, another}

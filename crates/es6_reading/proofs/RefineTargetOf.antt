@@ -12,7 +12,8 @@ use Rattle.es6_ast.specs.declared.tree.Argument.TheOpen as layer
 use Rattle.es6_ast.specs.declared.tree.Argument.TheOpen.{Expression-F, Link-F}
 use Rattle.es6_ast.specs.Targets.{AsTarget, AsElement, as_target, is_simple, with_default, no_target, property_target, argument_target, element_target, expression_target, link_target, pattern_target, property_target_of, ends_in_access}
 use Rattle.es6_ast.proofs.TargetLaws.{is_access as is_access', as_element, pattern_misfit, property_misfit}
-use Rattle.es6_reading.specs.Refine.{Open, Refined, Fits, Misfit, TooNested, is_access, is_access_in, held_at, fits_if, simple, simple_in}
+use Rattle.es6_ast.specs.Spans.{Open}
+use Rattle.es6_reading.specs.Refine.{Refined, Fits, Misfit, TooNested, is_access, is_access_in, held_at, fits_if, simple, simple_in}
 
 abbrev pub arrow_place : Arrow → ℕ
 arrow_place =

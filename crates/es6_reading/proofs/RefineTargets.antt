@@ -26,7 +26,8 @@ use Rattle.es6_ast.specs.Tokens.{Read, Filled, IsMark, end_of, across}
 use Rattle.es6_ast.specs.Targets.{is_simple}
 use Rattle.es6_ast.specs.Grammar as g
 use Rattle.es6_ast.specs.Grammar.{with_in, level_assignment, level_left_hand_side, level_primary, assign_kind, IsName, IsExpression, IsAssigned, IsTarget, IsPart, IsRest, IsKey, IsArgument, IsProperty, IsObjectPart, AreElements, AreProperties, AreArrayParts, AreObjectParts}
-use Rattle.es6_reading.specs.Refine.{Open, Refined, Fits, refined_map, fits_if, span_in, span_of, is_name_in, simple_in, alone, made_part, target_of_default, part_in, rest_of, argument_part, array_parts_of, property_part, object_parts_of, target_in, refine, binds_names}
+use Rattle.es6_ast.specs.Spans.{Open, span_in, span_of}
+use Rattle.es6_reading.specs.Refine.{Refined, Fits, refined_map, fits_if, is_name_in, simple_in, alone, made_part, target_of_default, part_in, rest_of, argument_part, array_parts_of, property_part, object_parts_of, target_in, refine, binds_names}
 use Rattle.es6_reading.specs.Refinements.{IfFits, fits, misfits, too_nested}
 use Rattle.es6_reading.proofs.Refines.{map-fits, weaken-fits, cons-fits}
 use Rattle.es6_reading.proofs.RefineViews.{IsAccess, IsAnother, View, a_name, an_array, an_object, an_access, a_group, an_assignment, a_sequence, another}

@@ -14,7 +14,7 @@ use Rattle.es6_ast.specs.declared.settings.Flags.{Flags}
 use Rattle.es6_ast.specs.Tokens.{Read, Filled, IsMark, across}
 use Rattle.es6_ast.specs.Grammar as g
 use Rattle.es6_ast.specs.Grammar.{with_in, level_sequence, level_assignment, level_left_hand_side, level_call, level_member, level_primary, chain_level, assign_kind, IsName, IsExpression, IsNode, IsSuperCall, AreElements, AreProperties, IsAssigned, AreMore}
-use Rattle.es6_reading.specs.Refine.{Open, span_of}
+use Rattle.es6_ast.specs.Spans.{Open, span_of}
 
 -- accesses, of which no pattern or group is made
 abbrev pub IsAccess : Open Expression-F → Type 0

@@ -23,7 +23,8 @@ use Rattle.es6_ast.specs.declared.tree.Argument.TheOpen.{Argument-F, Element-F, 
 use Rattle.es6_ast.specs.declared.settings.Shape.{Shape}
 use Rattle.es6_ast.specs.declared.settings.Shape.TheVariants.{Bare, Grouped, Covered, LeftHandSide, Other}
 use Rattle.es6_ast.specs.Grammar.{name_target, name_alone}
-use Rattle.es6_reading.specs.Refine.{Open, Refined, Fits, Misfit, TooNested, refined_map, refined_cons, span_of, bound, simple, alone, binds_names, made_part, target_of_default, part_in, rest_of, argument_part, element_part, is_last, array_parts_of, property_part, object_parts_of, target_in, refine, refine_pattern, refine_part, else_itself, target_before, parameters_of, parts_in, parts_of, rest_parameter, parameters_in, refine_parameters}
+use Rattle.es6_ast.specs.Spans.{Open, span_of}
+use Rattle.es6_reading.specs.Refine.{Refined, Fits, Misfit, TooNested, refined_map, refined_cons, bound, simple, alone, binds_names, made_part, target_of_default, part_in, rest_of, argument_part, element_part, is_last, array_parts_of, property_part, object_parts_of, target_in, refine, refine_pattern, refine_part, else_itself, target_before, parameters_of, parts_in, parts_of, rest_parameter, parameters_in, refine_parameters}
 use Rattle.es6_reading.specs.Expressions.{parameters_before}
 use Rattle.es6_reading.proofs.SpanCounts.{sum_of, in_argument, in_array_part, in_element, in_expression, in_object_part, in_parameter, in_part, in_pattern, in_property}
 use Rattle.es6_reading.proofs.SpanSums.{in-single, in-spread, in-skipped_part, in-single_part, in-rest_part, in-present, in-array_list, in-object_list, in-assign, in-sequence, in-group, in-cover, in-named_part, in-keyed_part, in-single_parameter, in-rest_parameter, in-target, in-array_pattern, in-object_pattern, in-plain, in-initialized, in-part}

@@ -32,7 +32,7 @@ use Rattle.es6_ast.specs.declared.tree.Argument.TheOpen.{Argument-F, ArrayPart-F
 use Rattle.es6_ast.specs.declared.tree.Argument.TheFolds.{map-Argument, map-ArrayPart, map-ArrowBody, map-Element, map-Expression, map-ForFirst, map-ForTarget, map-Key, map-Link, map-ObjectPart, map-Parameter, map-Pattern, map-Property, map-Statement, map-Arrow, map-Block, map-Case, map-Catch, map-Class, map-ClassMember, map-Condition, map-Function, map-Method, map-Operand, map-Part, map-Template, map-TemplatePart}
 use Rattle.es6_ast.specs.Depth.{Spanned, argument_step, array_part_step, arrow_body_step, element_step, expression_step, for_first_step, for_target_step, key_step, link_step, object_part_step, parameter_step, pattern_step, property_step, statement_step, arrow_step, block_step, case_step, catch_step, class_step, class_member_step, condition_step, function_step, method_step, operand_step, part_step, template_step, template_part_step}
 use Rattle.es6_reading.proofs.SpanCounts.{spans_argument, spans_array_part, spans_arrow_body, spans_element, spans_expression, spans_for_first, spans_for_target, spans_key, spans_link, spans_object_part, spans_parameter, spans_pattern, spans_property, spans_statement, spans_arrow, spans_block, spans_case, spans_catch, spans_class, spans_class_member, spans_condition, spans_function, spans_method, spans_operand, spans_part, spans_template, spans_template_part}
-use Rattle.es6_reading.specs.Refine.{Open}
+use Rattle.es6_ast.specs.Spans.{Open}
 
 abbrev pub layer_argument : Open Argument-F → List Span
 layer_argument l =

@@ -5,7 +5,6 @@ use Rattle.es_text.specs.declared.Span.{Span}
 use Rattle.es6_ast.specs.declared.operators.AssignOperator.{AssignOperator}
 use Rattle.es6_ast.specs.declared.operators.AssignOperator.TheVariants as assign
 use Rattle.es6_ast.specs.declared.tree.Expression.{Expression, out-Expression}
-use Rattle.es6_ast.specs.declared.tree.Statement.{Statement}
 use Rattle.es6_ast.specs.declared.tree.Pattern.{Pattern, out-Pattern}
 use Rattle.es6_ast.specs.declared.tree.Pattern.TheVariants as pattern
 use Rattle.es6_ast.specs.declared.tree.ArrayPart.{ArrayPart, out-ArrayPart}
@@ -15,35 +14,17 @@ use Rattle.es6_ast.specs.declared.tree.ObjectPart.TheVariants.{NamedPart, KeyedP
 use Rattle.es6_ast.specs.declared.tree.Parameter.{Parameter}
 use Rattle.es6_ast.specs.declared.tree.Parameter.TheVariants.{SingleParameter, RestParameter}
 use Rattle.es6_ast.specs.declared.tree.Element.{Element, out-Element}
-use Rattle.es6_ast.specs.declared.tree.Argument.{Argument, out-Argument}
+use Rattle.es6_ast.specs.declared.tree.Argument.{out-Argument}
 use Rattle.es6_ast.specs.declared.tree.Property.{Property, out-Property}
-use Rattle.es6_ast.specs.declared.tree.Key.{Key}
 use Rattle.es6_ast.specs.declared.tree.Link.{Link, out-Link}
-use Rattle.es6_ast.specs.declared.tree.ArrowBody.{ArrowBody}
-use Rattle.es6_ast.specs.declared.tree.ForFirst.{ForFirst}
-use Rattle.es6_ast.specs.declared.tree.ForTarget.{ForTarget}
-use Rattle.es6_ast.specs.declared.tree.Arrow.{Arrow}
-use Rattle.es6_ast.specs.declared.tree.Block.{Block}
-use Rattle.es6_ast.specs.declared.tree.Case.{Case}
-use Rattle.es6_ast.specs.declared.tree.Catch.{Catch}
-use Rattle.es6_ast.specs.declared.tree.Class.{Class, out-Class}
-use Rattle.es6_ast.specs.declared.tree.ClassMember.{ClassMember}
-use Rattle.es6_ast.specs.declared.tree.Condition.{Condition}
-use Rattle.es6_ast.specs.declared.tree.Function.{Function}
-use Rattle.es6_ast.specs.declared.tree.Method.{Method, out-Method}
-use Rattle.es6_ast.specs.declared.tree.Operand.{Operand}
+use Rattle.es6_ast.specs.declared.tree.Method.{out-Method}
 use Rattle.es6_ast.specs.declared.tree.Rest.{Rest}
 use Rattle.es6_ast.specs.declared.tree.Part.{Part, roll-Part}
-use Rattle.es6_ast.specs.declared.tree.Template.{Template, out-Template}
-use Rattle.es6_ast.specs.declared.tree.TemplatePart.{TemplatePart}
 use Rattle.es6_ast.specs.declared.tree.Argument.TheOpen as layer
 use Rattle.es6_ast.specs.declared.tree.Argument.TheOpen.{Argument-F, ArrayPart-F, Element-F, Expression-F, Link-F, ObjectPart-F, Pattern-F, Property-F}
 use Rattle.es6_ast.specs.Grammar.{name_target, name_alone}
+use Rattle.es6_ast.specs.Spans.{Open, span_in, span_of}
 use Rattle.es6_ast.specs.Targets.{ends_in_access}
-
--- one layer of a tree, with the trees below it
-abbrev pub Open : (Type 0 → Type 0 → Type 0 → Type 0 → Type 0 → Type 0 → Type 0 → Type 0 → Type 0 → Type 0 → Type 0 → Type 0 → Type 0 → Type 0 → Type 0 → Type 0 → Type 0 → Type 0 → Type 0 → Type 0 → Type 0 → Type 0 → Type 0 → Type 0 → Type 0 → Type 0 → Type 0 → Type 0) → Type 0
-Open Of = Of Argument ArrayPart ArrowBody Element Expression ForFirst ForTarget Key Link ObjectPart Parameter Pattern Property Statement Arrow Block Case Catch Class ClassMember Condition Function Method Operand Part Template TemplatePart
 
 -- what an expression is spelled as, or where its first part stands that isn't so, or that it is nested more than looked at
 pub data Refined (A : Type 0) : Type 0 where
@@ -73,37 +54,6 @@ fits_if true at = Fits tt
 fits_if false at = Misfit at
 
 -- ## Spans
-
-abbrev pub span_in : Open Expression-F → Span
-span_in (layer.This span) = span
-span_in (layer.Name span name) = span
-span_in (layer.Literal span value) = span
-span_in (layer.Template m) = (out-Template m).span
-span_in (layer.ArrayList span elements comma) = span
-span_in (layer.ObjectList span properties) = span
-span_in (layer.Function g) = g.span
-span_in (layer.Arrow a) = a.span
-span_in (layer.Class c) = (out-Class c).span
-span_in (layer.Chain span head links) = span
-span_in (layer.SuperMember span name) = span
-span_in (layer.SuperIndex span index) = span
-span_in (layer.SuperCall span arguments) = span
-span_in (layer.NewTarget span) = span
-span_in (layer.New span callee arguments) = span
-span_in (layer.Update span operator target) = span
-span_in (layer.Unary span operator operand) = span
-span_in (layer.Power span base exponent) = span
-span_in (layer.Binary span first rest) = span
-span_in (layer.Conditional span test yes_ no_) = span
-span_in (layer.Assign span operator target value) = span
-span_in (layer.Sequence span first rest) = span
-span_in (layer.Yield span value) = span
-span_in (layer.Delegate span value) = span
-span_in (layer.Group span held) = span
-span_in (layer.Cover span held rest) = span
-
-abbrev pub span_of : Expression → Span
-span_of x = span_in (out-Expression x)
 
 abbrev pub begin_of_expression : Expression → ℕ
 begin_of_expression x = (span_of x).begin

@@ -31,7 +31,8 @@ use Rattle.es6_ast.specs.Tokens.{Filling, Read, Inserted, Filled, is_word}
 use Rattle.es6_ast.specs.Grammar.{with_in, without_in, ends}
 use Rattle.es6_reading.specs.Parser.{Parser, returns, fails, ◌>>=◌, refused, no_expression, on, choose, if_next, take_as, is_mark, mark, word, next_mark, next_word, from, made, is_left, Inner, group, ends_block, semicolon, semicolon_of_do_while}
 use Rattle.es6_reading.specs.Words.{free_name, kind_at, lexical_kind_at, is_any_word, begins_expression}
-use Rattle.es6_reading.specs.Refine.{Open, target_before}
+use Rattle.es6_ast.specs.Spans.{Open}
+use Rattle.es6_reading.specs.Refine.{target_before}
 use Rattle.es6_reading.specs.Parts.{block, initialized, function_after_word, named_function, class_after_word}
 use Rattle.es6_reading.specs.Expressions.{fitting, sequence}
 

@@ -1,5 +1,5 @@
 -- Whether something is refined, as the code answers it.
-use Rattle.std.specs.Prelude.{ℕ, Bool, true, false, List, [], ◌∷◌}
+use Rattle.std.specs.Prelude.{ℕ, Bool, true, false}
 use Rattle.es6_ast.specs.declared.tree.Expression.{Expression, out-Expression}
 use Rattle.es6_ast.specs.declared.tree.Part.{Part}
 use Rattle.es6_reading.specs.Refine.{Refined, Fits, Misfit, TooNested, part_in, refine}

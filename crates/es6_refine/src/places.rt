@@ -1,46 +1,12 @@
-//! Where an expression stands, and whether it is a target by itself.
+//! Whether an expression is a target by itself.
 
 ghost use Rattle.std.specs.Prelude.{◌≡◌, map};
 ghost use Rattle.es6_ast.specs.Targets.{ends_in_access};
-ghost use Rattle.es6_reading.specs.Refine.{alone, bound, is_access, simple, span_of};
+ghost use Rattle.es6_reading.specs.Refine.{alone, bound, is_access, simple};
 ghost use Rattle.es6_refine.specs.Fitting.{fit_of};
 
 use crate::fit::Fit;
-use es_text::Span;
 use es6_ast::{Expression, Link};
-
-pub fn span_of(expression: &Expression) -> Span
-    ensures { result ≡ span_of expression.now }
-{
-    match expression {
-        Expression::This { span }
-        | Expression::Name { span, .. }
-        | Expression::Literal { span, .. }
-        | Expression::ArrayList { span, .. }
-        | Expression::ObjectList { span, .. }
-        | Expression::Chain { span, .. }
-        | Expression::SuperMember { span, .. }
-        | Expression::SuperIndex { span, .. }
-        | Expression::SuperCall { span, .. }
-        | Expression::NewTarget { span }
-        | Expression::New { span, .. }
-        | Expression::Update { span, .. }
-        | Expression::Unary { span, .. }
-        | Expression::Power { span, .. }
-        | Expression::Binary { span, .. }
-        | Expression::Conditional { span, .. }
-        | Expression::Assign { span, .. }
-        | Expression::Sequence { span, .. }
-        | Expression::Yield { span, .. }
-        | Expression::Delegate { span, .. }
-        | Expression::Group { span, .. }
-        | Expression::Cover { span, .. } => *span,
-        Expression::Template(template) => template.span,
-        Expression::Function(function) => function.get().span,
-        Expression::Arrow(arrow) => arrow.get().span,
-        Expression::Class(class) => class.get().span,
-    }
-}
 
 /// A name, where names are bound (13.3.3).
 pub fn bound_fit(expression: &Expression) -> Fit
@@ -49,7 +15,7 @@ pub fn bound_fit(expression: &Expression) -> Fit
     match expression {
         Expression::Name { .. } => Fit::Fits,
         _ => Fit::Misfit {
-            at: span_of(expression).begin,
+            at: expression.span().begin,
         },
     }
 }
@@ -88,7 +54,7 @@ pub fn simple_fit(depth: u32, expression: &Expression) -> Fit
         ),
         Expression::Group { span, held } => simple_fit(depth - 1, held.get()).held_at(span.begin),
         _ => Fit::Misfit {
-            at: span_of(expression).begin,
+            at: expression.span().begin,
         },
     }
 }

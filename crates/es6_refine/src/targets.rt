@@ -5,7 +5,7 @@ ghost use Rattle.std.specs.Prelude.{◌≡◌};
 ghost use Rattle.es6_ast.specs.declared.tree.Element.{out-Element};
 ghost use Rattle.es6_ast.specs.declared.tree.Pattern.{out-Pattern};
 ghost use Rattle.es6_ast.specs.declared.tree.Property.{out-Property};
-ghost use Rattle.es6_reading.specs.Refine.{array_parts_of, element_part, object_parts_of, property_part, refine, target_of_default};
+ghost use Rattle.es6_reading.specs.Refine.{array_parts_of, element_part, object_parts_of, property_part, refine, refine_pattern, target_of_default};
 ghost use Rattle.es6_refine.specs.Fitting.{fit_of, part_of};
 
 use crate::binds::pattern_binds;
@@ -13,8 +13,16 @@ use crate::fit::Fit;
 use crate::places::{alone_fit, bound_fit};
 use es6_ast::{Argument, AssignOperator, Element, Expression, Pattern, Property};
 
+/// Whether an expression is a pattern that is assigned, with literals and groups in one another down to the depth.
+#[tactic(auto, unfolding(es6_reading::specs::Refine::refine_pattern))]
+pub fn is_pattern(depth: u32, expression: &Expression) -> Fit
+    ensures { result ≡ fit_of (refine_pattern depth expression.now) }
+{
+    target_fit(false, depth, expression)
+}
+
 #[cycle(fits)]
-pub fn target_fit(binds: bool, depth: u32, expression: &Expression) -> Fit
+fn target_fit(binds: bool, depth: u32, expression: &Expression) -> Fit
     ensures { result ≡ fit_of (refine binds depth expression.now) }
 {
     if depth == 0 {

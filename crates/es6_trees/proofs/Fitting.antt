@@ -1,5 +1,5 @@
 -- What is read where a refinement has to fit, by what the refinement is.
-use Rattle.std.proofs.Common.{◌≡◌, ℕ, true, false, refl, ◌∙◌}
+use Rattle.std.proofs.Common.{◌≡◌, ℕ, true, false, refl}
 use Rattle.std.specs.Prelude.{Result, Ok, Err}
 use Rattle.es6_ast.specs.declared.settings.Stop.TheVariants.{Endless}
 use Rattle.es6_reading.specs.Parser.{Input, Took, Fault, refused}

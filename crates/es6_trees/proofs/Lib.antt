@@ -1,1 +1,6 @@
+mod Becoming
 mod Fitting
+mod ParameterLists
+mod Putting
+mod Refinements
+mod Taking

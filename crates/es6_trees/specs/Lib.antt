@@ -1,1 +1,5 @@
+pub mod Built
+pub mod Made
+pub mod Refines
 pub mod Refining
+pub mod Split

@@ -3,8 +3,8 @@ use Rattle.std.specs.Prelude.{Result}
 use Rattle.es6_reading.specs.Parser.{Input}
 use Rattle.es6_reading.specs.Refine.{Refined}
 use Rattle.es6_reading.specs.Expressions.{fitting}
-use Rattle.es6_refine.specs.declared.fault.Unrefined.{Unrefined}
-use Rattle.es6_refine.specs.Refines.{Refines}
+use Rattle.es6_trees.specs.declared.fault.Unrefined.{Unrefined}
+use Rattle.es6_trees.specs.Refines.{Refines}
 use Rattle.es6_cursor.specs.declared.halt.Halt.{Halt}
 use Rattle.es6_cursor.specs.Reads.{Reads}
 

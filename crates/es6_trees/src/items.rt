@@ -1,4 +1,4 @@
-//! The trees of a module's items.
+//! The trees of a module's items (ECMA-262, 6th edition, 15.2).
 
 use crate::Trees;
 use crate::reading::Reading;
@@ -7,30 +7,17 @@ use es6_ast::{
     Class, DefaultExport, ExportName, Function, Identifier, ImportedNames, Item, Module, Specifier,
     Statement,
 };
-use es6_makers::MakesItems;
+use es6_makers::{
+    MakesClassExports, MakesExports, MakesFunctionExports, MakesItems, MakesModules,
+    MakesStatementItems, MakesValueExports, MakesWholeModules,
+};
 use sqlite_items::{Boxed, Items};
 use std::alloc::{AllocError, Global};
 
 impl MakesItems for Trees {
     type Item = Item;
 
-    type Items = Items<Item>;
-
-    type Module = Module;
-
     ghost seen_item = { λ x. x };
-
-    ghost seen_items = { λ x. x };
-
-    ghost seen_module = { λ x. x };
-
-    fn no_items(alloc: Global) -> Items<Item> {
-        Items::new(alloc)
-    }
-
-    fn push_item(list: &mut Items<Item>, item: Item) -> Result<(), AllocError> {
-        list.push(item)
-    }
 
     fn import(
         span: Span,
@@ -53,11 +40,48 @@ impl MakesItems for Trees {
     fn export_all(span: Span, from: Specifier) -> Item {
         Item::ExportAll { span, from }
     }
+}
 
+impl MakesModules for Trees {
+    type Items = Items<Item>;
+
+    type Module = Module;
+
+    ghost seen_items = { λ x. x };
+
+    ghost seen_module = { λ x. x };
+
+    fn no_items(alloc: Global) -> Items<Item> {
+        Items::new(alloc)
+    }
+
+    fn push_item(list: &mut Items<Item>, item: Item) -> Result<(), AllocError> {
+        list.push(item)
+    }
+
+    fn module(span: Span, items: Items<Item>) -> Module {
+        Module { span, items }
+    }
+}
+
+impl MakesStatementItems for Trees {
     fn export_declaration(span: Span, declaration: Statement) -> Item {
         Item::ExportDeclaration { span, declaration }
     }
 
+    fn statement_item(statement: Statement) -> Item {
+        Item::Statement(statement)
+    }
+}
+
+impl MakesValueExports for Trees {
+    fn export_value(span: Span, word: Span, value: Reading) -> Item {
+        let value = DefaultExport::DefaultValue(value.into_value());
+        Item::ExportDefault { span, word, value }
+    }
+}
+
+impl MakesFunctionExports for Trees {
     fn export_function(
         alloc: Global,
         span: Span,
@@ -67,7 +91,9 @@ impl MakesItems for Trees {
         let value = DefaultExport::DefaultFunction(Boxed::new(alloc, function)?);
         Ok(Item::ExportDefault { span, word, value })
     }
+}
 
+impl MakesClassExports for Trees {
     fn export_class(
         alloc: Global,
         span: Span,
@@ -77,17 +103,8 @@ impl MakesItems for Trees {
         let value = DefaultExport::DefaultClass(Boxed::new(alloc, class)?);
         Ok(Item::ExportDefault { span, word, value })
     }
-
-    fn export_value(span: Span, word: Span, value: Reading) -> Item {
-        let value = DefaultExport::DefaultValue(value.into_value());
-        Item::ExportDefault { span, word, value }
-    }
-
-    fn statement_item(statement: Statement) -> Item {
-        Item::Statement(statement)
-    }
-
-    fn module(span: Span, items: Items<Item>) -> Module {
-        Module { span, items }
-    }
 }
+
+impl MakesExports for Trees {}
+
+impl MakesWholeModules for Trees {}

@@ -5,22 +5,36 @@
 #![tactic(auto)]
 
 mod arguments;
-mod assignments;
 mod boxes;
+mod build;
+mod classes;
+mod declarations;
 mod elements;
 mod expressions;
+mod fault;
+mod functions;
 mod groups;
+mod handlers;
 mod items;
 mod links;
+mod loops;
+mod made;
+mod names;
 mod operators;
-mod parts;
+mod parameters;
+mod patterns;
 mod properties;
 mod reading;
+mod readings;
+mod refine;
 mod refining;
+mod split;
 mod statements;
 mod templates;
 
+pub use fault::{RefineFault, Unrefined};
 pub use reading::Reading;
+pub use refine::{parameters_within, refine_parameters, refine_pattern, target_before};
 
 /// Makes the trees themselves.
 pub struct Trees;

@@ -1,10 +1,10 @@
-//! The trees of object literals.
+//! The trees of object literals (ECMA-262, 6th edition, 12.2.6).
 
 use crate::Trees;
 use crate::reading::Reading;
 use es_text::Span;
 use es6_ast::{Expression, Identifier, Key, Method, Property};
-use es6_makers::MakesProperties;
+use es6_makers::{MakesObjects, MakesProperties};
 use shared_text::Name;
 use sqlite_items::Items;
 use std::alloc::{AllocError, Global};
@@ -17,14 +17,6 @@ impl MakesProperties for Trees {
     ghost seen_property = { λ x. x };
 
     ghost seen_properties = { λ x. x };
-
-    fn plain_property(span: Span, key: Key, value: Reading) -> Property {
-        Property::Plain {
-            span,
-            key,
-            value: value.into_value(),
-        }
-    }
 
     fn shorthand(span: Span, name: Name) -> Property {
         Property::Shorthand { span, name }
@@ -44,10 +36,6 @@ impl MakesProperties for Trees {
         }
     }
 
-    fn defined_property(method: Method) -> Property {
-        Property::Defined(method)
-    }
-
     fn no_properties(alloc: Global) -> Items<Property> {
         Items::new(alloc)
     }
@@ -58,5 +46,19 @@ impl MakesProperties for Trees {
 
     fn object(span: Span, properties: Items<Property>) -> Reading {
         Reading::left(Expression::ObjectList { span, properties })
+    }
+}
+
+impl MakesObjects for Trees {
+    fn plain_property(span: Span, key: Key, value: Reading) -> Property {
+        Property::Plain {
+            span,
+            key,
+            value: value.into_value(),
+        }
+    }
+
+    fn defined_property(method: Method) -> Property {
+        Property::Defined(method)
     }
 }

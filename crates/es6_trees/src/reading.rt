@@ -7,10 +7,8 @@ ghost use Rattle.es6_ast.specs.declared.settings.Shape.TheVariants.{Bare};
 ghost use Rattle.es6_reading.specs.Expressions.{left, other};
 ghost use Rattle.es6_ast.specs.declared.tree.Expression.TheVariants as expr;
 
-use crate::Trees;
 use es_text::Span;
 use es6_ast::{Expression, Identifier, Shape};
-use es6_makers::MakesReadings;
 use shared_text::Name;
 use std::marker::Model;
 
@@ -130,19 +128,5 @@ fn label_in(value: Expression) -> Result<Identifier, Reading>
             value,
             shape: Shape::Bare,
         }),
-    }
-}
-
-impl MakesReadings for Trees {
-    type Reading = Reading;
-
-    ghost seen = { λ x. x };
-
-    fn is_left(reading: &Reading) -> bool {
-        reading.is_left()
-    }
-
-    fn is_covered(reading: &Reading) -> bool {
-        reading.is_covered()
     }
 }

@@ -8,12 +8,12 @@ ghost use Rattle.es6_reading.specs.Expressions.{fitting, parameters_before};
 ghost use Rattle.es6_reading.specs.Refine.{parameters_of, refine_parameters, target_before};
 ghost use Rattle.es6_trees.specs.Refining.{ReadsRefined};
 
+use crate::fault::Unrefined;
 use crate::reading::Reading;
+use crate::refine::{parameters_within, target_before};
 use es6_ast::{AssignOperator, Expression, Parameter, Pattern, Shape};
 use es6_cursor::{Cursor, Halt, Stop, TURNS};
-use es6_refine::{
-    Fit, Unrefined, are_parameters, parameters_fit, parameters_within, target_before,
-};
+use es6_refine::{Fit, are_parameters, parameters_fit};
 use sqlite_items::Items;
 
 /// What a refinement gives, which has to fit.

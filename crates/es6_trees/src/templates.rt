@@ -1,9 +1,9 @@
-//! The trees of templates.
+//! The trees of templates (ECMA-262, 6th edition, 12.2.9).
 
 use crate::Trees;
 use crate::reading::Reading;
 use es_text::Span;
-use es6_ast::{Stretch, Template, TemplatePart};
+use es6_ast::{Expression, Stretch, Template, TemplatePart};
 use es6_makers::MakesTemplates;
 use sqlite_items::Items;
 use std::alloc::{AllocError, Global};
@@ -32,5 +32,9 @@ impl MakesTemplates for Trees {
 
     fn template(span: Span, first: Stretch, rest: Items<TemplatePart>) -> Template {
         Template { span, first, rest }
+    }
+
+    fn template_expression(template: Template) -> Reading {
+        Reading::left(Expression::Template(template))
     }
 }

@@ -4,10 +4,10 @@ use Rattle.es6_cursor.specs.Readers.{inner, turns, before}
 use Rattle.es6_read_parts.proofs.+reader.Given as goal
 
 abbrev pub invariant-patterns::array_parts-loop-turn : goal.invariant-patterns::array_parts-loop-turn
-invariant-patterns::array_parts-loop-turn g l = array_parts (inner l.room) l.flags (inner l.room).fuel l.initial.cursor ≡ before (g.G.MakesParts.seen_array_parts l.list) (array_parts (inner l.room) l.flags (turns - l.turn) l.cursor)
+invariant-patterns::array_parts-loop-turn g l = array_parts (inner l.room) l.flags (inner l.room).fuel l.initial.cursor ≡ before (g.G.MakesArrayParts.seen_array_parts l.list) (array_parts (inner l.room) l.flags (turns - l.turn) l.cursor)
 
 abbrev pub invariant-patterns::object_parts-loop-turn : goal.invariant-patterns::object_parts-loop-turn
-invariant-patterns::object_parts-loop-turn g l = object_parts (inner l.room) l.flags (inner l.room).fuel l.initial.cursor ≡ before (g.G.MakesParts.seen_object_parts l.list) (object_parts (inner l.room) l.flags (turns - l.turn) l.cursor)
+invariant-patterns::object_parts-loop-turn g l = object_parts (inner l.room) l.flags (inner l.room).fuel l.initial.cursor ≡ before (g.G.MakesObjectParts.seen_object_parts l.list) (object_parts (inner l.room) l.flags (turns - l.turn) l.cursor)
 
 abbrev pub decreases-inner::inner_part : goal.decreases-inner::inner_part
 decreases-inner::inner_part g l = l.room * 128 + 0

@@ -4,4 +4,4 @@ use Rattle.es6_cursor.specs.Readers.{inner, turns, before}
 use Rattle.es6_read_statements.proofs.cases.cases.Given as goal
 
 abbrev pub invariant-loop-turn : goal.invariant-loop-turn
-invariant-loop-turn g l = cases (inner l.room) l.flags true (inner l.room).fuel l.initial.cursor ≡ before (g.G.MakesStatements.seen_cases l.list) (cases (inner l.room) l.flags l.may_default (turns - l.turn) l.cursor)
+invariant-loop-turn g l = cases (inner l.room) l.flags true (inner l.room).fuel l.initial.cursor ≡ before (g.G.MakesCases.seen_cases l.list) (cases (inner l.room) l.flags l.may_default (turns - l.turn) l.cursor)

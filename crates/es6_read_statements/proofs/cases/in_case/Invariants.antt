@@ -4,4 +4,4 @@ use Rattle.es6_cursor.specs.Readers.{inner, turns, before}
 use Rattle.es6_read_statements.proofs.cases.in_case.Given as goal
 
 abbrev pub invariant-loop-turn : goal.invariant-loop-turn
-invariant-loop-turn g l = in_case (inner l.room) l.flags (inner l.room).fuel l.initial.cursor ≡ before (g.G.MakesParts.seen_statements l.list) (in_case (inner l.room) l.flags (turns - l.turn) l.cursor)
+invariant-loop-turn g l = in_case (inner l.room) l.flags (inner l.room).fuel l.initial.cursor ≡ before (g.G.MakesStatementLists.seen_statements l.list) (in_case (inner l.room) l.flags (turns - l.turn) l.cursor)

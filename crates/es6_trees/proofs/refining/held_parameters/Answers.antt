@@ -1,4 +1,4 @@
-use Rattle.std.proofs.Common.{◌≡◌, ◌∷◌, ◌∙◌, ap, subst, sym}
+use Rattle.std.proofs.Common.{◌≡◌, ◌∷◌, ◌∙◌, subst, sym}
 use Rattle.es6_refine.specs.declared.fit.Fit.TheVariants as fit
 use Rattle.es6_refine.specs.Fitting.{fit_of}
 use Rattle.es6_reading.specs.Refine.{parameters_of}
