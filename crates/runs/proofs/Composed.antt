@@ -7,7 +7,7 @@ agree-refl : {E : Type 0} (es : List E) → Agree (λ (a b : E). a ≡ b) es es
 agree-refl [] = tt
 agree-refl (e ∷ es) = (refl, agree-refl es)
 
-front-refl : {E : Type 0} (es : List E) → IsFront (λ (a b : E). a ≡ b) es es
+pub front-refl : {E : Type 0} (es : List E) → IsFront (λ (a b : E). a ≡ b) es es
 front-refl [] = tt
 front-refl (e ∷ es) = (refl, front-refl es)
 

@@ -3,7 +3,7 @@ use Rattle.std.proofs.Common.{◌≡◌, ℕ, zero, suc, ◌+◌, ◌-◌, ◌<�
 use Rattle.std.proofs.lemmas.Bool.{cases_lt}
 use Rattle.runs.specs.Run.{Step, Goes, Asks, Ends, Leaves, View, Running, Waits, Over, Left, trace, with_event, take_step, seen_after, run}
 use Rattle.runs.specs.Same.{IsFront, converse, Shows, shown_running, shown_waiting, shown_over, nothing_shown, Explains, only_part, both_waiting, both_over, left_before, Same}
-use Rattle.runs.specs.Simulation.{Reaches, IsMatched, Simulates}
+use Rattle.runs.specs.Simulation.{Reaches, Rank, IsMatched, Simulates}
 
 shows_with_event : {E F O L M : Type 0} {R : E → F → Type 0} {v : View E O L} {w : View F O M} (e : E) (f : F) → R e f → Shows R v w → Shows R (with_event e v) (with_event f w)
 shows_with_event e f r (shown_running a) = shown_running (r, a)
@@ -11,7 +11,7 @@ shows_with_event e f r (shown_waiting a) = shown_waiting (r, a)
 shows_with_event e f r (shown_over a) = shown_over (r, a)
 shows_with_event e f r nothing_shown = nothing_shown
 
-trace-with_event : {E O L : Type 0} (e : E) (v : View E O L) → trace (with_event e v) ≡ e ∷ trace v
+pub trace-with_event : {E O L : Type 0} (e : E) (v : View E O L) → trace (with_event e v) ≡ e ∷ trace v
 trace-with_event e (Running t) = refl
 trace-with_event e (Waits t) = refl
 trace-with_event e (Over t o) = refl
@@ -40,7 +40,7 @@ module _ {T F A O M : Type 0} (step : T → Step T F A O M) where
   seen_after-on_way (suc k) (suc m) t u ans (v, e, r) h =
       ap (λ x. take_step x (seen_after step m) ans) e ∙ seen_after-on_way k m v u ans r (omega arith)
 
-module _ {S T E F A O L M : Type 0} (step1 : S → Step S E A O L) (step2 : T → Step T F A O M) (Related : S → T → Type 0) (R : E → F → Type 0) (rank : S → ℕ) where
+module _ {S T E F A O L M : Type 0} (step1 : S → Step S E A O L) (step2 : T → Step T F A O M) (Related : S → T → Type 0) (R : E → F → Type 0) (rank : Rank Related) where
   abbrev Shown : ℕ → S → T → List A → Type 0
   Shown n s t ans = (m : ℕ) × Shows R (seen_after step1 n s ans) (seen_after step2 m t ans)
 
@@ -66,7 +66,7 @@ module _ {S T E F A O L M : Type 0} (step1 : S → Step S E A O L) (step2 : T �
   module _ (sim : Simulates step1 step2 Related R rank) where
     shown : (n : ℕ) (s : S) (t : T) (ans : List A) → Related s t → Shown n s t ans
     shown zero s t ans rel = (0, shown_running tt)
-    shown (suc n) s t ans rel = shown_step n (shown n) (rank s) (step1 s) t ans (sim.matched s t rel)
+    shown (suc n) s t ans rel = shown_step n (shown n) (rank s t rel) (step1 s) t ans (sim.matched s t rel)
 
   abbrev Explained : ℕ → S → T → List A → Type 0
   Explained m s t ans = (n : ℕ) × Explains R (seen_after step1 n s ans) (seen_after step2 m t ans)
@@ -81,13 +81,13 @@ module _ {S T E F A O L M : Type 0} (step1 : S → Step S E A O L) (step2 : T �
     abbrev Earlier : ℕ → Type 0
     Earlier b = (m : ℕ) (s : S) (t : T) (ans : List A) → m < b → Related s t → Explained m s t ans
 
-    -- the same at a lower rank of the source
+    -- the same at a lower rank of the pair
     abbrev Lower : ℕ → ℕ → Type 0
-    Lower b r = (m : ℕ) (s : S) (t : T) (ans : List A) → m ≤ b → rank s < r → Related s t → Explained m s t ans
+    Lower b r = (m : ℕ) (s : S) (t : T) (ans : List A) → m ≤ b → (rel : Related s t) → rank s t rel < r → Explained m s t ans
 
-    silent : (b r m : ℕ) (s : S) (t : T) (ans : List A) → Earlier b → Lower b r → m ≤ b → (k : ℕ) (u : T) → Reaches step2 k t u → Related s u → (k ≡ 0 → rank s < r) → Explained m s t ans
+    silent : (b r m : ℕ) (s : S) (t : T) (ans : List A) → Earlier b → Lower b r → m ≤ b → (k : ℕ) (u : T) → Reaches step2 k t u → (rel : Related s u) → (k ≡ 0 → rank s u rel < r) → Explained m s t ans
     silent b r m s t ans earlier lower h zero u way rel falls =
-        lower m s t ans h (falls refl) (subst (λ v. Related s v) (sym way) rel)
+        subst (λ v. Explained m s v ans) (sym way) (lower m s u ans h rel (falls refl))
     silent b r m s t ans earlier lower h (suc k) u way rel falls = by_count (cases_lt (suc k) m)
       where
         by_count : ((suc k < m) ⊎ (m ≤ suc k)) → Explained m s t ans
@@ -134,14 +134,14 @@ module _ {S T E F A O L M : Type 0} (step1 : S → Step S E A O L) (step2 : T �
         (1, subst (λ y. Explains R (take_step y (seen_after step1 0) ans) (seen_after step2 m t ans)) (sym is) (left_before tt))
 
     lower_ranks : (b : ℕ) → Earlier b → (r : ℕ) → Lower b r
-    lower_ranks b earlier zero m s t ans h lt rel = absurd (omega arith)
-    lower_ranks b earlier (suc r) m s t ans h lt rel =
-        explained_step b (rank s) m s t ans earlier (λ m2 s2 t2 ans2 h2 lt2 rel2. lower_ranks b earlier r m2 s2 t2 ans2 h2 (omega arith) rel2) h (step1 s) refl (sim.matched s t rel)
+    lower_ranks b earlier zero m s t ans h rel lt = absurd (omega arith)
+    lower_ranks b earlier (suc r) m s t ans h rel lt =
+        explained_step b (rank s t rel) m s t ans earlier (λ m2 s2 t2 ans2 h2 rel2 lt2. lower_ranks b earlier r m2 s2 t2 ans2 h2 rel2 (omega arith)) h (step1 s) refl (sim.matched s t rel)
 
     explained_below : (b : ℕ) → Earlier b
     explained_below zero m s t ans h rel = absurd (omega arith)
     explained_below (suc b) m s t ans h rel =
-        lower_ranks b (explained_below b) (suc (rank s)) m s t ans (omega arith) (omega arith) rel
+        lower_ranks b (explained_below b) (suc (rank s t rel)) m s t ans (omega arith) rel (omega arith)
 
     pub simulated : (s : S) (t : T) → Related s t → Same R (run step1 s) (run step2 t)
     simulated s t rel = record {
