@@ -3,7 +3,7 @@ use Rattle.std.proofs.Common.{◌≡◌, ℕ, zero, suc, ◌+◌, ◌≤◌, ◌
 use Rattle.std.specs.Prelude.{replicate, ◌==◌, if◌then◌else◌}
 use Rattle.std.specs.Str.{bytes_eq}
 use Rattle.std.specs.List.{list_any, list_all}
-use Rattle.first_target.specs.Names.{is_identifier_name, is_identifier_part, is_identifier_start, unusable_names, known_globals, IsUsable}
+use Rattle.first_target.specs.Names.{is_identifier_name, is_identifier_part, is_identifier_start, unusable_names, known_globals, kept_globals, left_out_globals, IsUsable}
 use Rattle.first_forms.specs.Names.{is_one_of, unbindable_names, IsBindable}
 use Rattle.first_script.specs.Suffix.{trailing_dollars, most_dollars, suffix_for}
 use Rattle.first_script.proofs.Names.{same_names, bytes_eq-refl, bool_cases, true_not_false, or_cases, or_left, or_right}
@@ -55,7 +55,7 @@ not_among y (n ∷ names) all d = by_case (bool_cases (bytes_eq y n)) (λ rest. 
     by_case (inr e) later = ap (λ b. b || is_one_of y names) e ∙ later (both (not (has_dollar n)) _ all).1
 
 globals_without : list_all (λ n. not (has_dollar n)) known_globals ≡ true
-unfolding known_globals
+unfolding known_globals kept_globals left_out_globals
 globals_without = refl
 
 unusable_without : list_all (λ n. not (has_dollar n)) unusable_names ≡ true

@@ -21,7 +21,7 @@ use Rattle.first_target.specs.declared.Term5.TheVariants as term5
 pub data LowersTerm (suffix : List ℕ) : Term → Term5 → Type 0 where
   low_integer : {at value : ℕ} → LowersTerm suffix (term.Integer at value) (term5.Integer value)
   low_text : {at : ℕ} {units : List ℕ} → LowersTerm suffix (term.Text at units) (term5.Text units)
-  low_name : {at : ℕ} {name : List ℕ} → LowersTerm suffix (term.Name at name) (term5.Name (name ++ suffix))
+  low_name : {at at5 : ℕ} {name : List ℕ} → LowersTerm suffix (term.Name at name) (term5.Name at5 (name ++ suffix))
 
 pub data LowersTerms (suffix : List ℕ) : List Term → List Term5 → Type 0 where
   no_terms : LowersTerms suffix [] []
@@ -45,7 +45,7 @@ pub data LowersExpression (suffix : List ℕ) : Expression → Expr5 → Type 0 
 -- an import has no statement
 pub data LowersItems (suffix : List ℕ) : List Item → List Stat5 → Type 0 where
   no_items : LowersItems suffix [] []
-  low_declaration : {kind : DeclarationKind} {name : List ℕ} {e : Expression} {e5 : Expr5} {items : List Item} {stats : List Stat5} → LowersExpression suffix e e5 → LowersItems suffix items stats → LowersItems suffix (item.Declaration kind name e ∷ items) (stat.Var (name ++ suffix) e5 ∷ stats)
+  low_declaration : {at5 : ℕ} {kind : DeclarationKind} {name : List ℕ} {e : Expression} {e5 : Expr5} {items : List Item} {stats : List Stat5} → LowersExpression suffix e e5 → LowersItems suffix items stats → LowersItems suffix (item.Declaration kind name e ∷ items) (stat.Var at5 (name ++ suffix) e5 ∷ stats)
   low_statement : {c : Call} {c5 : Call5} {items : List Item} {stats : List Stat5} → LowersCall suffix c c5 → LowersItems suffix items stats → LowersItems suffix (item.Expression c ∷ items) (stat.Expression (expr.Call c5) ∷ stats)
 
 -- the statements of a module after the directive: a first import has none

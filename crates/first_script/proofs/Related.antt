@@ -1,13 +1,12 @@
 -- Which states of the module's run and of the script's belong together, and that each step keeps it so.
 use Rattle.std.proofs.Common.{◌≡◌, ℕ, zero, suc, ◌+◌, ◌<◌, Bool, true, false, List, [], ◌∷◌, ◌++◌, Option, Some, None, refl, sym, ◌∙◌, ap, subst, ◌⊎◌, inl, inr, arith}
 use Rattle.runs.specs.Run.{Step, Goes, Asks, Ends, Leaves}
-use Rattle.runs.specs.Simulation.{Reaches, IsMatched, Simulates}
+use Rattle.runs.specs.Simulation.{Reaches, Rank, IsMatched, Simulates}
 use Rattle.shared_meaning.specs.Addition.{added}
 use Rattle.shared_meaning.specs.Ending.{Finish, Ended, Threw, Exit, SameCall}
 use Rattle.es_outside.specs.declared.primitive.Primitive.{Primitive}
 use Rattle.es_outside.specs.declared.primitive.Primitive.TheVariants as prim
 use Rattle.std.specs.Prelude.{codes}
-use Rattle.std.specs.List.{list_any}
 use Rattle.es_outside.specs.declared.events.Seen.{Seen}
 use Rattle.es_outside.specs.declared.events.Event.{Event}
 use Rattle.es_outside.specs.declared.host.Reply.{Reply}
@@ -90,7 +89,7 @@ directive at = stat.Expression (expr.Sum (record { at = at; first = term5.Text (
 
 -- States that belong together.
 pub data Related (suffix : List ℕ) : six.State → five.State5 → Type 0 where
-  declaration_begins : {s : Scope} {es : List six.Entry} {es5 : List five.Entry5} {kind : DeclarationKind} {x : List ℕ} {e : Expression} {e5 : Expr5} {items : List Item} {stats : List Stat5} → Agrees suffix s es es5 → CanDeclare s x → IsInitializer s e → AreItems (with_declared s x) items → LowersExpression suffix e e5 → LowersItems suffix items stats → Related suffix (source_state es (six.ItemsRest items ∷ []) (six.Begin (six.ItemNode (item.Declaration kind x e)))) (target_state es5 (five.StatsRest stats ∷ []) (five.Begin (five.StatNode (stat.Var (x ++ suffix) e5))))
+  declaration_begins : {at5 : ℕ} {s : Scope} {es : List six.Entry} {es5 : List five.Entry5} {kind : DeclarationKind} {x : List ℕ} {e : Expression} {e5 : Expr5} {items : List Item} {stats : List Stat5} → Agrees suffix s es es5 → CanDeclare s x → IsInitializer s e → AreItems (with_declared s x) items → LowersExpression suffix e e5 → LowersItems suffix items stats → Related suffix (source_state es (six.ItemsRest items ∷ []) (six.Begin (six.ItemNode (item.Declaration kind x e)))) (target_state es5 (five.StatsRest stats ∷ []) (five.Begin (five.StatNode (stat.Var at5 (x ++ suffix) e5))))
   statement_begins : {s : Scope} {es : List six.Entry} {es5 : List five.Entry5} {c : Call} {c5 : Call5} {items : List Item} {stats : List Stat5} → Agrees suffix s es es5 → IsCall s c → AreItems s items → LowersCall suffix c c5 → LowersItems suffix items stats → Related suffix (source_state es (six.ItemsRest items ∷ []) (six.Begin (six.ItemNode (item.Expression c)))) (target_state es5 (five.StatsRest stats ∷ []) (five.Begin (five.StatNode (stat.Expression (expr.Call c5)))))
   call_begins : {s : Scope} {es : List six.Entry} {es5 : List five.Entry5} {c : Call} {c5 : Call5} {fs : List six.Frame} {gs : List five.Frame5} → Agrees suffix s es es5 → IsCall s c → LowersCall suffix c c5 → FramesMatch suffix s fs gs → Related suffix (source_state es fs (six.Begin (six.CallNode c))) (target_state es5 gs (five.Begin (five.CallNode c5)))
   sum_begins : {s : Scope} {es : List six.Entry} {es5 : List five.Entry5} {x : Sum} {y : Sum5} {fs : List six.Frame} {gs : List five.Frame5} → Agrees suffix s es es5 → IsSum s x → LowersSum suffix x y → FramesMatch suffix s fs gs → Related suffix (source_state es fs (six.Begin (six.SumNode x))) (target_state es5 gs (five.Begin (five.SumNode y)))
@@ -103,7 +102,7 @@ pub data Related (suffix : List ℕ) : six.State → five.State5 → Type 0 wher
   directive_done : {s : Scope} {es : List six.Entry} {es5 : List five.Entry5} {v : Primitive} {items : List Item} {stats : List Stat5} → Agrees suffix s es es5 → AreItems s items → LowersItems suffix items stats → Related suffix (source_state es (six.ItemsRest items ∷ []) (six.Hand six.Empty)) (target_state es5 (five.StatsRest stats ∷ []) (five.Hand (five.Normal v)))
   import_next : {s : Scope} {es : List six.Entry} {es5 : List five.Entry5} {v : Primitive} {names : List (List ℕ)} {items : List Item} {stats : List Stat5} → Agrees suffix s es es5 → AreItems s items → LowersItems suffix items stats → Related suffix (source_state es (six.ItemsRest (item.Import names ∷ items) ∷ []) (six.Hand six.Empty)) (target_state es5 (five.StatsRest stats ∷ []) (five.Hand (five.Normal v)))
   import_begins : {s : Scope} {es : List six.Entry} {es5 : List five.Entry5} {v : Primitive} {names : List (List ℕ)} {items : List Item} {stats : List Stat5} → Agrees suffix s es es5 → AreItems s items → LowersItems suffix items stats → Related suffix (source_state es (six.ItemsRest items ∷ []) (six.Begin (six.ItemNode (item.Import names)))) (target_state es5 (five.StatsRest stats ∷ []) (five.Hand (five.Normal v)))
-  starts : (hosts : List (List ℕ)) (items : List Item) (stats : List Stat5) (at : ℕ) → list_any (step5.clashes (record { entries = step5.host_entries 0 hosts } ∷ [])) (step5.var_names stats) ≡ false → Related suffix (source_state (step6.module_entries hosts items) (six.ItemsRest items ∷ []) (six.Hand six.Empty)) (target_state (step5.var_entries (step5.var_names stats) ++ step5.host_entries 0 hosts) (five.StatsRest stats ∷ []) (five.Hand (five.Normal (prim.Text (codes "use strict"))))) → Related suffix (step6.start6 hosts (record { items = items })) (step5.start5 hosts (record { statements = directive at ∷ stats }))
+  starts : (hosts : List (List ℕ)) (items : List Item) (stats : List Stat5) (at : ℕ) → step5.first_clash (step5.host_entries 0 hosts) stats ≡ None → Related suffix (source_state (step6.module_entries hosts items) (six.ItemsRest items ∷ []) (six.Hand six.Empty)) (target_state (step5.with_vars (step5.host_entries 0 hosts) (step5.var_names stats)) (five.StatsRest stats ∷ []) (five.Hand (five.Normal (prim.Text (codes "use strict"))))) → Related suffix (step6.start6 hosts (record { items = items })) (step5.start5 hosts (record { statements = directive at ∷ stats }))
 
 -- how many steps the source takes alone
 abbrev pub alone_at : six.Control → List six.Frame → ℕ
@@ -119,8 +118,11 @@ abbrev pub alone : six.State → ℕ
 alone s = alone_on s.stack
 
 module _ (suffix : List ℕ) where
+  abbrev pub rank : Rank (Related suffix)
+  rank x t related = alone x
+
   abbrev Matched : ℕ → step6.Next → five.State5 → Type 0
-  Matched r next t = IsMatched step5.step5 (Related suffix) SameCall alone r next t
+  Matched r next t = IsMatched step5.step5 (Related suffix) SameCall rank r next t
 
   -- one step of each
   one_each : (r : ℕ) (s : six.State) (t u : five.State5) → step5.step5 t ≡ Goes u → Related suffix s u → Matched r (Goes s) t
@@ -133,11 +135,11 @@ module _ (suffix : List ℕ) where
   items_next s es es5 r items stats t a i (low_statement lc li) e = one_each r _ t _ e (statement_begins a i.0 i.1 lc li)
 
   -- the value of a name is handed to the frames on both sides
-  name_next : (s : Scope) (es : List six.Entry) (es5 : List five.Entry5) (r at : ℕ) (name : List ℕ) (fs : List six.Frame) (gs : List five.Frame5) → Agrees suffix s es es5 → FramesMatch suffix s fs gs → HasValue suffix es es5 name → Matched r (step6.step6 (source_state es fs (six.Begin (six.TermNode (term.Name at name))))) (target_state es5 gs (five.Begin (five.TermNode (term5.Name (name ++ suffix)))))
-  name_next s es es5 r at name fs gs a m h =
+  name_next : (s : Scope) (es : List six.Entry) (es5 : List five.Entry5) (r at at5 : ℕ) (name : List ℕ) (fs : List six.Frame) (gs : List five.Frame5) → Agrees suffix s es es5 → FramesMatch suffix s fs gs → HasValue suffix es es5 name → Matched r (step6.step6 (source_state es fs (six.Begin (six.TermNode (term.Name at name))))) (target_state es5 gs (five.Begin (five.TermNode (term5.Name at5 (name ++ suffix)))))
+  name_next s es es5 r at at5 name fs gs a m h =
       let source = sym (ap (λ o. step6.goes (record { state = source_state es fs (six.Begin (six.TermNode (term.Name at name))); environment = 0; below = [] }) fs (six.Hand (step6.value_of o))) h.source) in
-      let target = ap (λ o. step5.goes5 (record { state = target_state es5 gs (five.Begin (five.TermNode (term5.Name (name ++ suffix)))); environment = 0; below = [] }) gs (five.Hand (step5.value_of5 o))) h.target in
-      subst (λ n. Matched r n (target_state es5 gs (five.Begin (five.TermNode (term5.Name (name ++ suffix)))))) source
+      let target = ap (λ o. step5.hand_reference5 (record { state = target_state es5 gs (five.Begin (five.TermNode (term5.Name at5 (name ++ suffix)))); environment = 0; below = [] }) gs at5 (step5.reference5 (name ++ suffix) o)) h.target in
+      subst (λ n. Matched r n (target_state es5 gs (five.Begin (five.TermNode (term5.Name at5 (name ++ suffix)))))) source
       (one_each r _ _ _ target (value_handed {v = h.value} a m))
 
   -- the host's answer is handed to the frames on both sides
@@ -176,7 +178,7 @@ module _ (suffix : List ℕ) where
       let c : Call = record { at = at; callee = callee; args = xs } in
       let c5 : Call5 = record { at = at5; callee = callee; args = ys } in
       let source = sym (ap (λ o. step6.begin_call (record { state = source_state es fs (six.Begin (six.CallNode c)); environment = 0; below = [] }) fs c o) h.source) in
-      let target = ap (λ o. step5.begin_call5 (record { state = target_state es5 gs (five.Begin (five.CallNode c5)); environment = 0; below = [] }) gs c5 o) h.target in
+      let target = ap (λ o. step5.begin_call5 (record { state = target_state es5 gs (five.Begin (five.CallNode c5)); environment = 0; below = [] }) gs c5 (step5.reference5 callee o)) h.target in
       subst (λ n. Matched r n (target_state es5 gs (five.Begin (five.CallNode c5)))) source
       (argument_next s es es5 r h.host at at5 [] xs ys fs gs _ a i l m target)
 
@@ -197,8 +199,8 @@ module _ (suffix : List ℕ) where
   all_matched x t (sum_begins a i l m) = one_each _ _ _ _ refl (term_begins a i.1 l.first (at_operands i.2 l.rest m))
   all_matched x t (term_begins a i low_integer m) = one_each _ _ _ _ refl (value_handed a m)
   all_matched x t (term_begins a i low_text m) = one_each _ _ _ _ refl (value_handed a m)
-  all_matched x t (term_begins {s = s} {es = es} {es5 = es5} {fs = fs} {gs = gs} a i (low_name {at = at} {name = name}) m) =
-      name_next s es es5 _ at name fs gs a m (a.values name i)
+  all_matched x t (term_begins {s = s} {es = es} {es5 = es5} {fs = fs} {gs = gs} a i (low_name {at = at} {at5 = at5} {name = name}) m) =
+      name_next s es es5 _ at at5 name fs gs a m (a.values name i)
   all_matched x t (value_handed {s = s} {es = es} {es5 = es5} {v = v} {fs = fs} {gs = gs} a m) = value_next s es es5 _ v fs gs a m
   all_matched x t (nothing_handed {s = s} {es = es} {es5 = es5} {items = items} {stats = stats} a i l) = items_next s es es5 _ items stats _ a i l refl
   all_matched x t module_ends = one_each _ _ _ _ refl all_done
@@ -212,5 +214,5 @@ module _ (suffix : List ℕ) where
       let entered = ap (λ b. step5.enter_script (step5.start5 hosts (record { statements = directive at ∷ stats })) [] (directive at ∷ stats) b) free in
       (6, _, (_, entered, (_, refl, (_, refl, (_, refl, (_, refl, (_, refl, refl)))))), rel, λ z. absurd (omega arith))
 
-  pub simulates : Simulates step6.step6 step5.step5 (Related suffix) SameCall alone
-  simulates = record { matched = all_matched }
+  pub simulates : Simulates step6.step6 step5.step5 (Related suffix) SameCall rank
+  simulates = record { matched = λ x t related. all_matched x t related }

@@ -135,7 +135,7 @@ module _ (hosts : List (List ℕ)) where
   term_spelled : (s : Scope) (x : Term) (at : ℕ) (rest : List Piece) → IsGood s → IsTerm s x → SpelledTerm x at rest
   term_spelled s (term.Integer place value) at rest good i = (term5.Integer value, g.integer, low_integer)
   term_spelled s (term.Text place units) at rest good i = (term5.Text units, g.text, low_text)
-  term_spelled s (term.Name place name) at rest good i = (term5.Name (name ++ suffix), g.name (usable_with_suffix hosts name (good.declared name i)), low_name)
+  term_spelled s (term.Name place name) at rest good i = (term5.Name at (name ++ suffix), g.name (usable_with_suffix hosts name (good.declared name i)), low_name)
 
   abbrev SpelledTerms : List Term → ℕ → List Piece → Type 0
   SpelledTerms xs at rest = (next : ℕ) × (ys : List Term5) × AreAdded5 (tokens_at at (added_pieces suffix xs rest)) ys (tokens_at next rest) × LowersTerms suffix xs ys
@@ -204,7 +204,7 @@ module _ (hosts : List (List ℕ)) where
       let begin = suc (suc (suc (at + 3) + length (x ++ suffix)) + 1) in
       let (next, y, is_y, low_y) = expression_spelled s e begin (end_pieces rest) good i.1 in
       let (stats, are, low) = items_spelled (with_declared s x) items (suc (next + 1)) (good_after s x (i.0).bindable good) i.2 in
-      (stat.Var (x ++ suffix) y ∷ stats, g.one_more (g.var (usable_with_suffix hosts x (i.0).bindable) is_y) are, low_declaration low_y low)
+      (stat.Var at (x ++ suffix) y ∷ stats, g.one_more (g.var (usable_with_suffix hosts x (i.0).bindable) is_y) are, low_declaration low_y low)
   items_spelled s (item.Expression c ∷ items) at good i =
       let rest = items_pieces suffix items [] in
       let (next, y, is_y, low_y) = call_spelled s c at (end_pieces rest) good i.0 in

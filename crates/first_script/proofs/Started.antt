@@ -21,7 +21,7 @@ use Rattle.runs.proofs.Simulated.{simulated}
 use Rattle.first_script.proofs.Names.{same_names, bytes_eq-refl, bytes_eq-false, name_cases, bool_cases, true_not_false, or_cases}
 use Rattle.first_script.proofs.Lowered.{LowersItems, no_items, low_declaration, low_statement, LowersModule, low_import, low_plain}
 use Rattle.first_script.proofs.Scopes.{HasValue, HasHost, IsApart, Agrees}
-use Rattle.first_script.proofs.Related.{source_state, target_state, directive, Related, directive_done, import_next, starts, alone, simulates}
+use Rattle.first_script.proofs.Related.{source_state, target_state, directive, Related, directive_done, import_next, starts, rank, simulates}
 
 -- no declared name becomes a host's name or a known global
 pub record IsFresh (suffix : List ℕ) (hosts : List (List ℕ)) : Type 0 where
@@ -106,35 +106,40 @@ module _ (suffix : List ℕ) (hosts : List (List ℕ)) (fresh : IsFresh suffix h
       by_case (inr e) = e
 
   -- the script declares no name of a host or of a known global
-  no_clash : (items : List Item) (stats : List Stat5) → LowersItems suffix items stats → list_any (step5.clashes (record { entries = step5.host_entries 0 hosts } ∷ [])) (step5.var_names stats) ≡ false
+  no_clash : (items : List Item) (stats : List Stat5) → LowersItems suffix items stats → step5.first_clash (step5.host_entries 0 hosts) stats ≡ None
   no_clash items stats no_items = refl
-  no_clash items stats (low_declaration {name = x} {items = rest} {stats = stats'} l li) =
-      ap (λ b. (b || is_some (five.value_in (step5.host_entries 0 hosts) (x ++ suffix))) || list_any (step5.clashes (record { entries = step5.host_entries 0 hosts } ∷ [])) (step5.var_names stats')) (fresh.no_global x)
-      ∙ ap (λ o. is_some o || list_any (step5.clashes (record { entries = step5.host_entries 0 hosts } ∷ [])) (step5.var_names stats')) (unnumbered 0 hosts (x ++ suffix) (no_such_host x))
+  no_clash items stats (low_declaration {at5 = at5} {name = x} {items = rest} {stats = stats'} l li) =
+      ap (λ b. cond (b || step5.is_host (five.value_in (step5.host_entries 0 hosts) (x ++ suffix))) (Some at5) (step5.first_clash (step5.host_entries 0 hosts) stats')) (fresh.no_global x)
+      ∙ ap (λ o. cond (step5.is_host o) (Some at5) (step5.first_clash (step5.host_entries 0 hosts) stats')) (unnumbered 0 hosts (x ++ suffix) (no_such_host x))
       ∙ no_clash rest stats' li
   no_clash items stats (low_statement {items = rest} {stats = stats'} l li) = no_clash rest stats' li
 
-  -- the declared names leave the hosts' functions as they are
-  past_vars : (items : List Item) (stats : List Stat5) → LowersItems suffix items stats → (entries : List five.Entry5) (f : List ℕ) → is_one_of f hosts ≡ true → five.value_in (step5.var_entries (step5.var_names stats) ++ entries) f ≡ five.value_in entries f
-  past_vars items stats no_items entries f m = refl
-  past_vars items stats (low_declaration {name = x} {items = rest} {stats = stats'} l li) entries f m =
-      ap (λ b. cond b (Some (five.PrimitiveValue prim.Undefined)) (five.value_in (step5.var_entries (step5.var_names stats') ++ entries) f)) (bytes_eq-false (x ++ suffix) f (fresh.no_host x f m))
-      ∙ past_vars rest stats' li entries f m
-  past_vars items stats (low_statement {items = rest} {stats = stats'} l li) entries f m = past_vars rest stats' li entries f m
+  -- what has a binding keeps it when names are declared
+  still_bound : (entries : List five.Entry5) (name f : List ℕ) (v : five.Value5) (o : Option five.Value5) → five.value_in entries name ≡ o → five.value_in entries f ≡ Some v → five.value_in (step5.with_var entries name o) f ≡ Some v
+  still_bound entries name f v (Some w) is h = h
+  still_bound entries name f v None is h = by_name (name_cases name f)
+    where
+      by_name : (name ≡ f) ⊎ (bytes_eq name f ≡ false) → five.value_in (step5.with_var entries name None) f ≡ Some v
+      by_name (inl e) = absurd (let none : Some v ≡ None = sym h ∙ ap (λ n. five.value_in entries n) (sym e) ∙ is in cc)
+      by_name (inr differs) = ap (λ b. cond b (Some (five.PrimitiveValue prim.Undefined)) (five.value_in entries f)) differs ∙ h
+
+  past_vars : (names : List (List ℕ)) (entries : List five.Entry5) (f : List ℕ) (v : five.Value5) → five.value_in entries f ≡ Some v → five.value_in (step5.with_vars entries names) f ≡ Some v
+  past_vars [] entries f v h = h
+  past_vars (n ∷ names) entries f v h = past_vars names (step5.with_var entries n (five.value_in entries n)) f v (still_bound entries n f v (five.value_in entries n) refl h)
 
   -- at the start the records agree in the scope of the import
-  agrees_at_start : (names : List (List ℕ)) (items : List Item) (stats : List Stat5) → AreImports hosts [] names → LowersItems suffix items stats → Agrees suffix (record { imported = names; declared = [] }) (step6.module_entries hosts (item.Import names ∷ items)) (step5.var_entries (step5.var_names stats) ++ step5.host_entries 0 hosts)
+  agrees_at_start : (names : List (List ℕ)) (items : List Item) (stats : List Stat5) → AreImports hosts [] names → LowersItems suffix items stats → Agrees suffix (record { imported = names; declared = [] }) (step6.module_entries hosts (item.Import names ∷ items)) (step5.with_vars (step5.host_entries 0 hosts) (step5.var_names stats))
   agrees_at_start names items stats i li = record {
     values = λ name h. absurd (true_not_false false h refl);
     hosts = λ f h. has_host f h (numbered 0 hosts f (imported_hosts hosts [] names i f h));
     apart = λ x f h. fresh.no_host x f (imported_hosts hosts [] names i f h);
   }
     where
-      has_host : (f : List ℕ) → is_one_of f names ≡ true → IsNumbered 0 hosts f → HasHost (step6.module_entries hosts (item.Import names ∷ items)) (step5.var_entries (step5.var_names stats) ++ step5.host_entries 0 hosts) f
+      has_host : (f : List ℕ) → is_one_of f names ≡ true → IsNumbered 0 hosts f → HasHost (step6.module_entries hosts (item.Import names ∷ items)) (step5.with_vars (step5.host_entries 0 hosts) (step5.var_names stats)) f
       has_host f h n = record {
         host = n.host;
         source = imported_entry hosts names (step6.module_entries hosts items) f h ∙ ap (λ o. Some (step6.import_binding o)) n.source;
-        target = past_vars items stats li (step5.host_entries 0 hosts) f (imported_hosts hosts [] names i f h) ∙ n.target;
+        target = past_vars (step5.var_names stats) (step5.host_entries 0 hosts) f (five.HostFunction n.host) n.target;
       }
 
   agrees_without_import : (entries : List six.Entry) (entries5 : List five.Entry5) → Agrees suffix (record { imported = []; declared = [] }) entries entries5
@@ -160,4 +165,4 @@ module _ (suffix : List ℕ) (hosts : List (List ℕ)) (fresh : IsFresh suffix h
   -- the script does what the module means
   pub does_the_same : (m : Module) (stats : List Stat5) (at : ℕ) → IsWellFormed hosts m → LowersModule suffix m.items stats → DoesTheSame (step6.run6 hosts m) (step5.run5 hosts (record { statements = directive at ∷ stats }))
   does_the_same m stats at i l =
-      simulated step6.step6 step5.step5 (Related suffix) SameCall alone (simulates suffix) (step6.start6 hosts m) (step5.start5 hosts (record { statements = directive at ∷ stats })) (started m.items stats at i l)
+      simulated step6.step6 step5.step5 (Related suffix) SameCall (rank suffix) (simulates suffix) (step6.start6 hosts m) (step5.start5 hosts (record { statements = directive at ∷ stats })) (started m.items stats at i l)

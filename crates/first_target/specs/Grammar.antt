@@ -87,7 +87,7 @@ token_at at kind = record { at = at; kind = kind }
 pub data IsTerm5 : List Token5 → Term5 → List Token5 → Type 0 where
   integer : {at value : ℕ} {ts : List Token5} → IsTerm5 (token_at at (Integer value) ∷ ts) (term.Integer value) ts
   text : {at : ℕ} {units : List ℕ} {ts : List Token5} → IsTerm5 (token_at at (Text units) ∷ ts) (term.Text units) ts
-  name : {at : ℕ} {bytes : List ℕ} {ts : List Token5} → IsUsable bytes → IsTerm5 (token_at at (Name bytes) ∷ ts) (term.Name bytes) ts
+  name : {at : ℕ} {bytes : List ℕ} {ts : List Token5} → IsUsable bytes → IsTerm5 (token_at at (Name bytes) ∷ ts) (term.Name at bytes) ts
 
 -- AdditiveExpression (11.6): the operands after the first
 pub data AreAdded5 : List Token5 → List Term5 → List Token5 → Type 0 where
@@ -113,7 +113,7 @@ pub data IsExpr5 : List Token5 → Expr5 → List Token5 → Type 0 where
 
 -- VariableStatement with one declaration (12.2), ExpressionStatement (12.4)
 pub data IsStat5 : List Token5 → Stat5 → List Token5 → Type 0 where
-  var : {at at2 at3 at4 : ℕ} {bytes : List ℕ} {e : Expr5} {ts us : List Token5} → IsUsable bytes → IsExpr5 ts e (token_at at4 Semicolon ∷ us) → IsStat5 (token_at at (Name (codes "var")) ∷ token_at at2 (Name bytes) ∷ token_at at3 Equals ∷ ts) (stat.Var bytes e) us
+  var : {at at2 at3 at4 : ℕ} {bytes : List ℕ} {e : Expr5} {ts us : List Token5} → IsUsable bytes → IsExpr5 ts e (token_at at4 Semicolon ∷ us) → IsStat5 (token_at at (Name (codes "var")) ∷ token_at at2 (Name bytes) ∷ token_at at3 Equals ∷ ts) (stat.Var at bytes e) us
   expression : {at : ℕ} {e : Expr5} {ts us : List Token5} → IsExpr5 ts e (token_at at Semicolon ∷ us) → IsStat5 ts (stat.Expression e) us
 
 pub data AreStats5 : List Token5 → List Stat5 → Type 0 where

@@ -1,5 +1,5 @@
 -- Names of scripts (ECMA-262, 5.1 edition, 7.6).
-use Rattle.std.specs.Prelude.{◌≡◌, ℕ, Bool, true, false, ◌&&◌, ◌||◌, not, ◌==◌, List, [], ◌∷◌, codes}
+use Rattle.std.specs.Prelude.{◌≡◌, ℕ, Bool, true, false, ◌&&◌, ◌||◌, not, ◌==◌, List, [], ◌∷◌, ◌++◌, codes}
 use Rattle.std.specs.List.{list_all, list_any}
 use Rattle.std.specs.Char.{is_ascii_alphabetic, is_ascii_digit}
 use Rattle.std.specs.Str.{bytes_eq}
@@ -20,7 +20,7 @@ is_identifier_name [] = false
 is_identifier_name (b ∷ bs) = is_identifier_start b && list_all is_identifier_part bs
 
 -- ReservedWord (7.6.1) with the future reserved words of strict code, and the two names that strict code binds, assigns
--- and, by this project's profile, refers to in no script (10.1.2, 12.2.1, 13.1)
+-- and, by this project's profile, refers to in no script (11.13.1, 12.2.1, 13.1)
 unfoldable pub unusable_names : List (List ℕ)
 unusable_names =
     codes "break" ∷ codes "case" ∷ codes "catch" ∷ codes "class" ∷ codes "const" ∷ codes "continue"
@@ -37,14 +37,21 @@ pub record IsUsable (name : List ℕ) : Type 0 where
   pub identifier : is_identifier_name name ≡ true
   pub free : is_one_of name unusable_names ≡ false
 
--- the global names that a script doesn't declare: those of the built-ins that the profile keeps, and of those that it
--- knows and leaves out
-unfoldable pub known_globals : List (List ℕ)
-known_globals =
+-- the global names of the built-ins that the profile keeps (15.1)
+unfoldable pub kept_globals : List (List ℕ)
+kept_globals =
     codes "undefined" ∷ codes "Object" ∷ codes "Array" ∷ codes "String" ∷ codes "Error" ∷ codes "TypeError"
-    ∷ codes "ReferenceError" ∷ codes "RangeError"
-    ∷ codes "NaN" ∷ codes "Infinity" ∷ codes "eval" ∷ codes "parseInt" ∷ codes "parseFloat" ∷ codes "isNaN"
+    ∷ codes "ReferenceError" ∷ codes "RangeError" ∷ []
+
+-- those that it knows and leaves out (15.1 and B.2)
+unfoldable pub left_out_globals : List (List ℕ)
+left_out_globals =
+    codes "NaN" ∷ codes "Infinity" ∷ codes "eval" ∷ codes "parseInt" ∷ codes "parseFloat" ∷ codes "isNaN"
     ∷ codes "isFinite" ∷ codes "decodeURI" ∷ codes "decodeURIComponent" ∷ codes "encodeURI"
     ∷ codes "encodeURIComponent" ∷ codes "escape" ∷ codes "unescape" ∷ codes "Function" ∷ codes "Boolean"
     ∷ codes "Number" ∷ codes "Date" ∷ codes "RegExp" ∷ codes "EvalError" ∷ codes "SyntaxError" ∷ codes "URIError"
     ∷ codes "Math" ∷ codes "JSON" ∷ []
+
+-- the global names that a script doesn't declare
+unfoldable pub known_globals : List (List ℕ)
+known_globals = kept_globals ++ left_out_globals

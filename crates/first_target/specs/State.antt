@@ -27,6 +27,13 @@ abbrev pub value_in : List Entry5 → List ℕ → Option Value5
 value_in [] name = None
 value_in (e ∷ es) name = if bytes_eq e.name name then Some e.value else value_in es name
 
+-- What a name refers to (10.2.2.1): a value, a global of the built-ins that the profile keeps or leaves out, or nothing.
+pub data Reference5 : Type 0 where
+  Bound : Value5 → Reference5
+  KeptGlobal : Reference5
+  LeftOutGlobal : Reference5
+  Unresolvable : Reference5
+
 -- What begins: a statement, a call, a sum or an operand.
 pub data Node5 : Type 0 where
   StatNode : Stat5 → Node5

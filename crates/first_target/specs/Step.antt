@@ -1,6 +1,6 @@
 -- The steps of a script's run. A step begins a node, or hands a completion to the top frame.
-use Rattle.std.specs.Prelude.{ℕ, ◌+◌, Bool, true, false, ◌||◌, if◌then◌else◌, List, [], ◌∷◌, ◌++◌, Option, Some, None, is_some, pos}
-use Rattle.std.specs.List.{list_any}
+use Rattle.std.specs.Prelude.{ℕ, ◌+◌, Bool, true, false, ◌||◌, if◌then◌else◌, List, [], ◌∷◌, ◌++◌, Option, Some, None, pos, codes}
+use Rattle.std.specs.Str.{bytes_eq}
 use Rattle.runs.specs.Run.{Step, Goes, Asks, Ends, Leaves, run}
 use Rattle.shared_meaning.specs.Addition.{added}
 use Rattle.shared_meaning.specs.Ending.{Finish, Ended, Threw, Exit, ProgramBehaviour}
@@ -21,8 +21,8 @@ use Rattle.first_target.specs.declared.Call5.{Call5}
 use Rattle.first_target.specs.declared.Sum5.{Sum5}
 use Rattle.first_target.specs.declared.Term5.{Term5}
 use Rattle.first_target.specs.declared.Term5.TheVariants as term
-use Rattle.first_target.specs.Names.{is_one_of, known_globals}
-use Rattle.first_target.specs.State.{Value5, PrimitiveValue, HostFunction, Entry5, EnvironmentRecord5, value_in, Node5, StatNode, CallNode, SumNode, TermNode, Completion5, Empty, Normal, Throw, Control5, Begin, Hand, Callee5, Host, NotCallable, Frame5, StatsRest, AssignVar, OperandsRest, OperandRight, ArgumentsRest, Context5, State5, entries_of5, with_entry5}
+use Rattle.first_target.specs.Names.{is_one_of, kept_globals, left_out_globals, known_globals}
+use Rattle.first_target.specs.State.{Value5, PrimitiveValue, HostFunction, Entry5, EnvironmentRecord5, value_in, Reference5, Bound, KeptGlobal, LeftOutGlobal, Unresolvable, Node5, StatNode, CallNode, SumNode, TermNode, Completion5, Empty, Normal, Throw, Control5, Begin, Hand, Callee5, Host, NotCallable, Frame5, StatsRest, AssignVar, OperandsRest, OperandRight, ArgumentsRest, Context5, State5, entries_of5, with_entry5}
 
 abbrev pub Next5 : Type 0
 Next5 = Step State5 Event Reply Finish Exit
@@ -45,20 +45,38 @@ then5 r frames control =
 abbrev pub goes5 : Running5 → List Frame5 → Control5 → Next5
 goes5 r frames control = Goes (then5 r frames control)
 
-abbrev pub lookup5 : Running5 → List ℕ → Option Value5
-lookup5 r name = value_in (entries_of5 r.state.records r.environment) name
+-- what a name that has no binding refers to: `undefined` is undefined (15.1.1.3)
+abbrev pub global5 : List ℕ → Reference5
+global5 name =
+    if bytes_eq name (codes "undefined") then Bound (PrimitiveValue prim.Undefined)
+    else (if is_one_of name kept_globals then KeptGlobal else (if is_one_of name left_out_globals then LeftOutGlobal else Unresolvable))
 
--- GetValue of an identifier (8.7.1): an unresolvable one throws. The profile has no values for host functions.
-abbrev pub value_of5 : Option Value5 → Completion5
-value_of5 (Some (PrimitiveValue value)) = Normal value
-value_of5 (Some (HostFunction host)) = Throw seen.TypeError
-value_of5 None = Throw seen.ReferenceError
+abbrev pub reference5 : List ℕ → Option Value5 → Reference5
+reference5 name (Some value) = Bound value
+reference5 name None = global5 name
+
+abbrev pub lookup5 : Running5 → List ℕ → Reference5
+lookup5 r name = reference5 name (value_in (entries_of5 r.state.records r.environment) name)
+
+-- Where this meaning goes no further: by number 1 where a sum is no number of the profile, by number 7
+-- at a global that it leaves out, and by number 0 at an object as
+-- a value, since the one use that it has of one is a call of a host's function by its name.
+abbrev pub leaves5 : ℕ → ℕ → Next5
+leaves5 number at = Leaves (record { number = number; site = site_at5 at })
+
+-- GetValue of an identifier (8.7.1): an unresolvable one throws.
+abbrev pub hand_reference5 : Running5 → List Frame5 → ℕ → Reference5 → Next5
+hand_reference5 r frames at (Bound (PrimitiveValue value)) = goes5 r frames (Hand (Normal value))
+hand_reference5 r frames at (Bound (HostFunction host)) = leaves5 0 at
+hand_reference5 r frames at KeptGlobal = leaves5 0 at
+hand_reference5 r frames at LeftOutGlobal = leaves5 7 at
+hand_reference5 r frames at Unresolvable = goes5 r frames (Hand (Throw seen.ReferenceError))
 
 -- Begin an operand (11.1.2, 11.1.3).
 abbrev pub begin_term5 : Running5 → List Frame5 → Term5 → Next5
 begin_term5 r frames (term.Integer value) = goes5 r frames (Hand (Normal (prim.Number (pos value))))
 begin_term5 r frames (term.Text units) = goes5 r frames (Hand (Normal (prim.Text units)))
-begin_term5 r frames (term.Name name) = goes5 r frames (Hand (value_of5 (lookup5 r name)))
+begin_term5 r frames (term.Name at name) = hand_reference5 r frames at (lookup5 r name)
 
 -- Begin a sum (11.6.1): its first operand.
 abbrev pub begin_sum5 : Running5 → List Frame5 → Sum5 → Next5
@@ -81,10 +99,12 @@ next_argument5 r frames callee at values [] = call5 r frames callee at values
 next_argument5 r frames callee at values (sum ∷ sums) = goes5 r (ArgumentsRest callee at values sums ∷ frames) (Begin (SumNode sum))
 
 -- Begin a call (11.2.3): the callee's value, and then the first argument.
-abbrev pub begin_call5 : Running5 → List Frame5 → Call5 → Option Value5 → Next5
-begin_call5 r frames c (Some (HostFunction host)) = next_argument5 r frames (Host host) c.at [] c.args
-begin_call5 r frames c (Some (PrimitiveValue value)) = next_argument5 r frames NotCallable c.at [] c.args
-begin_call5 r frames c None = goes5 r frames (Hand (Throw seen.ReferenceError))
+abbrev pub begin_call5 : Running5 → List Frame5 → Call5 → Reference5 → Next5
+begin_call5 r frames c (Bound (HostFunction host)) = next_argument5 r frames (Host host) c.at [] c.args
+begin_call5 r frames c (Bound (PrimitiveValue value)) = next_argument5 r frames NotCallable c.at [] c.args
+begin_call5 r frames c KeptGlobal = leaves5 0 c.at
+begin_call5 r frames c LeftOutGlobal = leaves5 7 c.at
+begin_call5 r frames c Unresolvable = goes5 r frames (Hand (Throw seen.ReferenceError))
 
 abbrev pub node_of5 : Expr5 → Node5
 node_of5 (expr.Sum sum) = SumNode sum
@@ -92,7 +112,7 @@ node_of5 (expr.Call call) = CallNode call
 
 -- Begin a statement: a variable statement begins its initializer (12.2), an expression statement its expression (12.4).
 abbrev pub begin_stat5 : Running5 → List Frame5 → Stat5 → Next5
-begin_stat5 r frames (stat.Var name init) = goes5 r (AssignVar name ∷ frames) (Begin (node_of5 init))
+begin_stat5 r frames (stat.Var at name init) = goes5 r (AssignVar name ∷ frames) (Begin (node_of5 init))
 begin_stat5 r frames (stat.Expression e) = goes5 r frames (Begin (node_of5 e))
 
 abbrev pub begin5 : Running5 → List Frame5 → Node5 → Next5
@@ -114,7 +134,7 @@ assign5 r frames name value =
 
 -- The value of a sum so far, or the exit where it isn't a number of the profile.
 abbrev pub sum_so_far5 : Running5 → List Frame5 → ℕ → List Term5 → Option Primitive → Next5
-sum_so_far5 r frames at terms None = Leaves (record { number = 1; site = site_at5 at })
+sum_so_far5 r frames at terms None = leaves5 1 at
 sum_so_far5 r frames at terms (Some value) = goes5 r (OperandsRest at terms ∷ frames) (Hand (Normal value))
 
 abbrev pub next_operand5 : Running5 → List Frame5 → ℕ → Primitive → List Term5 → Next5
@@ -149,34 +169,45 @@ on_control5 r frames (Hand completion) = hand5 r completion frames
 -- the names that a script declares
 abbrev pub var_names : List Stat5 → List (List ℕ)
 var_names [] = []
-var_names (stat.Var name init ∷ stats) = name ∷ var_names stats
+var_names (stat.Var at name init ∷ stats) = name ∷ var_names stats
 var_names (stat.Expression e ∷ stats) = var_names stats
 
--- Declaration binding instantiation (10.5): a declared name begins with undefined.
-abbrev pub var_entries : List (List ℕ) → List Entry5
-var_entries [] = []
-var_entries (name ∷ names) = record { name = name; value = PrimitiveValue prim.Undefined } ∷ var_entries names
+-- Declaration binding instantiation (10.5, step 8): a declared name that has no binding begins with undefined.
+abbrev pub with_var : List Entry5 → List ℕ → Option Value5 → List Entry5
+with_var entries name (Some value) = entries
+with_var entries name None = record { name = name; value = PrimitiveValue prim.Undefined } ∷ entries
+
+abbrev pub with_vars : List Entry5 → List (List ℕ) → List Entry5
+with_vars entries [] = entries
+with_vars entries (name ∷ names) = with_vars (with_var entries name (value_in entries name)) names
 
 abbrev pub declare : List EnvironmentRecord5 → List (List ℕ) → List EnvironmentRecord5
 declare [] names = []
-declare (r ∷ rs) names = record { entries = var_entries names ++ r.entries } ∷ rs
+declare (r ∷ rs) names = record { entries = with_vars r.entries names } ∷ rs
 
--- A script that declares the name of a host or of a known global leaves the profile.
-abbrev pub names_host : List Entry5 → List ℕ → Bool
-names_host entries name = is_some (value_in entries name)
+-- A script that declares the name of a host or of a known global leaves the profile, at the first such declaration.
+abbrev pub is_host : Option Value5 → Bool
+is_host (Some (HostFunction host)) = true
+is_host (Some (PrimitiveValue value)) = false
+is_host None = false
 
-abbrev pub clashes : List EnvironmentRecord5 → List ℕ → Bool
-clashes records name = is_one_of name known_globals || names_host (entries_of5 records 0) name
+abbrev pub clashes : List Entry5 → List ℕ → Bool
+clashes entries name = is_one_of name known_globals || is_host (value_in entries name)
 
-abbrev pub enter_script : State5 → List (List Stat5) → List Stat5 → Bool → Next5
-enter_script s rest stats true = Leaves (record { number = 7; site = site_at5 0 })
-enter_script s rest stats false =
+abbrev pub first_clash : List Entry5 → List Stat5 → Option ℕ
+first_clash entries [] = None
+first_clash entries (stat.Var at name init ∷ stats) = if clashes entries name then Some at else first_clash entries stats
+first_clash entries (stat.Expression e ∷ stats) = first_clash entries stats
+
+abbrev pub enter_script : State5 → List (List Stat5) → List Stat5 → Option ℕ → Next5
+enter_script s rest stats (Some at) = leaves5 7 at
+enter_script s rest stats None =
     Goes (record { records = declare s.records (var_names stats); stack = record { environment = 0; frames = StatsRest stats ∷ []; control = Hand Empty } ∷ []; pending = rest })
 
 -- The next script is entered (10.4.1), or the run ends.
 abbrev pub next_script : State5 → List (List Stat5) → Next5
 next_script s [] = Ends Ended
-next_script s (stats ∷ rest) = enter_script s rest stats (list_any (clashes s.records) (var_names stats))
+next_script s (stats ∷ rest) = enter_script s rest stats (first_clash (entries_of5 s.records 0) stats)
 
 abbrev pub on_stack5 : State5 → List Context5 → Next5
 on_stack5 s [] = next_script s s.pending

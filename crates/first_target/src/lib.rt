@@ -17,7 +17,7 @@ pub struct Script {
 #[derive(Debug, Drop)]
 pub enum Stat5 {
     /// `var NAME = EXPRESSION;` (12.2)
-    Var { name: Name, init: Expr5 },
+    Var { at: u32, name: Name, init: Expr5 },
     /// An expression as a statement, a directive among them (12.4, 14.1).
     Expression(Expr5),
 }
@@ -50,5 +50,5 @@ pub struct Sum5 {
 pub enum Term5 {
     Integer(u64),
     Text(Units),
-    Name(Name),
+    Name { at: u32, name: Name },
 }
