@@ -43,6 +43,10 @@ pub record Written : Type 0 where
   pub faults_old : ℕ
   pub faults_new : ℕ
 
+-- what a call did to a sink, by the bytes and the faults that the sink tells
+abbrev pub written_of : {S : Type 0} → (S → Option (List ℕ)) → (S → ℕ) → S → S → Written
+written_of bytes faults old new = record { old = bytes old; new = bytes new; faults_old = faults old; faults_new = faults new }
+
 abbrev pub HasAdded : Written → List ℕ → Type 0
 HasAdded sink piece = Adds piece sink.old sink.new
 
@@ -60,6 +64,11 @@ pub record Call : Type 0 where
   pub faults_new : ℕ
   pub out : Written
   pub err : Written
+
+-- a call, by what files tell, its words and hosts, the files before and after it, and what it did to both sinks
+abbrev pub call_of : {F : Type 0} → (F → Option (List ℕ → Option (List ℕ))) → (F → ℕ) → List (List ℕ) → List (List ℕ) → F → F → Written → Written → Call
+call_of files faults words hosts old new out err =
+    record { words = words; hosts = hosts; files = files old; faults_old = faults old; faults_new = faults new; out = out; err = err }
 
 -- the file of a path, where the files are told
 abbrev pub OnFile : Call → List ℕ → (Option (List ℕ) → Type 0) → Type 0

@@ -42,6 +42,7 @@ pub fn build<F: Files>(
         (λ script. IsFileScript (names hosts.now) (F.files files.old) path.now script.items)
         (FitsFile (names hosts.now) (F.files files.old) path.now (F.faults files.old) (F.faults files.new)) }
     ensures printable { IfErr result IsPrintableFault }
+    ensures kept { F.files files.new ≡ F.files files.old }
     ensures no_fall { F.faults files.old ≤ F.faults files.new }
 {
     let hosts = host_names(alloc, hosts)?;

@@ -1,8 +1,8 @@
 //! The top call, which does one command.
 
-ghost use Rattle.std.specs.Prelude.{◌≡◌, map, string_bytes};
+ghost use Rattle.std.specs.Prelude.{◌≡◌, ◌≤◌, map, string_bytes};
 ghost use Rattle.es_outside.specs.HostList.{names, entries};
-ghost use Rattle.es5c.specs.Outcome.{Call, Written, IsOutcome, ComesWhenDue, IsSaid, IsBuildOutcome, IsMisuseOutcome, IsFailOutcome, IsPrintableFault};
+ghost use Rattle.es5c.specs.Outcome.{written_of, call_of, IsOutcome, ComesWhenDue, IsSaid, IsBuildOutcome, IsMisuseOutcome, IsFailOutcome, IsPrintableFault};
 ghost use Rattle.es5c.specs.Words.{entry_of};
 ghost use Rattle.es5c.specs.Lines.{line_of, status_of, IsPrintable};
 
@@ -27,13 +27,17 @@ pub fn es5c<F: Files, S: Sink, E: Sink>(
     err: &mut E,
 ) -> Status
     // What the call leaves at each status.
-    ensures outcome { let o : Written = record { old = S.bytes out.old; new = S.bytes out.new; faults_old = S.faults out.old; faults_new = S.faults out.new } in
-        let e : Written = record { old = E.bytes err.old; new = E.bytes err.new; faults_old = E.faults err.old; faults_new = E.faults err.new } in
-        IsOutcome (record { words = map string_bytes words.now; hosts = names hosts.old; files = F.files files.old; faults_old = F.faults files.old; faults_new = F.faults files.new; out = o; err = e }) result }
+    ensures outcome { let o = written_of S.bytes S.faults out.old out.new in
+        let e = written_of E.bytes E.faults err.old err.new in
+        IsOutcome (call_of F.files F.faults (map string_bytes words.now) (names hosts.old) files.old files.new o e) result }
     // Where no count of faults rose and memory is there, the status is the one that is due.
-    ensures due { let o : Written = record { old = S.bytes out.old; new = S.bytes out.new; faults_old = S.faults out.old; faults_new = S.faults out.new } in
-        let e : Written = record { old = E.bytes err.old; new = E.bytes err.new; faults_old = E.faults err.old; faults_new = E.faults err.new } in
-        ComesWhenDue (record { words = map string_bytes words.now; hosts = names hosts.old; files = F.files files.old; faults_old = F.faults files.old; faults_new = F.faults files.new; out = o; err = e }) result }
+    ensures due { let o = written_of S.bytes S.faults out.old out.new in
+        let e = written_of E.bytes E.faults err.old err.new in
+        ComesWhenDue (call_of F.files F.faults (map string_bytes words.now) (names hosts.old) files.old files.new o e) result }
+    // The files tell what they told, and no count of faults falls.
+    ensures kept { F.files files.new ≡ F.files files.old }
+    ensures no_fall { (F.faults files.old ≤ F.faults files.new)
+        × (S.faults out.old ≤ S.faults out.new) × (E.faults err.old ≤ E.faults err.new) }
     // No host is asked.
     ensures unasked { entries hosts.new ≡ entries hosts.old }
 {
@@ -45,8 +49,8 @@ pub fn es5c<F: Files, S: Sink, E: Sink>(
 
 /// Writes the usage line where the words are no command.
 fn misuse<E: Sink>(fault: WordsFault, err: &mut E) -> Status
-    ensures { let e : Written = record { old = E.bytes err.old; new = E.bytes err.new; faults_old = E.faults err.old; faults_new = E.faults err.new } in
-        IsMisuseOutcome fault e result }
+    ensures outcome { IsMisuseOutcome fault (written_of E.bytes E.faults err.old err.new) result }
+    ensures no_fall { E.faults err.old ≤ E.faults err.new }
 {
     match fault {
         WordsFault::Usage => report(err, USAGE, Status::Usage),
@@ -62,9 +66,12 @@ fn do_command<F: Files, S: Sink, E: Sink>(
     out: &mut S,
     err: &mut E,
 ) -> Status
-    ensures { let o : Written = record { old = S.bytes out.old; new = S.bytes out.new; faults_old = S.faults out.old; faults_new = S.faults out.new } in
-        let e : Written = record { old = E.bytes err.old; new = E.bytes err.new; faults_old = E.faults err.old; faults_new = E.faults err.new } in
+    ensures outcome { let o = written_of S.bytes S.faults out.old out.new in
+        let e = written_of E.bytes E.faults err.old err.new in
         IsBuildOutcome (names hosts.now) (F.files files.old) (entry_of command.now) (F.faults files.old) (F.faults files.new) o e result }
+    ensures kept { F.files files.new ≡ F.files files.old }
+    ensures no_fall { (F.faults files.old ≤ F.faults files.new)
+        × (S.faults out.old ≤ S.faults out.new) × (E.faults err.old ≤ E.faults err.new) }
 {
     match command {
         Command::Build { entry } => write_built(alloc, entry.as_str(), files, hosts, out, err),
@@ -80,9 +87,12 @@ fn write_built<F: Files, S: Sink, E: Sink>(
     out: &mut S,
     err: &mut E,
 ) -> Status
-    ensures { let o : Written = record { old = S.bytes out.old; new = S.bytes out.new; faults_old = S.faults out.old; faults_new = S.faults out.new } in
-        let e : Written = record { old = E.bytes err.old; new = E.bytes err.new; faults_old = E.faults err.old; faults_new = E.faults err.new } in
+    ensures outcome { let o = written_of S.bytes S.faults out.old out.new in
+        let e = written_of E.bytes E.faults err.old err.new in
         IsBuildOutcome (names hosts.now) (F.files files.old) path.now (F.faults files.old) (F.faults files.new) o e result }
+    ensures kept { F.files files.new ≡ F.files files.old }
+    ensures no_fall { (F.faults files.old ≤ F.faults files.new)
+        × (S.faults out.old ≤ S.faults out.new) × (E.faults err.old ≤ E.faults err.new) }
 {
     match build(alloc, path, files, hosts) {
         Ok(script) => write_script(out, script.as_slice()),
@@ -93,8 +103,8 @@ fn write_built<F: Files, S: Sink, E: Sink>(
 /// Writes the line of a build's fault, if it has one.
 fn fail<E: Sink>(alloc: Global, path: &str, fault: BuildFault, err: &mut E) -> Status
     requires { IsPrintableFault fault }
-    ensures { let e : Written = record { old = E.bytes err.old; new = E.bytes err.new; faults_old = E.faults err.old; faults_new = E.faults err.new } in
-        IsFailOutcome path.now fault e result }
+    ensures outcome { IsFailOutcome path.now fault (written_of E.bytes E.faults err.old err.new) result }
+    ensures no_fall { E.faults err.old ≤ E.faults err.new }
 {
     match fault {
         BuildFault::Refused(fault) => refuse(alloc, path, fault, err),
@@ -104,8 +114,8 @@ fn fail<E: Sink>(alloc: Global, path: &str, fault: BuildFault, err: &mut E) -> S
 
 /// Writes a whole script to the output.
 fn write_script<S: Sink>(out: &mut S, script: &[u8]) -> Status
-    ensures { let o : Written = record { old = S.bytes out.old; new = S.bytes out.new; faults_old = S.faults out.old; faults_new = S.faults out.new } in
-        IsSaid o script.now Status.Done result }
+    ensures said { IsSaid (written_of S.bytes S.faults out.old out.new) script.now Status.Done result }
+    ensures no_fall { S.faults out.old ≤ S.faults out.new }
 {
     match write_all(out, script) {
         Ok(()) => Status::Done,
@@ -116,8 +126,8 @@ fn write_script<S: Sink>(out: &mut S, script: &[u8]) -> Status
 /// Writes the line of a fault to the error stream, and answers the fault's status.
 fn refuse<E: Sink>(alloc: Global, path: &str, fault: Fault, err: &mut E) -> Status
     requires { IsPrintable fault }
-    ensures { let e : Written = record { old = E.bytes err.old; new = E.bytes err.new; faults_old = E.faults err.old; faults_new = E.faults err.new } in
-        IsSaid e (line_of path.now fault) (status_of fault) result }
+    ensures said { IsSaid (written_of E.bytes E.faults err.old err.new) (line_of path.now fault) (status_of fault) result }
+    ensures no_fall { E.faults err.old ≤ E.faults err.new }
 {
     match fault.line(alloc, path) {
         Ok(line) => report(err, line.as_bytes(), fault.status()),
@@ -127,8 +137,8 @@ fn refuse<E: Sink>(alloc: Global, path: &str, fault: Fault, err: &mut E) -> Stat
 
 /// Writes a line to the error stream, and answers its status.
 fn report<E: Sink>(err: &mut E, line: &[u8], status: Status) -> Status
-    ensures { let e : Written = record { old = E.bytes err.old; new = E.bytes err.new; faults_old = E.faults err.old; faults_new = E.faults err.new } in
-        IsSaid e line.now status result }
+    ensures said { IsSaid (written_of E.bytes E.faults err.old err.new) line.now status result }
+    ensures no_fall { E.faults err.old ≤ E.faults err.new }
 {
     match write_all(err, line) {
         Ok(()) => status,

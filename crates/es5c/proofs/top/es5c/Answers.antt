@@ -3,13 +3,13 @@ use Rattle.es5c.specs.Words.{entry_of}
 use Rattle.es5c.proofs.top.es5c.Goals as goal
 
 pub returns-in-Ok-clause-outcome : goal.returns-in-Ok-clause-outcome
-returns-in-Ok-clause-outcome g c = built _ (entry_of c.in-Ok.command) _ c.in-Ok.ensures c.do_command.ensures
+returns-in-Ok-clause-outcome g c = built _ (entry_of c.in-Ok.command) _ c.in-Ok.ensures c.do_command.ensures.outcome
 
 pub returns-in-Ok-clause-due : goal.returns-in-Ok-clause-due
 returns-in-Ok-clause-due g c = comes_when_due _ _ (returns-in-Ok-clause-outcome g c)
 
 pub returns-in-Err-clause-outcome : goal.returns-in-Err-clause-outcome
-returns-in-Err-clause-outcome g c = misused _ c.in-Err.fault _ c.in-Err.ensures (adds_nothing _) c.misuse.ensures
+returns-in-Err-clause-outcome g c = misused _ c.in-Err.fault _ c.in-Err.ensures (adds_nothing _) c.misuse.ensures.outcome
 
 pub returns-in-Err-clause-due : goal.returns-in-Err-clause-due
 returns-in-Err-clause-due g c = comes_when_due _ _ (returns-in-Err-clause-outcome g c)

@@ -1,8 +1,8 @@
 use Rattle.es5c.specs.Outcome.{said, cut_off}
 use Rattle.es5c.proofs.top.write_script.Goals as goal
 
-pub returns-in-Ok : goal.returns-in-Ok
-returns-in-Ok g c = said c.in-Ok.ensures.all
+pub returns-in-Ok-clause-said : goal.returns-in-Ok-clause-said
+returns-in-Ok-clause-said g c = said c.in-Ok.ensures.all
 
-pub returns-in-Err : goal.returns-in-Err
-returns-in-Err g c = cut_off (c.in-Err.ensures.front, c.in-Err.ensures.failed)
+pub returns-in-Err-clause-said : goal.returns-in-Err-clause-said
+returns-in-Err-clause-said g c = cut_off (c.in-Err.ensures.front, c.in-Err.ensures.failed)
