@@ -1,4 +1,5 @@
-//! The reader of the module forms that the program reads today: bytes to tokens, and tokens to a tree.
+//! The reader of the module forms that the program reads today: bytes to tokens, and tokens to a tree. It stands in until
+//! whole modules are lowered.
 #![tactic(auto)]
 
 mod lexer;

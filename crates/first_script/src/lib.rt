@@ -1,4 +1,5 @@
-//! The script of a module of the first forms, which does what the module means.
+//! The script of a module of the first forms, which does what the module means. It stands in until whole modules are
+//! lowered.
 #![tactic(auto)]
 
 ghost use Rattle.std.specs.Prelude.{IfOk};

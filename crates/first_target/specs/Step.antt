@@ -58,9 +58,9 @@ reference5 name None = global5 name
 abbrev pub lookup5 : Running5 → List ℕ → Reference5
 lookup5 r name = reference5 name (value_in (entries_of5 r.state.records r.environment) name)
 
--- Where this meaning goes no further: by number 1 where a sum is no number of the profile, by number 7
--- at a global that it leaves out, and by number 0 at an object as
--- a value, since the one use that it has of one is a call of a host's function by its name.
+-- Where this meaning goes no further: by number 1 where a sum is no number of the profile, by number 7 at a global that it
+-- leaves out, and by number 0 at an object as a value, since all that it has of objects is a call of a host's function by
+-- its name.
 abbrev pub leaves5 : ℕ → ℕ → Next5
 leaves5 number at = Leaves (record { number = number; site = site_at5 at })
 

@@ -1,4 +1,5 @@
-//! The trees of ECMAScript 2015 modules, as far as the program reads them today.
+//! The trees of ECMAScript 2015 modules, as far as the program reads them today. They stand in until whole modules, whose
+//! trees are es6_ast's, are lowered.
 //!
 //! Each node says where its first token begins, as an offset in bytes from 0.
 #![tactic(auto)]
