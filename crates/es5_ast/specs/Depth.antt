@@ -1,172 +1,161 @@
--- How many constructs are open at once in a derivation. A construct is open from its first token to its end. Counted are
--- a group in parentheses, brackets or braces; the statement under an `if`, a loop, a label, or an `else` that no `if`
--- follows; the operand of a prefix operator or of `new`; what follows an assignment operator or the `=` of an initializer;
--- and each branch of a conditional expression. Chains of operators, accesses, calls, commas and `else if` count nothing.
-use Rattle.std.specs.Prelude.{ℕ, zero, suc, Bool, List, Option}
-use Rattle.es5_ast.specs.declared.tree.Element5.{Element5}
-use Rattle.es5_ast.specs.declared.tree.Property5.{Property5}
-use Rattle.es5_ast.specs.declared.tree.Link5.{Link5}
-use Rattle.es5_ast.specs.declared.tree.Operand5.{Operand5}
-use Rattle.es5_ast.specs.declared.tree.Function5.{Function5}
-use Rattle.es5_ast.specs.declared.tree.Expr5.{Expr5}
-use Rattle.es5_ast.specs.declared.tree.Stat5.{Stat5}
-use Rattle.es5_ast.specs.declared.tree.Block5.{Block5}
-use Rattle.es5_ast.specs.declared.tree.Declared5.{Declared5}
-use Rattle.es5_ast.specs.declared.tree.Condition5.{Condition5}
-use Rattle.es5_ast.specs.declared.tree.ForFirst5.{ForFirst5}
-use Rattle.es5_ast.specs.declared.tree.Case5.{Case5}
-use Rattle.es5_ast.specs.declared.tree.Catch5.{Catch5}
-use Rattle.es5_ast.specs.Lexical.{Token5}
-use Rattle.es5_ast.specs.Grammar.{Mode5, AreArguments, AreCases, AreDeclared, AreElements, AreInCase, AreLinks, AreOperands, AreParts, AreProperties, AreStats, IsAccessor, IsBlock, IsCatch, IsClosed, IsCondition, IsDeclared, IsExpr, IsForFirst, IsFunction, IsIf, IsNewCallee, IsNode, IsOptional, IsProgram, IsProperty, IsReturned, IsStat, absent, anonymous, another_new, array, assignment, bare, binary_chain, block, braces, break, call_link, case_clause, chain, closed, condition, conditional, continue, debugger, declaration, default_clause, do_while, else_if, empty, expression, expression_first, for, function, getter, group, handler, hole, identifier, if, index_link, initialized, labelled, last_argument, last_declared, last_element, last_else, last_property, literal, member, member_link, named, new_bare, new_call, next_argument, next_declared, next_element, next_in_case, next_operand, next_part, next_property, next_stat, no_argument, no_case, no_element, no_else, no_link, no_more_in_case, no_operand, no_part, no_property, no_stat, no_value, no_value_returned, nothing_first, object, one_more, one_value, plain, present, return, sequence, setter, switch, this, throw, try_both, try_catch, try_finally, unary, uninitialized, update_after, update_before, value_returned, var, var_first, while, no_more}
+-- How many constructs are open at a token. Open from its first token to its end is a group in parentheses, brackets or
+-- braces; the statement under an `if`, a loop, a label, or an `else` that no `if` follows; the operand of a prefix operator
+-- or of `new`; what follows an assignment operator or the `=` of an initializer; and each branch of a conditional
+-- expression. Chains of operators, accesses, calls, commas and `else if` count nothing.
+use Rattle.std.specs.Prelude.{ℕ, ◌+◌, ◌-◌, ◌==◌, Bool, true, false, ◌&&◌, ◌||◌, not, nat_le, List, [], ◌∷◌, ◌++◌, cond, codes, Option, Some, None, count_by}
+use Rattle.es_text.specs.declared.Span.{Span}
+use Rattle.es5_ast.specs.declared.operators.UpdateOperator5.{UpdateOperator5}
+use Rattle.es5_ast.specs.declared.tree.Stat5.{Stat5, fold-Stat5}
+use Rattle.es5_ast.specs.declared.tree.Element5.TheOpen as layer
+use Rattle.es5_ast.specs.declared.tree.Element5.TheOpen.{Element5-F, Expr5-F, ForFirst5-F, Link5-F, Property5-F, Stat5-F, Block5-F, Case5-F, Catch5-F, Condition5-F, Declared5-F, Function5-F, Operand5-F}
+use Rattle.es5_ast.specs.Lexical.{Kind5, Token5}
+use Rattle.es5_ast.specs.Grammar.{is_mark, is_before}
 
--- one more construct opens, and this holds of what is inside
-abbrev pub Opens : ℕ → (ℕ → Type 0) → Type 0
-Opens zero inside = ⊥
-Opens (suc n) inside = inside n
+-- how many may be open at one token
+abbrev pub most_open : ℕ
+most_open = 2048
 
--- at most so many are open
-abbrev mutual
-  pub ExprWithin : {mode : Mode5} {no_in : Bool} {least : ℕ} {ts : List Token5} {x : Expr5} {us : List Token5} → IsExpr mode no_in least ts x us → ℕ → Type 0
-  ExprWithin (bare _ _ a) n = NodeWithin a n
-  ExprWithin (group _ a _) n = Opens n (λ m. ExprWithin a m)
+-- ## Groups, by the tokens
 
-  pub NodeWithin : {mode : Mode5} {no_in : Bool} {level : ℕ} {ts : List Token5} {x : Expr5} {us : List Token5} → IsNode mode no_in level ts x us → ℕ → Type 0
-  NodeWithin (this _ _ _ _) n = Unit {0}
-  NodeWithin (identifier _ _ _ _ _ _) n = Unit {0}
-  NodeWithin (literal _ _ _ _ _) n = Unit {0}
-  NodeWithin (array _ _ _ _ _ a) n = Opens n (λ m. ElementsWithin a m)
-  NodeWithin (object _ _ _ _ _ a) n = Opens n (λ m. PropertiesWithin a m)
-  NodeWithin (function _ _ a) n = FunctionWithin a n
-  NodeWithin (chain _ _ _ _ _ _ _ _ a b) n = ExprWithin a n × LinksWithin b n
-  NodeWithin (new_call _ _ _ _ _ _ a _ b) n = Opens n (λ m. ExprWithin a m) × Opens n (λ m. ArgumentsWithin b m)
-  NodeWithin (new_bare _ _ _ _ _ a) n = Opens n (λ m. NewCalleeWithin a m)
-  NodeWithin (update_after _ _ _ _ _ _ a _ _) n = ExprWithin a n
-  NodeWithin (update_before _ _ _ _ _ _ _ a) n = Opens n (λ m. ExprWithin a m)
-  NodeWithin (unary _ _ _ _ _ _ a) n = Opens n (λ m. ExprWithin a m)
-  NodeWithin (binary_chain _ _ _ _ _ _ _ a b) n = ExprWithin a n × OperandsWithin b n
-  NodeWithin (conditional _ _ _ _ _ _ a _ b _ c) n = ExprWithin a n × Opens n (λ m. ExprWithin b m) × Opens n (λ m. ExprWithin c m)
-  NodeWithin (assignment _ _ _ _ _ _ a _ b) n = ExprWithin a n × Opens n (λ m. ExprWithin b m)
-  NodeWithin (sequence _ _ _ _ _ _ a b) n = ExprWithin a n × PartsWithin b n
+abbrev pub opens_group : Kind5 → ℕ
+opens_group k = cond (is_mark (codes "(") k || is_mark (codes "[") k || is_mark (codes "{") k) 1 0
 
-  pub NewCalleeWithin : {mode : Mode5} {ts : List Token5} {x : Expr5} {us : List Token5} → IsNewCallee mode ts x us → ℕ → Type 0
-  NewCalleeWithin (another_new a) n = NodeWithin a n
-  NewCalleeWithin (member a) n = ExprWithin a n
+abbrev pub closes_group : Kind5 → ℕ
+closes_group k = cond (is_mark (codes ")") k || is_mark (codes "]") k || is_mark (codes "}") k) 1 0
 
-  pub ElementsWithin : {mode : Mode5} {ts : List Token5} {xs : List Element5} {us : List Token5} → AreElements mode ts xs us → ℕ → Type 0
-  ElementsWithin (no_element _) n = Unit {0}
-  ElementsWithin (hole _ a) n = ElementsWithin a n
-  ElementsWithin (last_element a _) n = ExprWithin a n
-  ElementsWithin (next_element a _ b) n = ExprWithin a n × ElementsWithin b n
+-- the groups that are open behind the token, where so many were before it
+abbrev pub groups_behind : ℕ → Token5 → ℕ
+groups_behind open_ t = open_ + opens_group t.kind - closes_group t.kind
 
-  pub PropertiesWithin : {mode : Mode5} {ts : List Token5} {xs : List Property5} {us : List Token5} → AreProperties mode ts xs us → ℕ → Type 0
-  PropertiesWithin (no_property _) n = Unit {0}
-  PropertiesWithin (last_property a _) n = PropertyWithin a n
-  PropertiesWithin (next_property a _ b) n = PropertyWithin a n × PropertiesWithin b n
+-- the groups that are open at the last of these tokens
+abbrev pub open_groups : ℕ → List Token5 → ℕ
+open_groups open_ [] = open_
+open_groups open_ (t ∷ []) = open_ + opens_group t.kind
+open_groups open_ (t ∷ u ∷ ts) = open_groups (groups_behind open_ t) (u ∷ ts)
 
-  pub PropertyWithin : {mode : Mode5} {ts : List Token5} {x : Property5} {us : List Token5} → IsProperty mode ts x us → ℕ → Type 0
-  PropertyWithin (plain _ _ _ _ _ _ _ a) n = ExprWithin a n
-  PropertyWithin (getter _ _ _ _ _ _ _ a) n = AccessorWithin a n
-  PropertyWithin (setter _ _ _ _ _ _ _ a) n = AccessorWithin a n
+-- ## The other constructs, by the tree
 
-  pub AccessorWithin : {mode : Mode5} {setter : Bool} {ts : List Token5} {x : Function5} {us : List Token5} → IsAccessor mode setter ts x us → ℕ → Type 0
-  AccessorWithin (no_value _ _ _ _ _ _ _ a) n = Opens n (λ m. Unit {0}) × Opens n (λ m. StatsWithin a m)
-  AccessorWithin (one_value _ _ _ _ _ _ _ _ _ a) n = Opens n (λ m. Unit {0}) × Opens n (λ m. StatsWithin a m)
+-- an expression, a statement, a block and a function give their spans and those of the constructs in them, any other node
+-- the latter
+pub record Spanned : Type 0 where
+  pub span : Span
+  pub inner : List Span
 
-  pub LinksWithin : {mode : Mode5} {calls : Bool} {ts : List Token5} {xs : List Link5} {us : List Token5} → AreLinks mode calls ts xs us → ℕ → Type 0
-  LinksWithin no_link n = Unit {0}
-  LinksWithin (member_link _ _ _ _ _ _ a) n = LinksWithin a n
-  LinksWithin (index_link _ _ _ _ _ a _ b) n = Opens n (λ m. ExprWithin a m) × LinksWithin b n
-  LinksWithin (call_link _ _ _ _ _ _ a b) n = Opens n (λ m. ArgumentsWithin a m) × LinksWithin b n
+abbrev pub spanned : Span → List Span → Spanned
+spanned span inner = record { span = span; inner = inner }
 
-  pub ArgumentsWithin : {mode : Mode5} {ts : List Token5} {xs : List Expr5} {us : List Token5} → AreArguments mode ts xs us → ℕ → Type 0
-  ArgumentsWithin (no_argument _) n = Unit {0}
-  ArgumentsWithin (last_argument a _) n = ExprWithin a n
-  ArgumentsWithin (next_argument a _ b) n = ExprWithin a n × ArgumentsWithin b n
+abbrev pub counted : Spanned → List Span
+counted x = x.span ∷ x.inner
 
-  pub OperandsWithin : {mode : Mode5} {no_in : Bool} {level : ℕ} {ts : List Token5} {xs : List Operand5} {us : List Token5} → AreOperands mode no_in level ts xs us → ℕ → Type 0
-  OperandsWithin no_operand n = Unit {0}
-  OperandsWithin (next_operand _ _ _ _ _ _ a b) n = ExprWithin a n × OperandsWithin b n
+abbrev pub maybe : {A : Type 0} → (A → List Span) → Option A → List Span
+maybe f None = []
+maybe f (Some x) = f x
 
-  pub PartsWithin : {mode : Mode5} {no_in : Bool} {ts : List Token5} {xs : List Expr5} {us : List Token5} → AreParts mode no_in ts xs us → ℕ → Type 0
-  PartsWithin no_part n = Unit {0}
-  PartsWithin (next_part _ a b) n = ExprWithin a n × PartsWithin b n
+abbrev pub joined : {A : Type 0} → (A → List Span) → List A → List Span
+joined f [] = []
+joined f (x ∷ xs) = f x ++ joined f xs
 
-  pub FunctionWithin : {mode : Mode5} {ts : List Token5} {x : Function5} {us : List Token5} → IsFunction mode ts x us → ℕ → Type 0
-  FunctionWithin (anonymous _ _ _ _ _ _ _ _ _ a) n = Opens n (λ m. Unit {0}) × Opens n (λ m. StatsWithin a m)
-  FunctionWithin (named _ _ _ _ _ _ _ _ _ _ _ a) n = Opens n (λ m. Unit {0}) × Opens n (λ m. StatsWithin a m)
+abbrev pub all_of : List (List Span) → List Span
+all_of xs = joined (λ x. x) xs
 
-  pub StatsWithin : {mode : Mode5} {inside top : Bool} {ts : List Token5} {xs : List Stat5} {us : List Token5} → AreStats mode inside top ts xs us → ℕ → Type 0
-  StatsWithin (no_stat _) n = Unit {0}
-  StatsWithin (next_stat a b) n = StatWithin a n × StatsWithin b n
+abbrev pub Layer : (Type 0 → Type 0 → Type 0 → Type 0 → Type 0 → Type 0 → Type 0 → Type 0 → Type 0 → Type 0 → Type 0 → Type 0 → Type 0 → Type 0) → Type 0
+Layer Of = Of (List Span) Spanned (List Span) (List Span) (List Span) Spanned Spanned (List Span) (List Span) (List Span) (List Span) Spanned (List Span)
 
-  pub StatWithin : {mode : Mode5} {inside top : Bool} {ts : List Token5} {x : Stat5} {us : List Token5} → IsStat mode inside top ts x us → ℕ → Type 0
-  StatWithin (block _ _ a) n = BlockWithin a n
-  StatWithin (var _ _ _ _ _ a _) n = DeclaredListWithin a n
-  StatWithin (empty _ _ _ _) n = Unit {0}
-  StatWithin (expression _ _ _ _ _ _ a _) n = ExprWithin a n
-  StatWithin (if _ _ _ _ _ _ a) n = IfWithin a n
-  StatWithin (do_while _ _ _ _ _ _ a _ _ b _ _) n = Opens n (λ m. StatWithin a m) × Opens n (λ m. ExprWithin b m)
-  StatWithin (while _ _ _ _ _ _ _ a _ b) n = Opens n (λ m. ExprWithin a m) × Opens n (λ m. StatWithin b m)
-  StatWithin (for _ _ _ _ _ _ _ _ _ a b _ c d) n = Opens n (λ m. ForFirstWithin a m × OptionalWithin b m × ClosedWithin c m) × Opens n (λ m. StatWithin d m)
-  StatWithin (continue _ _ _ _ _ _ _) n = Unit {0}
-  StatWithin (break _ _ _ _ _ _ _) n = Unit {0}
-  StatWithin (return _ _ _ _ _ a _) n = ReturnedWithin a n
-  StatWithin (switch _ _ _ _ _ _ _ a _ _ b) n = Opens n (λ m. ExprWithin a m) × Opens n (λ m. CasesWithin b m)
-  StatWithin (labelled _ _ _ _ _ _ _ a) n = Opens n (λ m. StatWithin a m)
-  StatWithin (throw _ _ _ _ _ _ a _) n = ExprWithin a n
-  StatWithin (try_catch _ _ _ _ _ _ a b) n = BlockWithin a n × CatchWithin b n
-  StatWithin (try_finally _ _ _ _ _ _ a _ b) n = BlockWithin a n × BlockWithin b n
-  StatWithin (try_both _ _ _ _ _ _ _ a b _ c) n = BlockWithin a n × CatchWithin b n × BlockWithin c n
-  StatWithin (debugger _ _ _ _ _) n = Unit {0}
-  StatWithin (declaration _ _ _ _ _ a) n = FunctionWithin a n
+abbrev pub element_step : Layer Element5-F → List Span
+element_step layer.Hole = []
+element_step (layer.Element x) = x.inner
 
-  pub BlockWithin : {mode : Mode5} {inside : Bool} {ts : List Token5} {x : Block5} {us : List Token5} → IsBlock mode inside ts x us → ℕ → Type 0
-  BlockWithin (braces _ _ _ _ _ a) n = Opens n (λ m. StatsWithin a m)
+abbrev pub expr_step : Layer Expr5-F → Spanned
+expr_step (layer.This span) = spanned span []
+expr_step (layer.Name span name) = spanned span []
+expr_step (layer.Literal span value) = spanned span []
+expr_step (layer.ArrayList span elements) = spanned span (all_of elements)
+expr_step (layer.ObjectList span properties) = spanned span (all_of properties)
+expr_step (layer.Function f) = f
+expr_step (layer.Chain span head links) = spanned span (head.inner ++ all_of links)
+expr_step (layer.New span callee arguments) = spanned span (counted callee ++ joined (λ x. x.inner) arguments)
+expr_step (layer.Update span operator target) = spanned span (cond (is_before operator) (counted target) target.inner)
+expr_step (layer.Unary span operator operand) = spanned span (counted operand)
+expr_step (layer.Binary span first rest) = spanned span (first.inner ++ all_of rest)
+expr_step (layer.Conditional span test yes_ no_) = spanned span (test.inner ++ counted yes_ ++ counted no_)
+expr_step (layer.Assign span operator target value) = spanned span (target.inner ++ counted value)
+expr_step (layer.Sequence span first rest) = spanned span (first.inner ++ joined (λ x. x.inner) rest)
 
-  pub DeclaredListWithin : {mode : Mode5} {no_in : Bool} {ts : List Token5} {xs : List Declared5} {us : List Token5} → AreDeclared mode no_in ts xs us → ℕ → Type 0
-  DeclaredListWithin (last_declared a) n = DeclaredWithin a n
-  DeclaredListWithin (next_declared a _ b) n = DeclaredWithin a n × DeclaredListWithin b n
+abbrev pub for_first_step : Layer ForFirst5-F → List Span
+for_first_step layer.NoFirst = []
+for_first_step (layer.FirstVar declared) = all_of declared
+for_first_step (layer.FirstExpression x) = x.inner
 
-  pub DeclaredWithin : {mode : Mode5} {no_in : Bool} {ts : List Token5} {x : Declared5} {us : List Token5} → IsDeclared mode no_in ts x us → ℕ → Type 0
-  DeclaredWithin (uninitialized _ _ _ _ _) n = Unit {0}
-  DeclaredWithin (initialized _ _ _ _ _ _ _ a) n = Opens n (λ m. ExprWithin a m)
+abbrev pub link_step : Layer Link5-F → List Span
+link_step (layer.Member span name) = []
+link_step (layer.Index span index) = index.inner
+link_step (layer.Call span arguments site) = joined (λ x. x.inner) arguments
 
-  pub IfWithin : {mode : Mode5} {inside : Bool} {ts : List Token5} {x : Condition5} {xs : List Condition5} {last : Option Stat5} {us : List Token5} → IsIf mode inside ts x xs last us → ℕ → Type 0
-  IfWithin (no_else a _) n = ConditionWithin a n
-  IfWithin (last_else a _ _ b) n = ConditionWithin a n × Opens n (λ m. StatWithin b m)
-  IfWithin (else_if a _ b) n = ConditionWithin a n × IfWithin b n
+abbrev pub property_step : Layer Property5-F → List Span
+property_step (layer.Plain span key value) = value.inner
+property_step (layer.Getter span key function) = function.inner
+property_step (layer.Setter span key function) = function.inner
 
-  pub ConditionWithin : {mode : Mode5} {inside : Bool} {ts : List Token5} {x : Condition5} {us : List Token5} → IsCondition mode inside ts x us → ℕ → Type 0
-  ConditionWithin (condition _ _ _ _ _ _ _ a _ b) n = Opens n (λ m. ExprWithin a m) × Opens n (λ m. StatWithin b m)
+abbrev pub stat_step : Layer Stat5-F → Spanned
+stat_step (layer.Var span declared) = spanned span (all_of declared)
+stat_step (layer.FunctionDeclaration function) = function
+stat_step (layer.Block block) = block
+stat_step (layer.Empty span) = spanned span []
+stat_step (layer.Expression span x) = spanned span x.inner
+stat_step (layer.If span first more otherwise) = spanned span (first ++ all_of more ++ maybe counted otherwise)
+stat_step (layer.DoWhile span body test) = spanned span (counted body ++ test.inner)
+stat_step (layer.While span test body) = spanned span (test.inner ++ counted body)
+stat_step (layer.For span first test update body) = spanned span (first ++ maybe (λ x. x.inner) test ++ maybe (λ x. x.inner) update ++ counted body)
+stat_step (layer.Continue span label) = spanned span []
+stat_step (layer.Break span label) = spanned span []
+stat_step (layer.Return span value) = spanned span (maybe (λ x. x.inner) value)
+stat_step (layer.Switch span subject cases) = spanned span (subject.inner ++ all_of cases)
+stat_step (layer.Labelled span label body) = spanned span (counted body)
+stat_step (layer.Throw span value) = spanned span value.inner
+stat_step (layer.Try span block handler last) = spanned span (block.inner ++ maybe (λ h. h) handler ++ maybe (λ b. b.inner) last)
+stat_step (layer.Debugger span) = spanned span []
 
-  pub ForFirstWithin : {mode : Mode5} {ts : List Token5} {x : ForFirst5} {us : List Token5} → IsForFirst mode ts x us → ℕ → Type 0
-  ForFirstWithin (nothing_first _) n = Unit {0}
-  ForFirstWithin (var_first _ _ _ a _) n = DeclaredListWithin a n
-  ForFirstWithin (expression_first _ _ a _) n = ExprWithin a n
+abbrev pub block_step : Layer Block5-F → Spanned
+block_step x = spanned x.span (joined (λ s. s.inner) x.statements)
 
-  pub OptionalWithin : {mode : Mode5} {ts : List Token5} {x : Option Expr5} {us : List Token5} → IsOptional mode ts x us → ℕ → Type 0
-  OptionalWithin absent n = Unit {0}
-  OptionalWithin (present a) n = ExprWithin a n
+abbrev pub case_step : Layer Case5-F → List Span
+case_step x = maybe (λ y. y.inner) x.test ++ joined (λ s. s.inner) x.body
 
-  pub ClosedWithin : {mode : Mode5} {ts : List Token5} {x : Option Expr5} {us : List Token5} → IsClosed mode ts x us → ℕ → Type 0
-  ClosedWithin (closed a _) n = OptionalWithin a n
+abbrev pub catch_step : Layer Catch5-F → List Span
+catch_step x = x.body.inner
 
-  pub ReturnedWithin : {mode : Mode5} {ts : List Token5} {x : Option Expr5} {us : List Token5} → IsReturned mode ts x us → ℕ → Type 0
-  ReturnedWithin no_value_returned n = Unit {0}
-  ReturnedWithin (value_returned _ a) n = ExprWithin a n
+abbrev pub condition_step : Layer Condition5-F → List Span
+condition_step x = x.test.inner ++ counted x.body
 
-  pub CasesWithin : {mode : Mode5} {inside may : Bool} {ts : List Token5} {xs : List Case5} {us : List Token5} → AreCases mode inside may ts xs us → ℕ → Type 0
-  CasesWithin (no_case _) n = Unit {0}
-  CasesWithin (case_clause _ _ _ _ _ _ a _ b c) n = ExprWithin a n × InCaseWithin b n × CasesWithin c n
-  CasesWithin (default_clause _ _ _ _ _ _ a b) n = InCaseWithin a n × CasesWithin b n
+abbrev pub declared_step : Layer Declared5-F → List Span
+declared_step x = maybe counted x.init
 
-  pub InCaseWithin : {mode : Mode5} {inside : Bool} {ts : List Token5} {xs : List Stat5} {us : List Token5} → AreInCase mode inside ts xs us → ℕ → Type 0
-  InCaseWithin no_more_in_case n = Unit {0}
-  InCaseWithin (next_in_case a b) n = StatWithin a n × InCaseWithin b n
+abbrev pub function_step : Layer Function5-F → Spanned
+function_step x = spanned x.span (joined (λ s. s.inner) x.body)
 
-  pub CatchWithin : {mode : Mode5} {inside : Bool} {ts : List Token5} {x : Catch5} {us : List Token5} → IsCatch mode inside ts x us → ℕ → Type 0
-  CatchWithin (handler _ _ _ _ _ _ _ _ _ a) n = Opens n (λ m. Unit {0}) × BlockWithin a n
+abbrev pub operand_step : Layer Operand5-F → List Span
+operand_step x = x.value.inner
 
-abbrev pub ProgramWithin : {mode : Mode5} {ts : List Token5} {xs : List Stat5} → IsProgram mode ts xs → ℕ → Type 0
-ProgramWithin no_more n = Unit {0}
-ProgramWithin (one_more a b) n = StatWithin a n × ProgramWithin b n
+abbrev pub statement_spans : Stat5 → List Span
+statement_spans s =
+    (fold-Stat5 (List Span) Spanned (List Span) (List Span) (List Span) Spanned Spanned (List Span) (List Span) (List Span) (List Span) Spanned (List Span)
+    element_step expr_step for_first_step link_step property_step stat_step block_step case_step catch_step condition_step declared_step function_step operand_step s).inner
+
+-- ## Both
+
+-- Parentheses round an expression have no node: such a construct begins with those that stand directly before its span, and
+-- ends with those that close them. The tokens, from its first one to one before the last, hold no such end.
+abbrev pub is_unended : ℕ → ℕ → List Token5 → Bool
+is_unended end open_ [] = true
+is_unended end open_ (t ∷ []) = true
+is_unended end open_ (t ∷ u ∷ ts) = not ((groups_behind open_ t == 0) && nat_le end t.end) && is_unended end (groups_behind open_ t) (u ∷ ts)
+
+-- the same with the tokens before it; `run` are those opening parentheses that stand directly before
+abbrev pub is_open_at : Span → List Token5 → List Token5 → Bool
+is_open_at span run [] = false
+is_open_at span run (t ∷ ts) =
+    cond (t.begin == span.begin) (is_unended span.end 0 (run ++ t ∷ ts)) (is_open_at span (cond (is_mark (codes "(") t.kind) (run ++ t ∷ []) []) ts)
+
+-- the constructs that are open at the last of the tokens, with which the script begins
+abbrev pub open_constructs : List Token5 → List Stat5 → ℕ
+open_constructs tokens statements = open_groups 0 tokens + count_by (λ span. is_open_at span [] tokens) (joined statement_spans statements)

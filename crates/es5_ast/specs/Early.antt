@@ -1,6 +1,6 @@
 -- The pairs of a rule and a place by which a script of the grammar is none of the profile: the early errors of strict code
--- (ECMA-262, 5.1 edition, 10.2, 11.1.5, 11.3, 11.4, 11.13, 12.2.1, 12.7, 12.8, 12.12, 12.14.1, 13.1 and annex C), and two
--- references that the profile leaves out. docs/ES5_PROFILE.md has the tables.
+-- (ECMA-262, 5.1 edition, 11.1.5, 11.3, 11.4, 11.13, 12.2.1, 12.7, 12.8, 12.12, 12.14.1, 13.1, annex C), and two references
+-- that the profile leaves out. docs/ES5_PROFILE.md has the tables.
 use Rattle.std.specs.Prelude.{◌≡◌, ℕ, Bool, true, false, ◌&&◌, ◌||◌, not, cond, if◌then◌else◌, ◌==◌, nat_lt, List, [], ◌∷◌, ◌++◌, fold, codes, Option, Some, None, All, Contains}
 use Rattle.std.specs.List.{list_any}
 use Rattle.std.specs.Fmt.{decimal}
@@ -101,7 +101,7 @@ pub record Whole5 : Type 0 where
 abbrev pub bare_pairs : Target5 → Span → (Bool → List Pair5) → Found5
 bare_pairs target span pairs = record { target = target; begin = span.begin; pairs = pairs }
 
--- `eval` and `arguments` (10.1.2, 12.2.1, 13.1)
+-- `eval` and `arguments` (11.3, 11.4.4, 11.4.5, 11.13.1, 12.2.1, 12.14.1, 13.1)
 abbrev pub is_restricted : List ℕ → Bool
 is_restricted name = is_one_of name (codes "eval" ∷ codes "arguments" ∷ [])
 

@@ -4,7 +4,7 @@ use Rattle.es5_ast.specs.declared.tree.Identifier5.{Identifier5}
 use Rattle.es5_ast.specs.declared.tree.Expr5.{Expr5}
 use Rattle.es5_ast.specs.Lexical.{Token5}
 use Rattle.es5_ast.specs.Grammar.{Exact, IsExpr, bare, group, IsNode, IsIdentifier, IsMark, IsWord}
-use Rattle.es5_ast.specs.Depth.{Opens, ExprWithin, NodeWithin}
+use Rattle.es5_ast.specs.Within.{Opens, ExprWithin, NodeWithin}
 use Rattle.es5_reading.specs.Parser.{Input5, Parser, on, next_is, take_as, mark, word, next_mark, Other, Read5, is_left, Inner5, on_group}
 use Rattle.es5_reading.specs.Statements.{label_of}
 use Rattle.es5_reading.proofs.Posts.{Holds, fault, weaken, Taken, taken, Misses, on-holds, take-holds, choose-holds, if-holds}

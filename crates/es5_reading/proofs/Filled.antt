@@ -3,7 +3,7 @@ use Rattle.std.proofs.Common.{◌≡◌, ℕ, zero, suc, ◌≤◌, true, false,
 use Rattle.es5_ast.specs.declared.tree.Stat5.{Stat5}
 use Rattle.es5_ast.specs.Lexical.{Token5}
 use Rattle.es5_ast.specs.Grammar.{Exact, Aside, IsProgram, end_of}
-use Rattle.es5_ast.specs.Depth.{ProgramWithin}
+use Rattle.es5_ast.specs.Within.{ProgramWithin}
 use Rattle.es5_ast.specs.Script.{Begins, IsWhole, inserted, Fills, at_end, keeps, inserts, inserts_at_end}
 use Rattle.es5_reading.specs.Parser.{Input5, Outcome5, Took, Parser, is_insertable}
 use Rattle.es5_reading.specs.Programs.{readers, program}

@@ -8,7 +8,8 @@ use Rattle.es5_ast.specs.declared.tree.Identifier5.{Identifier5}
 use Rattle.es5_ast.specs.declared.tree.Expr5.{Expr5}
 use Rattle.es5_reading.specs.Expressions as e
 use Rattle.es5_reading.specs.Statements as s5
-use Rattle.es5_reading.specs.Programs.{readers, program, second_fault, directive_fault, unless_fault, most_open, script, is_directive, continues}
+use Rattle.es5_ast.specs.Depth.{most_open}
+use Rattle.es5_reading.specs.Programs.{readers, program, second_fault, directive_fault, unless_fault, script, is_directive, continues}
 use Rattle.es5_reading.specs.Laws.{FaultsAreInside}
 
 pub data Rest : List Token5 → List Token5 → Type 0 where

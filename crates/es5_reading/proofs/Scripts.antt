@@ -12,7 +12,8 @@ use Rattle.es5_ast.specs.Script.{IsStrict}
 use Rattle.es5_reading.specs.Parser.{Input5, Stop5, Syntax, Outcome5, Took, after, ending, kept_if, Read5, Inner5}
 use Rattle.es5_reading.specs.Expressions.{is_some, look_up, binary_operators, operator_of_level, assign_at, after_at, head, primary, links, chained, chain, sequence, binary_from}
 use Rattle.es5_reading.specs.Statements.{label_of, label_or_end, expression_end, expression_statement, plain_statement, jump_statement, compound_statement, statement}
-use Rattle.es5_reading.specs.Programs.{readers, program, is_text, is_directive, continues, second_fault, directive_fault, unless_fault, most_open, script}
+use Rattle.es5_ast.specs.Depth.{most_open}
+use Rattle.es5_reading.specs.Programs.{readers, program, is_text, is_directive, continues, second_fault, directive_fault, unless_fault, script}
 use Rattle.es5_reading.specs.Laws.{ScriptReading5, IsScript}
 use Rattle.es5_reading.proofs.Posts.{fault, of_took, bind, Misses}
 use Rattle.es5_reading.proofs.Meanings.{same_bytes, or_false}

@@ -15,7 +15,7 @@ use Rattle.es5_ast.specs.declared.tree.Expr5.{Expr5}
 use Rattle.es5_ast.specs.Lexical.{Token5}
 use Rattle.es5_ast.specs.Grammar as g
 use Rattle.es5_ast.specs.Grammar.{Mode5, Exact, IsExpr, IsStat, IsBlock, AreStats, AreDeclared, IsDeclared, IsIf, IsCondition, IsForFirst, IsOptional, IsClosed, IsLabel, IsReturned, AreCases, AreInCase, IsCatch, IsFunction, IsIdentifier, IsMark, IsWord, IsEnd, IsOnLine, is_mark, is_word, is_identifier, ends, begins, begin_of}
-use Rattle.es5_ast.specs.Depth.{Opens, ForFirstWithin, OptionalWithin, ReturnedWithin, CasesWithin, InCaseWithin, CatchWithin}
+use Rattle.es5_ast.specs.Within.{Opens, ForFirstWithin, OptionalWithin, ReturnedWithin, CasesWithin, InCaseWithin, CatchWithin}
 use Rattle.es5_reading.specs.Parser.{Input5, next_is, next_mark, Read5, Inner5}
 use Rattle.es5_reading.specs.Expressions.{free_name}
 use Rattle.es5_reading.specs.Statements.{do_statement, while_statement, after_first_declared, for_var, for_expression, for_first_part, optional, Header5, for_header, for_statement, label_if, label_at, optional_label, continue_statement, break_statement, goes_on, returned, return_statement, begins_line, throw_statement, in_case, case_clause, default_clause, cases, switch_statement, catch_parameter, handler, after_handler, only_finally, try_statement, debugger_statement, declaration, expression_end, labelled, label_of, label_or_end, expression_statement, plain_statement, jump_statement, compound_statement, block_statement, statement}

@@ -13,7 +13,7 @@ use Rattle.es5_ast.specs.declared.tree.Operand5.{Operand5, roll-Operand5}
 use Rattle.es5_ast.specs.Lexical.{Token5}
 use Rattle.es5_ast.specs.Grammar as g
 use Rattle.es5_ast.specs.Grammar.{Mode5, Exact, IsExpr, IsNode, IsNewCallee, IsIdentifier, AreLinks, AreOperands, AreParts, IsMark, IsWord, is_mark, is_identifier, is_before, is_in, unary_kind, update_kind, assign_kind, binary_kind, binary_level, literal_kind, key_kind, begin_of, link_sites, chain_level}
-use Rattle.es5_ast.specs.Depth.{NewCalleeWithin, OperandsWithin, PartsWithin}
+use Rattle.es5_ast.specs.Within.{NewCalleeWithin, OperandsWithin, PartsWithin}
 use Rattle.es5_reading.specs.Parser.{Input5, Parser, next_is, next_mark, Read5, is_left, Inner5}
 use Rattle.es5_reading.specs.Expressions.{unary_at, before_at, after_at, assign_at, binary_at, accessor_at, accessor_name, other, postfix, prefixed, updated, unary, operands, operated, binary_from, branches, conditional, assigned, assignment, parts, more_parts, sequence, value_of_key, plain_property, after_accessor_word, one_property, accessor}
 use Rattle.es5_reading.proofs.Posts.{Holds, took, fault, bind, choose-holds}

@@ -12,7 +12,7 @@ use denote.Hole.Carrier as carrier
 use Rattle.es5_ast.specs.Lexical.{Token5}
 use Rattle.es5_ast.specs.Grammar as g
 use Rattle.es5_ast.specs.Grammar.{Mode5, Exact, IsExpr, IsNode, IsNewCallee, IsIdentifier, AreLinks, AreOperands, AreParts, IsMark, IsWord, is_mark, is_identifier, is_before, is_in, unary_kind, update_kind, assign_kind, binary_kind, binary_level, literal_kind, key_kind, begin_of, link_sites, chain_level}
-use Rattle.es5_ast.specs.Depth.{Opens, ExprWithin, NodeWithin, LinksWithin}
+use Rattle.es5_ast.specs.Within.{Opens, ExprWithin, NodeWithin, LinksWithin}
 use Rattle.es5_reading.specs.Parser.{Input5, Read5, Inner5}
 use Rattle.es5_reading.specs.Expressions.{any_name, left, member_link, index_link, call_link, links, chained, chain}
 use Rattle.es5_reading.specs.Statements.{label_of}

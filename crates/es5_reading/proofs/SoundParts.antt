@@ -16,7 +16,7 @@ use Rattle.es5_ast.specs.declared.operators.Key5.{Key5}
 use Rattle.es5_ast.specs.Lexical.{Kind5, Token5}
 use Rattle.es5_ast.specs.Grammar as g
 use Rattle.es5_ast.specs.Grammar.{Mode5, Exact, IsExpr, IsIdentifier, IsKey, AreParameters, IsFunction, AreStats, IsStat, AreElements, AreProperties, IsProperty, IsAccessor, AreArguments, IsNewCallee, IsDeclared, IsMark, IsWord, is_identifier, key_kind, begin_of}
-use Rattle.es5_ast.specs.Depth.{Opens, ExprWithin, ElementsWithin, PropertiesWithin, PropertyWithin, AccessorWithin, ArgumentsWithin, FunctionWithin, StatsWithin, StatWithin, NewCalleeWithin, DeclaredWithin}
+use Rattle.es5_ast.specs.Within.{Opens, ExprWithin, ElementsWithin, PropertiesWithin, PropertyWithin, AccessorWithin, ArgumentsWithin, FunctionWithin, StatsWithin, StatWithin, NewCalleeWithin, DeclaredWithin}
 use Rattle.es5_reading.specs.Parser.{Input5, next_is, next_mark, Read5, Inner5, group}
 use Rattle.es5_reading.specs.Expressions.{free_name, key_at, accessor_name, accessor_of, identifier, key, more_parameters, parameters, statements, body, rest_of_function, function_expression, no_parameter, one_parameter, accessor_parameters, accessor_function, properties, elements, more_arguments, arguments}
 use Rattle.es5_reading.proofs.Posts.{Holds, took, fault, bind, weaken, if-holds}

@@ -12,7 +12,7 @@ use Rattle.es5_ast.specs.declared.tree.Expr5.{Expr5}
 use Rattle.es5_ast.specs.Lexical.{Token5}
 use Rattle.es5_ast.specs.Grammar as g
 use Rattle.es5_ast.specs.Grammar.{Mode5, Exact, IsExpr, IsStat, IsBlock, AreStats, AreDeclared, IsDeclared, IsIf, IsCondition, IsForFirst, IsOptional, IsClosed, IsLabel, IsReturned, AreCases, AreInCase, IsCatch, IsFunction, IsIdentifier, IsMark, IsWord, IsEnd, IsOnLine, is_mark, is_word, is_identifier, ends, begins, begin_of}
-use Rattle.es5_ast.specs.Depth.{Opens, ExprWithin, StatWithin, StatsWithin, BlockWithin, DeclaredListWithin, DeclaredWithin, IfWithin, ConditionWithin}
+use Rattle.es5_ast.specs.Within.{Opens, ExprWithin, StatWithin, StatsWithin, BlockWithin, DeclaredListWithin, DeclaredWithin, IfWithin, ConditionWithin}
 use Rattle.es5_reading.specs.Parser.{Input5, Parser, next_is, word, next_mark, next_word, Read5, Inner5, ending, semicolon}
 use Rattle.es5_reading.specs.Expressions.{statements}
 use Rattle.es5_reading.specs.Statements.{block, initialized, one_declared, declared_list, var_statement, parenthesized, condition, Otherwise5, with_condition, otherwise, if_statement}

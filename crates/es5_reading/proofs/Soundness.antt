@@ -5,7 +5,7 @@ use Rattle.es5_ast.specs.declared.tree.Stat5.{Stat5}
 use Rattle.es5_ast.specs.Lexical.{Token5}
 use Rattle.es5_ast.specs.Grammar as g
 use Rattle.es5_ast.specs.Grammar.{Mode5, Exact, IsProgram}
-use Rattle.es5_ast.specs.Depth.{ProgramWithin}
+use Rattle.es5_ast.specs.Within.{ProgramWithin}
 use Rattle.es5_reading.specs.Parser.{Input5, next_is, Read5, Inner5}
 use Rattle.es5_reading.specs.Expressions.{expression_at_limit, callee_at_limit, no_expression}
 use Rattle.es5_reading.specs.Statements.{statement_at_limit}

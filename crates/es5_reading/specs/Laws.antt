@@ -3,10 +3,11 @@ use Rattle.std.specs.Prelude.{◌≡◌, ℕ, ◌≤◌, true, false, List, [], 
 use Rattle.es5_ast.specs.declared.tree.Stat5.{Stat5}
 use Rattle.es5_ast.specs.Lexical.{Token5}
 use Rattle.es5_ast.specs.Grammar.{Mode5, Exact, IsProgram}
-use Rattle.es5_ast.specs.Depth.{ProgramWithin}
+use Rattle.es5_ast.specs.Within.{ProgramWithin}
 use Rattle.es5_ast.specs.Script.{Fills, IsStrict}
 use Rattle.es5_reading.specs.Parser.{Input5, Stop5, Took, Fault}
-use Rattle.es5_reading.specs.Programs.{readers, program, most_open, script}
+use Rattle.es5_ast.specs.Depth.{most_open}
+use Rattle.es5_reading.specs.Programs.{readers, program, script}
 
 -- Without inserted semicolons: statements that are read are derived from all of the tokens, with their spans, and at most
 -- `room` constructs are open at once.

@@ -4,6 +4,7 @@ use Rattle.std.specs.Str.{bytes_eq}
 use Rattle.es5_ast.specs.declared.tree.Stat5.{Stat5}
 use Rattle.es5_ast.specs.Lexical.{Kind5, Word, Integer, Text, Punctuator, Inserted, Token5}
 use Rattle.es5_ast.specs.Grammar.{is_mark, binary_kind}
+use Rattle.es5_ast.specs.Depth.{most_open}
 use Rattle.es5_reading.specs.Parser.{Parser, Stop5, Syntax, Depth, Outside, Endless, Outcome5, Fault, returns, fails, ◌>>=◌, if_next, Inner5}
 use Rattle.es5_reading.specs.Expressions.{is_some, sequence, assignment, unary, chain, one_property, after_at, assign_at, binary_operators, look_up, expression_at_limit, callee_at_limit}
 use Rattle.es5_reading.specs.Statements.{one_declared, statement, statement_at_limit}
@@ -73,10 +74,6 @@ directive_fault (t ∷ ts) = cond (is_directive t) (second_fault ts) (Some (Outs
 abbrev pub unless_fault : Option (Stop5 × List Token5) → Outcome5 (List Stat5) → Outcome5 (List Stat5)
 unless_fault None outcome = outcome
 unless_fault (Some fault) outcome = Fault fault.0 fault.1
-
--- How many constructs may be open at one token.
-abbrev pub most_open : ℕ
-most_open = 2048
 
 -- A script of these tokens. Loops have `fuel` turns.
 unfoldable pub script : ℕ → List Token5 → Outcome5 (List Stat5)

@@ -4,9 +4,9 @@ use Rattle.std.specs.Str.{chars, IsUtf8}
 use Rattle.es5_ast.specs.declared.tree.Script.{Script}
 use Rattle.es5_ast.specs.Lexical.{Token5, Tokens5}
 use Rattle.es5_ast.specs.Grammar.{Exact, Spans, IsProgram}
-use Rattle.es5_ast.specs.Depth.{ProgramWithin}
+use Rattle.es5_ast.specs.Within.{ProgramWithin}
 use Rattle.es5_ast.specs.Script.{Fills, IsStrict, Spells5, IsTree}
-use Rattle.es5_reading.specs.Programs.{most_open}
+use Rattle.es5_ast.specs.Depth.{most_open}
 
 -- The bytes are UTF-8, their tokens, with the semicolons that are inserted, begin with the directive and are the script's
 -- statements, with their spans and without sites, and no more constructs are open at once than may be. The pairs of tables
