@@ -87,7 +87,7 @@ const binaryOperators = Object.fromEntries(
   ['-', '*', '/', '%', '**', '&', '|', '^', '<<', '>>', '>>>', '<', '>', '<=', '>=', '+', '==', 'instanceof']
     .map(operator => [operator, new Function('a', 'b', `return a ${operator} b`)]));
 const unaryOperators = Object.fromEntries(
-  ['-', '~', '!', 'typeof'].map(operator => [operator, new Function('a', `return ${operator} a`)]));
+  ['-', '+', '~', '!', 'typeof'].map(operator => [operator, new Function('a', `return ${operator} a`)]));
 
 // The exit of an operator on primitives, or 0, by the words of docs/BUILTINS.md on numbers, with exact results as BigInts.
 const exits = {
@@ -130,7 +130,7 @@ const exits = {
     return this.both(a, b);
   },
   unary(operator, a) {
-    return operator === '-' || operator === '~' ? this.toNumber(a) : 0;
+    return operator === '!' || operator === 'typeof' ? 0 : this.toNumber(a);
   },
 };
 
@@ -188,15 +188,17 @@ class Play {
     return list;
   }
 
-  function([what, word]) {
+  function([what, word, second]) {
     const play = this;
     const value = what === 'gives' || what === 'throws' ? this.value(word) : undefined;
+    const turns = what === 'turns' ? [this.value(word), this.value(second)] : [];
     const made = {
       called(...args) {
         play.calls += `${[`${play.shown(made)} on ${play.shown(this)}`, ...args.map(arg => play.shown(arg))].join(', ')}; `;
         switch (what) {
           case 'gives': return value;
           case 'throws': throw new Thrown(value);
+          case 'turns': turns.push(turns.shift()); return turns[1];
           case 'receiver': return this;
           default: return args[Number(word)];
         }
@@ -455,7 +457,7 @@ function lists(seed, realm, count) {
     result.push(`delete ${slot('array', 'object', 'arguments')} ${pick(keys)}`);
     for (let turn = 0; turn < 4; turn += 1) result.push(pick(pool)());
     for (let turn = 0; turn < 2; turn += 1) {
-      if (below(4) === 0) result.push(`unary ${pick(Object.keys(unaryOperators))} ${plain()}`);
+      if (below(4) === 0) result.push(`unary ${pick(Object.keys(unaryOperators).filter(name => name !== '+'))} ${plain()}`);
       else result.push(`binary ${pick(Object.keys(binaryOperators).filter(name => name !== 'instanceof'))} ${plain()} ${plain()}`);
     }
   }

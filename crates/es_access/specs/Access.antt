@@ -1,10 +1,7 @@
--- Reading, writing and testing of properties (ECMA-262, 6th edition, 9.1.7 to 9.1.9), up to the function that is to be called.
-use Rattle.std.specs.Prelude.{ℕ, zero, suc, Bool, true, false, ◌||◌, nat_eq, if◌then◌else◌, length, Option, None, Some, is_some}
+-- Writing of properties (ECMA-262, 6th edition, 9.1.9), up to the function that is to be called, and the walk of `instanceof`.
+use Rattle.std.specs.Prelude.{ℕ, zero, suc, Bool, true, false, ◌||◌, nat_eq, if◌then◌else◌, length, Option, None, Some}
 use Rattle.es_value.specs.declared.value.ObjId.{ObjId}
 use Rattle.es_value.specs.declared.value.Value.{Value}
-use Rattle.es_value.specs.declared.value.Value.TheVariants.{Undefined}
-use Rattle.es_heap.specs.declared.class.Class.{Class}
-use Rattle.es_heap.specs.declared.class.Class.TheVariants.{Namespace}
 use Rattle.es_heap.specs.declared.key.Key.{Key}
 use Rattle.es_heap.specs.declared.prop.Prop.{Prop}
 use Rattle.es_heap.specs.declared.prop.Prop.TheVariants.{Plain, Accessor}
@@ -12,33 +9,8 @@ use Rattle.es_heap.specs.declared.prop.HeapFault.{HeapFault}
 use Rattle.es_heap.specs.declared.prop.HeapFault.TheVariants.{NotWritable, NotConfigurable, NotExtensible, BadLength, OutOfMemory}
 use Rattle.es_heap.specs.Objects.{Outcome, own}
 use Rattle.es_heap.specs.Heaps.{Heap, object_at, define_own, find}
-use Rattle.es_access.specs.declared.access.Got.{Got}
-use Rattle.es_access.specs.declared.access.Got.TheVariants.{Have, Getter, Binding}
 use Rattle.es_access.specs.declared.access.PutAnswer.{PutAnswer}
 use Rattle.es_access.specs.declared.access.PutAnswer.TheVariants.{Done, Setter, Refused, OutOfRange}
-
--- what a read finds in a property
-abbrev pub got_of : Prop → Got
-got_of (Plain v w c) = Have v
-got_of (Accessor None s c) = Have Undefined
-got_of (Accessor (Some g) s c) = Getter g
-
-abbrev pub got_from : Option (ObjId × Prop) → Got
-got_from None = Have Undefined
-got_from (Some found) = got_of found.1
-
--- a namespace object has no properties in the heap: its reads go to its module's bindings (9.4.6.7)
-abbrev pub got_by_class : Class → Got → Got
-got_by_class (Namespace n) got = Binding n
-got_by_class _ got = got
-
--- [[Get]] (9.1.8)
-abbrev pub get : Heap → ObjId → Key → Got
-get heap id k = got_by_class (object_at heap id).class (got_from (find heap id k))
-
--- [[HasProperty]] (9.1.7)
-abbrev pub has : Heap → ObjId → Key → Bool
-has heap id k = is_some (find heap id k)
 
 -- what a write leaves, and what it answers
 pub record Written : Type 0 where

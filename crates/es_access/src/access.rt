@@ -1,21 +1,11 @@
-//! What a read, a write and a test of a property give.
+//! What a write of a property gives, and the walk of `instanceof`.
 ghost use Rattle.std.specs.Prelude.{◌≡◌, IfOk, OnErr};
-ghost use Rattle.es_access.specs.Access.{get, has, put, is_above, answer_of};
+ghost use Rattle.es_access.specs.Access.{put, is_above, answer_of};
 ghost use Rattle.es_heap.specs.Heaps.{define_own};
 
-use es_heap::{Class, Heap, HeapFault, Key, Prop};
+use es_heap::{Heap, HeapFault, Key, Prop};
 use es_value::{ObjId, Value};
 use std::alloc::{AllocError, Global};
-
-/// What a read gives.
-#[derive(Debug, Drop)]
-pub enum Got {
-    Have(Value),
-    /// This function is to be called with the receiver.
-    Getter(ObjId),
-    /// The namespace object of this number reads a binding of its module.
-    Binding(usize),
-}
 
 /// What a write answers.
 #[derive(Clone, Copy, Debug, PartialEq, Eq)]
@@ -29,39 +19,10 @@ pub enum PutAnswer {
     OutOfRange,
 }
 
-/// [[Get]] (9.1.8).
-pub fn get(heap: &Heap, id: ObjId, key: &Key) -> Result<Got, AllocError>
-    ensures { IfOk result (λ got. got ≡ get heap.now id key.now) }
-{
-    if let Class::Namespace(number) = heap.class(id) {
-        return Ok(Got::Binding(*number));
-    }
-    match heap.find(id, key) {
-        None | Some((_, Prop::Accessor { get: None, .. })) => Ok(Got::Have(Value::Undefined)),
-        Some((_, Prop::Plain { value, .. })) => Ok(Got::Have(value.share()?)),
-        Some(
-            (
-                _,
-                Prop::Accessor {
-                    get: Some(getter),
-                    ..
-                },
-            ),
-        ) => Ok(Got::Getter(*getter)),
-    }
-}
-
-/// [[HasProperty]] (9.1.7).
-pub fn has(heap: &Heap, id: ObjId, key: &Key) -> bool
-    ensures { result ≡ has heap.now id key.now }
-{
-    heap.find(id, key).is_some()
-}
-
 /// [[Set]] (9.1.9). The receiver is an object, or None for a primitive.
 pub fn put(
-    heap: &mut Heap,
     alloc: Global,
+    heap: &mut Heap,
     id: ObjId,
     key: Key,
     value: Value,
@@ -102,12 +63,13 @@ pub fn put(
         writable: true,
         configurable,
     };
-    store(heap, alloc, receiver, key, property)
+    define(alloc, heap, receiver, key, property)
 }
 
-fn store(
-    heap: &mut Heap,
+/// [[DefineOwnProperty]] (9.1.6, of an array 9.4.2.1), where the descriptor has every field, with the answer of a write.
+pub fn define(
     alloc: Global,
+    heap: &mut Heap,
     id: ObjId,
     key: Key,
     property: Prop,

@@ -1,6 +1,6 @@
-//! Reading and writing of properties, up to the function that is to be called.
+//! Writing of properties, up to the function that is to be called, and the walk of `instanceof`.
 #![tactic(auto)]
 
 mod access;
 
-pub use access::{Got, PutAnswer, get, has, is_above, put};
+pub use access::{PutAnswer, define, is_above, put};

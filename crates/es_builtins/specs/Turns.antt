@@ -10,6 +10,8 @@ use Rattle.es_realm.specs.declared.realm.RealmOf.TheVariants.{Six, Five}
 use Rattle.es_calls.specs.declared.call.BuiltinStep.TheVariants.{OutOfMemory}
 use Rattle.es_calls.specs.declared.call.BuiltinCall.{BuiltinCall}
 use Rattle.es_calls.specs.declared.call.BuiltinStep.{BuiltinStep}
+use Rattle.es_calls.specs.declared.call.Want.TheVariants as want
+use Rattle.es_calls.specs.declared.call.Resumption.TheVariants as resumption
 use Rattle.es_calls.specs.declared.call.Pending.{Pending}
 use Rattle.es_calls.specs.declared.call.Pending.TheVariants as pending
 use Rattle.es_calls.specs.Calls.{Turn, Effect, still, answered, arg, over, gives, leaves}
@@ -62,27 +64,31 @@ string_turn edition heap c =
     else if nat_eq c.builtin 27 then still heap (over c (string.text_value edition c.this_value))
     else iterator.string_iterator heap c c.place
 
--- the functions of the other prototypes; an iterator's iterator key gives the iterator itself (25.1.2.1)
+-- the functions of the other prototypes; the methods of generators resume them (25.3.1.2 to 25.3.1.4), and an iterator's iterator
+-- key gives the iterator itself (25.1.2.1)
 abbrev pub prototype_turn : Edition → Heap → BuiltinCall → Effect
 prototype_turn edition heap c =
     if nat_eq c.builtin 29 then still heap (over c (object.number_text edition c.this_value (arg c 0)))
     else if nat_eq c.builtin 30 then still heap (over c (object.truth_text edition c.this_value (arg c 0)))
     else if nat_eq c.builtin 31 then still heap (error_text c c.place)
+    else if nat_eq c.builtin 32 then still heap (over c (want.Resume resumption.Next))
+    else if nat_eq c.builtin 33 then still heap (over c (want.Resume resumption.Return))
+    else if nat_eq c.builtin 34 then still heap (over c (want.Resume resumption.Throw))
     else if nat_eq c.builtin 35 then still heap (gives c c.this_value)
     else if nat_eq c.builtin 36 then iterator.array_next heap c c.place
-    else if nat_eq c.builtin 37 then answered c (iterator.string_next heap c.this_value)
-    else still heap (gives c value.Undefined)
+    else answered c (iterator.string_next heap c.this_value)
 
--- the functions that the realm of the 5.1 edition has besides
+-- the functions that the realm of the 5.1 edition has besides, and Function.prototype, a call of which gives undefined (19.2.3)
 abbrev pub fifth_turn : Heap → BuiltinCall → Effect
 fifth_turn heap c =
     if nat_eq c.builtin 38 then fifth.define_property heap c c.place
     else if nat_eq c.builtin 39 then fifth.get_descriptor heap c c.place
     else if nat_eq c.builtin 40 then still heap (over c (fifth.get_prototype_of heap (arg c 0)))
     else if nat_eq c.builtin 41 then answered c (fifth.prevent_extensions heap (arg c 0))
-    else still heap (gives c value.Undefined)
+    else if nat_eq c.builtin 42 then still heap (gives c value.Undefined)
+    else still heap (over c want.Unknown)
 
--- a turn of a function; a call of Function.prototype gives undefined (19.2.3)
+-- a turn of a function
 abbrev pub turn_of : Edition → Heap → BuiltinCall → Effect
 turn_of edition heap c =
     if nat_lt c.builtin 7 then constructor_turn heap c

@@ -21,7 +21,8 @@ fn step_turn(
     settle(call, alloc, edition, heap, want)
 }
 
-fn step_of(
+/// One step of a call, as `step_builtin` takes it, for a caller that keeps the edition of its realm.
+pub fn step_of(
     call: &mut BuiltinCall,
     alloc: Global,
     edition: Edition,
@@ -45,9 +46,9 @@ fn edition_of(realm: RealmOf) -> Edition
     }
 }
 
-/// One step of a call in the realm that came with the heap. The call's number is that of a function of this realm, other than the
-/// three methods of the generator prototype. A call takes no step after `Done`, `Throws` or `Leaves`, and none between `CallOut`
-/// or `ReadOut` and `receive`. After `OutOfMemory` nothing is said of the call and the heap.
+/// One step of a call in the realm that came with the heap. The call's number is that of a function of this realm, or the step
+/// answers `Unknown` where no realm has it. A call takes no step after `Resume`, `Done`, `Throws`, `Leaves` or `Unknown`, and none
+/// between `CallOut` or `ReadOut` and `receive`. After `OutOfMemory` nothing is said of the call and the heap.
 pub fn step_builtin(
     call: &mut BuiltinCall,
     alloc: Global,

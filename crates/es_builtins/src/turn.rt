@@ -2,7 +2,7 @@
 ghost use Rattle.std.specs.Prelude.{◌≡◌, IfOk};
 ghost use Rattle.es_builtins.specs.Turns.{constructor_turn, object_turn, array_turn, string_turn, prototype_turn, fifth_turn, turn_of};
 
-use es_calls::{BuiltinCall, Want};
+use es_calls::{BuiltinCall, Resumption, Want};
 use es_heap::Heap;
 use es_object_functions::{error, fifth, object};
 use es_realm::Edition;
@@ -101,14 +101,16 @@ fn prototype_turn(
         29 => object::number_text(alloc, edition, &call.this_value, &call.arg(0)?),
         30 => object::truth_text(alloc, edition, &call.this_value, &call.arg(0)?),
         31 => error::error_text(call, alloc),
+        32 => Ok(Want::Resume(Resumption::Next)),
+        33 => Ok(Want::Resume(Resumption::Return)),
+        34 => Ok(Want::Resume(Resumption::Throw)),
         35 => Ok(Want::Done(call.this_value.share()?)),
         36 => iterator::array_next(call, alloc, heap),
-        37 => iterator::string_next(alloc, heap, &call.this_value),
-        _ => Ok(Want::Done(Value::Undefined)),
+        _ => iterator::string_next(alloc, heap, &call.this_value),
     }
 }
 
-/// The functions that the realm of the 5.1 edition has besides.
+/// The functions that the realm of the 5.1 edition has besides, and Function.prototype.
 fn fifth_turn(call: &mut BuiltinCall, alloc: Global, heap: &mut Heap) -> Result<Want, AllocError>
     ensures { IfOk result (λ want. (want ≡ (fifth_turn heap.old call.old).want) × (call.new ≡ (fifth_turn heap.old call.old).call) × (heap.new ≡ (fifth_turn heap.old call.old).heap)) }
 {
@@ -117,7 +119,8 @@ fn fifth_turn(call: &mut BuiltinCall, alloc: Global, heap: &mut Heap) -> Result<
         39 => fifth::get_descriptor(call, alloc, heap),
         40 => Ok(fifth::get_prototype_of(heap, &call.arg(0)?)),
         41 => Ok(fifth::prevent_extensions(heap, &call.arg(0)?)),
-        _ => Ok(Want::Done(Value::Undefined)),
+        42 => Ok(Want::Done(Value::Undefined)),
+        _ => Ok(Want::Unknown),
     }
 }
 

@@ -15,8 +15,7 @@ use Rattle.es_calls.specs.declared.call.Place.TheVariants as place
 use Rattle.es_calls.specs.declared.call.Pending.TheVariants as pending
 use Rattle.es_calls.specs.declared.call.Want.{Want}
 use Rattle.es_calls.specs.declared.call.Want.TheVariants as want
-use Rattle.es_calls.specs.declared.call.ErrorKind.{ErrorKind}
-use Rattle.es_calls.specs.declared.call.ErrorKind.TheVariants as error
+use Rattle.es_realm.specs.declared.errors.ErrorKind.{ErrorKind}
 
 -- a call as it begins
 abbrev pub begun : ℕ → Value → List Value → BuiltinCall
@@ -101,11 +100,6 @@ number_in _ = pos 0
 abbrev pub is_undefined : Value → Bool
 is_undefined value.Undefined = true
 is_undefined _ = false
-
-abbrev pub is_nothing : Value → Bool
-is_nothing value.Undefined = true
-is_nothing value.Null = true
-is_nothing _ = false
 
 -- a position that is missing counts as 0
 abbrev pub position : Value → Value

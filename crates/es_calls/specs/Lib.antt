@@ -1,3 +1,4 @@
 pub mod Calls
 pub mod Properties
+pub mod Making
 pub mod Steps

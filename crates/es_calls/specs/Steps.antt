@@ -4,6 +4,7 @@ use Rattle.es_value.specs.declared.arithmetic.Exit.{Exit}
 use Rattle.es_value.specs.declared.value.ObjId.{ObjId}
 use Rattle.es_value.specs.declared.value.Value.{Value}
 use Rattle.es_value.specs.declared.value.Value.TheVariants as value
+use Rattle.es_value.specs.Arithmetic.{exit_number}
 use Rattle.es_value.specs.Convert.{number_of, text_of}
 use Rattle.es_heap.specs.declared.key.Key.{Key}
 use Rattle.es_heap.specs.declared.key.Key.TheVariants.{Text}
@@ -11,7 +12,7 @@ use Rattle.es_heap.specs.Heaps.{Heap}
 use Rattle.es_realm.specs.declared.edition.Edition.{Edition}
 use Rattle.es_realm.specs.declared.access.Read.{Read}
 use Rattle.es_realm.specs.declared.access.Read.TheVariants as read
-use Rattle.es_realm.specs.Access.{read_value, exit_number}
+use Rattle.es_realm.specs.Access.{read_value}
 use Rattle.es_operators.specs.declared.conversion.Hint.{Hint}
 use Rattle.es_operators.specs.declared.conversion.Hint.TheVariants as hint
 use Rattle.es_operators.specs.declared.conversion.Conversion.{Conversion}
@@ -26,7 +27,7 @@ use Rattle.es_calls.specs.declared.call.Want.{Want}
 use Rattle.es_calls.specs.declared.call.Want.TheVariants as want
 use Rattle.es_calls.specs.declared.call.BuiltinStep.{BuiltinStep}
 use Rattle.es_calls.specs.declared.call.BuiltinStep.TheVariants as step
-use Rattle.es_calls.specs.declared.call.ErrorKind.TheVariants.{TypeError}
+use Rattle.es_realm.specs.declared.errors.ErrorKind.TheVariants.{TypeError}
 use Rattle.es_calls.specs.Calls.{Effect}
 
 -- what a step leaves of the call, and what it answers
@@ -86,6 +87,8 @@ settle edition heap c (want.Text v) = settle_conversion edition heap c hint.Text
 settle edition heap c (want.Number v) = settle_conversion edition heap c hint.Number v
 settle edition heap c (want.Get base k) = settle_read c base k (read_value edition heap base k)
 settle edition heap c (want.Call f this args) = waits c pending.Answer (step.CallOut f this args)
+settle edition heap c (want.Resume kind) = settled c (step.Resume kind)
+settle edition heap c want.Unknown = settled c step.Unknown
 settle edition heap c (want.Done v) = settled c (step.Done v)
 settle edition heap c (want.Throws e) = settled c (step.Throws e)
 settle edition heap c (want.Leaves x) = settled c (step.Leaves x)

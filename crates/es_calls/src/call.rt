@@ -1,20 +1,20 @@
 //! A call of a function of the library: what it keeps between its steps, and what it answers.
 ghost use Rattle.std.specs.Prelude.{◌≡◌, IfOk};
-ghost use Rattle.es_calls.specs.Calls.{begun, arg, value_or_undefined, text_in, number_in, is_undefined, is_nothing, position, plus, index_key, object_in};
+ghost use Rattle.es_calls.specs.Calls.{begun, arg, value_or_undefined, text_in, number_in, is_undefined, position, plus, index_key, object_in};
 
 use es_heap::Key;
 use es_operators::{Conversion, to_key};
+use es_realm::ErrorKind;
 use es_value::{ObjId, Value, add};
 use sqlite_items::Items;
 use std::alloc::{AllocError, Global};
 
-/// The kinds of error that a step throws (ECMA-262, 6th edition, 19.5).
+/// How a generator goes on (ECMA-262, 6th edition, 25.3.1.2 to 25.3.1.4).
 #[derive(Clone, Copy, Debug, PartialEq, Eq)]
-pub enum ErrorKind {
-    Error,
-    TypeError,
-    ReferenceError,
-    RangeError,
+pub enum Resumption {
+    Next,
+    Return,
+    Throw,
 }
 
 /// What a step answers.
@@ -33,10 +33,14 @@ pub enum BuiltinStep {
         object: ObjId,
         key: Key,
     },
+    /// It is a method of the generator prototype: the caller resumes the receiver so, with the first argument, which ends the call.
+    Resume(Resumption),
     Done(Value),
     Throws(ErrorKind),
     /// The run leaves the profile at the exit of this number.
     Leaves(u8),
+    /// No function of the library has the call's number.
+    Unknown,
     OutOfMemory,
 }
 
@@ -87,9 +91,13 @@ pub enum Want {
     Get(Value, Key),
     /// A call of a function, with its receiver and arguments.
     Call(Value, Value, Items<Value>),
+    /// A method of the generator prototype.
+    Resume(Resumption),
     Done(Value),
     Throws(ErrorKind),
     Leaves(u8),
+    /// A function that isn't there.
+    Unknown,
 }
 
 /// A call of a function of the library.
@@ -116,13 +124,13 @@ pub struct BuiltinCall {
 
 impl BuiltinCall {
     /// Begins a call of the function of this number.
-    pub fn begin(alloc: Global, builtin: u16, this_value: Value, args: Vec<Value>) -> BuiltinCall
-        ensures { result ≡ begun builtin this_value args.items }
+    pub fn begin(alloc: Global, builtin: u16, this_value: Value, args: Items<Value>) -> BuiltinCall
+        ensures { result ≡ begun builtin this_value args }
     {
         BuiltinCall {
             builtin,
             this_value,
-            args: Items::from_vec(args),
+            args,
             place: Place::Begin,
             pending: Pending::Nothing,
             input: Value::Undefined,
@@ -175,12 +183,6 @@ pub fn is_undefined(value: &Value) -> bool
     ensures { result ≡ is_undefined value.now }
 {
     matches!(value, Value::Undefined)
-}
-
-pub fn is_nothing(value: &Value) -> bool
-    ensures { result ≡ is_nothing value.now }
-{
-    matches!(value, Value::Undefined | Value::Null)
 }
 
 /// A position; one that is missing counts as 0.

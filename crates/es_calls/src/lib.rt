@@ -3,12 +3,15 @@
 #![tactic(auto)]
 
 mod call;
+mod making;
 mod properties;
 mod settling;
 
 pub use call::{
-    BuiltinCall, BuiltinStep, ErrorKind, Pending, Place, Want, index_key, is_nothing, is_undefined,
-    number_in, object_in, plus, position, share_all, text_in,
+    BuiltinCall, BuiltinStep, Pending, Place, Resumption, Want, index_key, is_undefined, number_in,
+    object_in, plus, position, share_all, text_in,
 };
+pub use es_realm::ErrorKind;
+pub use making::{iter_result, make_arguments, make_list};
 pub use properties::{add_property, class_text};
 pub use settling::{receive_method, receive_result, settle};

@@ -10,8 +10,8 @@ use std::alloc::{AllocError, Global};
 /// Gives an object a plain property, as an assignment to a new one makes it.
 #[tactic(auto, unfolding(crate::specs::Properties::with_property))]
 pub fn add_property(
-    heap: &mut Heap,
     alloc: Global,
+    heap: &mut Heap,
     id: ObjId,
     name: &[u8],
     value: Value,

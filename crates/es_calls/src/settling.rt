@@ -1,15 +1,13 @@
 //! How a call is given what its function wants.
 ghost use Rattle.std.specs.Prelude.{◌≡◌, IfOk};
-ghost use Rattle.es_value.specs.Convert.{IsPrimitive};
-ghost use Rattle.es_realm.specs.Access.{exit_number};
 ghost use Rattle.es_operators.specs.Conversions.{method_given};
 ghost use Rattle.es_calls.specs.Steps.{settle_need, settle_primitive, settle_conversion, settle_read, settle, settle_attempt, receive_result};
 
-use crate::call::{BuiltinCall, BuiltinStep, ErrorKind, Pending, Want};
+use crate::call::{BuiltinCall, BuiltinStep, Pending, Want};
 use es_heap::{Heap, Key};
 use es_operators::{Conversion, Hint, Need, is_object, key_of_word};
-use es_realm::{Edition, Read, read_value};
-use es_value::{Exit, Value, to_number, to_text};
+use es_realm::{Edition, ErrorKind, Read, read_value};
+use es_value::{Value, to_number, to_text};
 use sqlite_items::Items;
 use std::alloc::{AllocError, Global};
 
@@ -49,15 +47,6 @@ fn settle_need(
     }
 }
 
-fn exit_number(exit: Exit) -> u8
-    ensures { result ≡ exit_number exit }
-{
-    match exit {
-        Exit::X1 => 1,
-        Exit::X2 => 2,
-    }
-}
-
 /// A primitive, converted as the hint says.
 fn settle_primitive(
     call: &mut BuiltinCall,
@@ -65,14 +54,13 @@ fn settle_primitive(
     hint: Hint,
     value: &Value,
 ) -> Result<BuiltinStep, AllocError>
-    requires { IsPrimitive value.now }
     ensures { IfOk result (λ step. (step ≡ (settle_primitive call.old hint value.now).step) × (call.new ≡ (settle_primitive call.old hint value.now).call)) }
 {
     let converted = match hint {
         Hint::Text => Value::Text(to_text(alloc, value)?),
         Hint::Number => match to_number(value) {
             Ok(number) => Value::Number(number),
-            Err(exit) => return Ok(BuiltinStep::Leaves(exit_number(exit))),
+            Err(exit) => return Ok(BuiltinStep::Leaves(exit.number())),
         },
     };
     call.pending = Pending::Nothing;
@@ -164,6 +152,8 @@ pub fn settle(
                 args,
             })
         }
+        Want::Resume(kind) => Ok(BuiltinStep::Resume(kind)),
+        Want::Unknown => Ok(BuiltinStep::Unknown),
         Want::Done(value) => Ok(BuiltinStep::Done(value)),
         Want::Throws(kind) => Ok(BuiltinStep::Throws(kind)),
         Want::Leaves(exit) => Ok(BuiltinStep::Leaves(exit)),

@@ -1,10 +1,14 @@
 -- The heap: a list of objects, where an object is named by its place.
-use Rattle.std.specs.Prelude.{ℕ, ℤ, ◌<◌, ◌++◌, zero, suc, nat_lt, if◌then◌else◌, List, [], ◌∷◌, length, slice_index_or, slice_set, Option, None, Some}
+use Rattle.std.specs.Prelude.{◌≡◌, ℕ, ℤ, ◌<◌, ◌++◌, zero, suc, Bool, true, false, ◌&&◌, nat_eq, nat_lt, if◌then◌else◌, List, [], ◌∷◌, length, slice_index_or, slice_set, Option, None, Some}
+use Rattle.std.specs.List.{list_any}
 use Rattle.es_value.specs.declared.value.ObjId.{ObjId}
+use Rattle.es_value.specs.Equality.{same_truth}
 use Rattle.es_heap.specs.declared.class.Class.{Class}
 use Rattle.es_heap.specs.declared.class.Class.TheVariants.{Object as OrdinaryClass}
 use Rattle.es_heap.specs.declared.key.Key.{Key}
 use Rattle.es_heap.specs.declared.prop.Prop.{Prop}
+use Rattle.es_heap.specs.Classes.{is_array}
+use Rattle.es_heap.specs.Keys.{same_key}
 use Rattle.es_heap.specs.Objects.{Object, Outcome, own, new_object}
 use Rattle.es_heap.specs.Objects as object
 
@@ -38,6 +42,41 @@ proto_in heap (Some up) = if nat_lt up.0 (length heap) then Some up else None
 -- the heap with a new object
 abbrev pub made : Heap → Option ObjId → Class → Heap
 made heap proto class = heap ++ new_object (proto_in heap proto) class ∷ []
+
+-- an object with another class: an array stays one, and no other object becomes one
+abbrev pub with_class : Heap → ObjId → Class → Heap
+with_class heap id class =
+    if same_truth (is_array class) (is_array (object_at heap id).class)
+    then with_object heap id (record (object_at heap id) { class = class })
+    else heap
+
+-- an object whose prototype this is has the key recorded
+abbrev pub is_up : Option ObjId → ObjId → Bool
+is_up None id = false
+is_up (Some up) id = nat_eq up.0 id.0
+
+abbrev pub records_from : ObjId → Key → Object → Bool
+records_from id k o = is_up o.proto id && list_any (same_key k) o.recorded
+
+abbrev pub is_recorded_below : Heap → ObjId → Key → Bool
+is_recorded_below heap id k = list_any (records_from id k) heap
+
+-- pairs of a prototype and a key
+abbrev pub same_note : ℕ × Key → ℕ × Key → Bool
+same_note a b = nat_eq a.0 b.0 && same_key a.1 b.1
+
+-- each key that is recorded below an object is noted with it
+abbrev pub AreNoted : List (ℕ × Key) → Heap → Type 0
+AreNoted notes heap = (id : ObjId) (k : Key) → is_recorded_below heap id k ≡ true → list_any (same_note (id.0, k)) notes ≡ true
+
+-- no note is lost
+abbrev pub KeepsNotes : List (ℕ × Key) → List (ℕ × Key) → Type 0
+KeepsNotes old new = (n : ℕ × Key) → list_any (same_note n) old ≡ true → list_any (same_note n) new ≡ true
+
+-- the key is noted with the prototype, if there is one
+abbrev pub IsNotedAt : Option ObjId → Key → List (ℕ × Key) → Type 0
+IsNotedAt None k notes = Unit {0}
+IsNotedAt (Some up) k notes = list_any (same_note (up.0, k)) notes ≡ true
 
 -- an object's outcome, as one of the heap
 abbrev pub at : Heap → ObjId → Outcome Object → Outcome Heap

@@ -1,7 +1,7 @@
 -- Objects, and what the standard's operations do to one (ECMA-262, 6th edition, 9.1 and 9.4.2).
 use Rattle.std.specs.Prelude.{◌≡◌, ℕ, ℤ, pos, negsuc, ◌+◌, Bool, true, false, ◌&&◌, ◌||◌, not, nat_eq, nat_le, nat_lt, if◌then◌else◌, List, [], ◌∷◌, Option, None, Some, is_none, Result, Ok, Err}
-use Rattle.std.specs.Map.{lookup, remove_entry}
-use Rattle.indexmap.specs.IndexMap.{insert_entry}
+use Rattle.std.specs.Map.{lookup}
+use Rattle.indexmap.specs.IndexMap.{insert_entry, swap_remove_entry}
 use Rattle.indexmap.specs.IndexSet.{insert_key}
 use Rattle.es_value.specs.Equality.{same_value}
 use Rattle.es_value.specs.declared.value.ObjId.{ObjId}
@@ -59,8 +59,9 @@ own o k = lookup (same_key k) o.properties
 abbrev pub with_own : Object → Key → Prop → Object
 with_own o k p = record o { properties = insert_entry same_key o.properties k p }
 
+-- the last property takes the place of the one that goes: nothing sees their order
 abbrev pub without_own : Object → Key → Object
-without_own o k = record o { properties = remove_entry (same_key k) o.properties }
+without_own o k = record o { properties = swap_remove_entry (same_key k) o.properties }
 
 abbrev pub same_function : Option ObjId → Option ObjId → Bool
 same_function None None = true
@@ -166,9 +167,9 @@ array_define o k next = if same_key k length_key then define_length o next else 
 abbrev pub define_own : Object → Key → Prop → Outcome Object
 define_own o k next = if is_array o.class then array_define o k next else ordinary_define o k next
 
--- a change of an array's length that keeps the attribute
+-- a change of an array's length that keeps the attribute; an object that is no array refuses it
 abbrev pub set_length : Object → ℤ → Outcome Object
-set_length o z = define_length o (Plain (Number z) (length_writable o) false)
+set_length o z = if is_array o.class then define_length o (Plain (Number z) (length_writable o) false) else refused o NotConfigurable
 
 -- OrdinaryDelete (9.1.10.1): what it leaves, and whether the key was there
 abbrev pub delete_found : Object → Key → Option Prop → Object

@@ -1,5 +1,5 @@
 -- The properties of an object: a list of keys with properties.
-use Rattle.std.specs.Prelude.{ℕ, ◌+◌, ◌<◌, max, Bool, true, nat_lt, if◌then◌else◌, List, [], ◌∷◌, filter, fold, Option, None, Some}
+use Rattle.std.specs.Prelude.{◌≡◌, ℕ, ◌+◌, ◌<◌, ◌≤◌, max, Bool, true, nat_lt, if◌then◌else◌, List, [], ◌∷◌, filter, fold, Option, None, Some}
 use Rattle.es_heap.specs.declared.key.Key.{Key}
 use Rattle.es_heap.specs.declared.prop.Prop.{Prop}
 use Rattle.es_heap.specs.declared.prop.Prop.TheVariants.{Plain, Accessor}
@@ -32,6 +32,15 @@ stays end e = stays_of end (array_index e.0)
 -- the properties after a cut that ends at `end`
 abbrev pub cut_at : ℕ → List (Key × Prop) → List (Key × Prop)
 cut_at end es = filter (stays end) es
+
+-- a cut to n comes from both lists to one length, and leaves the same of both
+abbrev pub CutsAs : ℕ → List (Key × Prop) → List (Key × Prop) → Type 0
+CutsAs n old new = (cut_end n new ≡ cut_end n old) × (cut_at (cut_end n old) new ≡ cut_at (cut_end n old) old)
+
+-- a cut to n takes this property away before all others: its index `left` is the largest below `top`, and it may go
+abbrev pub IsFirstToGo : ℕ → ℕ → ℕ → Option (Key × Prop) → Type 0
+IsFirstToGo n top left None = ⊥
+IsFirstToGo n top left (Some e) = (array_index e.0 ≡ Some left) × (left + 1 ≡ top) × (n ≤ left) × (is_configurable e.1 ≡ true)
 
 abbrev pub IsBelow : ℕ → Option ℕ → Type 0
 IsBelow top None = Unit {0}

@@ -2,16 +2,18 @@
 ghost use Rattle.std.specs.Prelude.{◌≡◌, ◌++◌, ◌∷◌, [], length, IsTrue, ◌↔◌, IfOk, OnOk, OnErr, true, false};
 ghost use Rattle.std.specs.List.{list_any};
 ghost use Rattle.std.specs.Option.{option_copied, option_map};
+ghost use Rattle.es_value.specs.Equality.{same_truth};
 ghost use Rattle.es_heap.specs.Classes.{is_array};
 ghost use Rattle.es_heap.specs.Keys.{same_key};
 ghost use Rattle.es_heap.specs.Objects.{Comes, Settles, own, new_object, recorded_after, after_delete, deleted};
-ghost use Rattle.es_heap.specs.Heaps.{IsBelow, ChainsEnd, next_id, made, object_at, with_object, define_own, set_length, find};
+ghost use Rattle.es_heap.specs.Heaps.{IsBelow, IsNotedAt, KeepsNotes, ChainsEnd, next_id, made, object_at, with_object, with_class, define_own, set_length, find, records_from, is_recorded_below};
 
 use crate::class::Class;
 use crate::key::Key;
 use crate::object::Object;
 use crate::prop::{HeapFault, Prop};
 use es_value::ObjId;
+use indexmap::IndexSet;
 use std::alloc::{AllocError, Global};
 use std::marker::Model;
 
@@ -23,10 +25,12 @@ pub struct Heap {
     objects: Vec<Object>,
     /// The class of an object that the heap didn't make, which is lent for it.
     no_class: Class,
+    /// Where keys are recorded below an object: the object's place and the key. There may be more than those.
+    notes: IndexSet<(usize, Key)>,
 }
 
 impl Model for Heap {
-    ghost use Rattle.es_heap.specs.Heaps.{Heap as HeapValue, ChainsEnd};
+    ghost use Rattle.es_heap.specs.Heaps.{Heap as HeapValue, ChainsEnd, AreNoted};
 
     ghost Value = { HeapValue };
 
@@ -35,7 +39,7 @@ impl Model for Heap {
     ghost use Rattle.std.specs.Prelude.{◌≡◌};
     ghost use Rattle.es_heap.specs.declared.class.Class.{Class};
 
-    ghost invariant = { λ h. ChainsEnd h.objects.items × (h.no_class ≡ Class.Object) };
+    ghost invariant = { λ h. ChainsEnd h.objects.items × (h.no_class ≡ Class.Object) × AreNoted h.notes.keys h.objects.items };
 }
 
 impl Heap {
@@ -46,6 +50,7 @@ impl Heap {
         Heap {
             objects: Vec::new(alloc),
             no_class: Class::Object,
+            notes: IndexSet::new(alloc),
         }
     }
 
@@ -105,12 +110,12 @@ impl Heap {
         }
     }
 
-    /// Puts another class in the place of the class.
+    /// Puts another class in the place of the class. An array stays one, and no other object becomes one: what would change that
+    /// changes nothing.
     pub fn set_class(&mut self, id: ObjId, class: Class)
-        requires { is_array class ≡ is_array (object_at self.old id).class }
-        ensures { self.new ≡ with_object self.old id (record (object_at self.old id) { class = class }) }
+        ensures { self.new ≡ with_class self.old id class }
     {
-        if id.0 < self.objects.len() {
+        if are_both_arrays_or_neither(&class, self.class(id)) && id.0 < self.objects.len() {
             let object = &mut self.objects[id.0];
             object.set_class(class);
         }
@@ -197,11 +202,14 @@ impl Heap {
     }
 
     /// A change of an array's `length` that keeps whether it is writable (9.4.2.4). `BadLength`, then `NotWritable` where an
-    /// unwritable length would change, then `NotConfigurable` as for `define_own`.
+    /// unwritable length would change, then `NotConfigurable` as for `define_own`. An object that is no array answers
+    /// `NotConfigurable`.
     pub fn set_length(&mut self, id: ObjId, length: i64) -> Result<(), HeapFault>
-        requires { is_array (object_at self.old id).class ≡ true }
         ensures { Settles self.new result (set_length self.old id length) }
     {
+        if id.0 >= self.objects.len() {
+            return Err(HeapFault::NotConfigurable);
+        }
         let object = &mut self.objects[id.0];
         object.set_length(length)
     }
@@ -214,6 +222,7 @@ impl Heap {
         if id.0 >= self.objects.len() {
             return Ok(());
         }
+        note(&mut self.notes, self.objects[id.0].proto(), &key)?;
         let object = &mut self.objects[id.0];
         object.record_key(key)
     }
@@ -227,4 +236,60 @@ impl Heap {
             None => false,
         }
     }
+
+    /// Whether an object whose prototype this is has the key in its list of recorded keys. The heap is gone over only where one has.
+    pub fn is_recorded_below(&self, id: ObjId, key: &Key) -> bool
+        ensures { result ≡ is_recorded_below self.now id key.now }
+    {
+        if self.is_unnoted(id, key) {
+            return false;
+        }
+        for place in 0..self.len() {
+            if self.records_from(ObjId(place), id, key) {
+                return true;
+            }
+        }
+        false
+    }
+
+    /// Whether no key is noted so, and none is recorded.
+    fn is_unnoted(&self, id: ObjId, key: &Key) -> bool
+        ensures { result ≡ true → is_recorded_below self.now id key.now ≡ false }
+    {
+        match key.share() {
+            Ok(key) => !self.notes.contains(&(id.0, key)),
+            Err(_) => false,
+        }
+    }
+
+    fn records_from(&self, place: ObjId, id: ObjId, key: &Key) -> bool
+        ensures { result ≡ records_from id key.now (object_at self.now place) }
+    {
+        match self.proto(place) {
+            Some(up) if up.0 == id.0 => self.is_recorded(place, key),
+            _ => false,
+        }
+    }
+}
+
+/// Whether both classes are an array's, or neither is.
+fn are_both_arrays_or_neither(class: &Class, other: &Class) -> bool
+    ensures { result ≡ same_truth (is_array class.now) (is_array other.now) }
+{
+    class.is_array() == other.is_array()
+}
+
+/// Notes a key that is recorded below a prototype.
+fn note(
+    notes: &mut IndexSet<(usize, Key)>,
+    proto: Option<ObjId>,
+    key: &Key,
+) -> Result<(), AllocError>
+    ensures ok { OnOk result (IsNotedAt proto key.now notes.new.keys) }
+    ensures kept { KeepsNotes notes.old.keys notes.new.keys }
+{
+    if let Some(up) = proto {
+        notes.insert((up.0, key.share()?))?;
+    }
+    Ok(())
 }

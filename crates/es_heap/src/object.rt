@@ -117,6 +117,8 @@ impl Object {
     pub(crate) fn delete_own(&mut self, key: &Key) -> Result<bool, HeapFault>
         ensures object { self.new ≡ after_delete self.old key.now }
         ensures answer { result ≡ deleted self.old key.now }
+        ensures proto { self.new.proto ≡ self.old.proto }
+        ensures recorded { self.new.recorded ≡ self.old.recorded }
     {
         match self.own(key) {
             None => return Ok(false),
@@ -150,6 +152,7 @@ impl Object {
     pub(crate) fn define_own(&mut self, key: Key, next: Prop) -> Result<(), HeapFault>
         ensures outcome { Comes self.old self.new result (define_own self.old key next) }
         ensures proto { self.new.proto ≡ self.old.proto }
+        ensures recorded { self.new.recorded ≡ self.old.recorded }
     {
         if !self.class.is_array() {
             return self.ordinary_define(key, next);
@@ -169,6 +172,7 @@ impl Object {
         ensures outcome { Comes self.old self.new result (ordinary_define self.old key next) }
         ensures class { self.new.class ≡ self.old.class }
         ensures proto { self.new.proto ≡ self.old.proto }
+        ensures recorded { self.new.recorded ≡ self.old.recorded }
     {
         match self.table.get(&key) {
             None if !self.extensible => return Err(HeapFault::NotExtensible),
@@ -189,6 +193,7 @@ impl Object {
         requires small { index < 4294967295 }
         ensures outcome { Comes self.old self.new result (define_element self.old key index next) }
         ensures proto { self.new.proto ≡ self.old.proto }
+        ensures recorded { self.new.recorded ≡ self.old.recorded }
     {
         if !self.extensible && self.own(&key).is_none() {
             return Err(HeapFault::NotExtensible);
@@ -210,6 +215,7 @@ impl Object {
         ensures outcome { Comes self.old self.new result (define_length self.old next.now) }
         ensures memory { fault_of result ≢ Some HeapFault.OutOfMemory }
         ensures proto { self.new.proto ≡ self.old.proto }
+        ensures recorded { self.new.recorded ≡ self.old.recorded }
     {
         match next {
             Prop::Plain {
@@ -232,6 +238,7 @@ impl Object {
         ensures outcome { Comes self.old self.new result (define_length_number self.old number next.now writable) }
         ensures memory { fault_of result ≢ Some HeapFault.OutOfMemory }
         ensures proto { self.new.proto ≡ self.old.proto }
+        ensures recorded { self.new.recorded ≡ self.old.recorded }
     {
         let Ok(asked) = u32::try_from(number) else {
             return Err(HeapFault::BadLength);
@@ -252,6 +259,7 @@ impl Object {
         ensures outcome { Comes self.old self.new result (cut_to self.old (cut_end asked self.old.properties) asked writable) }
         ensures memory { fault_of result ≢ Some HeapFault.OutOfMemory }
         ensures proto { self.new.proto ≡ self.old.proto }
+        ensures recorded { self.new.recorded ≡ self.old.recorded }
     {
         let end = self.table.cut(asked);
         self.put_length(end, writable);
@@ -262,11 +270,15 @@ impl Object {
         }
     }
 
-    /// A change of an array's length that keeps the attribute.
+    /// A change of an array's length that keeps the attribute; an object that is no array refuses it.
     pub(crate) fn set_length(&mut self, length: i64) -> Result<(), HeapFault>
-        requires { is_array self.old.class ≡ true }
-        ensures { Settles self.new result (set_length self.old length) }
+        ensures outcome { Settles self.new result (set_length self.old length) }
+        ensures proto { self.new.proto ≡ self.old.proto }
+        ensures recorded { self.new.recorded ≡ self.old.recorded }
     {
+        if !self.class.is_array() {
+            return Err(HeapFault::NotConfigurable);
+        }
         let (_, writable) = self.array_length();
         let next = Prop::Plain {
             value: Value::Number(length),

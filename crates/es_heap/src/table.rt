@@ -1,10 +1,10 @@
 //! The table of an object's properties.
-ghost use Rattle.std.specs.Prelude.{◌≡◌, ◌≤◌, ◌+◌, ◌⊎◌, Some, [], OnOk, OnErr, true};
+ghost use Rattle.std.specs.Prelude.{◌≡◌, ◌≤◌, ◌+◌, ◌-◌, ◌⊎◌, Some, [], OnOk, OnErr, IfSome, true, length, slice_get};
 ghost use Rattle.std.specs.Option.{option_copied};
-ghost use Rattle.std.specs.Map.{lookup, remove_entry};
-ghost use Rattle.indexmap.specs.IndexMap.{insert_entry};
+ghost use Rattle.std.specs.Map.{lookup};
+ghost use Rattle.indexmap.specs.IndexMap.{insert_entry, swap_remove_entry};
 ghost use Rattle.es_heap.specs.Keys.{same_key, array_index};
-ghost use Rattle.es_heap.specs.Tables.{IsBelow, cut_end, cut_at, end_past, stays_of};
+ghost use Rattle.es_heap.specs.Tables.{IsBelow, IsFirstToGo, CutsAs, cut_end, cut_at, end_past, stays_of};
 
 use crate::index::array_index;
 use crate::key::Key;
@@ -13,7 +13,7 @@ use indexmap::IndexMap;
 use std::alloc::{AllocError, Global};
 use std::marker::Model;
 
-/// Properties by their keys, in the order in which the keys came.
+/// Properties by their keys, in an order that nothing sees.
 #[derive(Drop)]
 pub(crate) struct Table {
     map: IndexMap<Key, Prop>,
@@ -61,15 +61,51 @@ impl Table {
         Ok(())
     }
 
+    /// The last property takes the place of the one that goes.
     pub(crate) fn remove(&mut self, key: &Key)
-        ensures { self.new ≡ remove_entry (same_key key.now) self.old }
+        ensures { self.new ≡ swap_remove_entry (same_key key.now) self.old }
     {
-        let _ = self.map.shift_remove(key);
+        let _ = self.map.swap_remove(key);
         self.top = lowered(self.top, key);
     }
 
-    /// Cuts the elements from `length` on, up to one that isn't configurable. Answers the length that is left.
+    /// Cuts the elements from `length` on, up to one that isn't configurable. Answers the length that is left. Elements that came
+    /// in the order of their indices take constant time each, and else each property is looked at.
     pub(crate) fn cut(&mut self, length: u32) -> u32
+        ensures end { result ≡ cut_end length self.old }
+        ensures table { self.new ≡ cut_at result self.old }
+    {
+        self.cut_from_last(length);
+        self.cut_rest(length)
+    }
+
+    /// Takes the last properties away, as long as they are those that a cut takes away first.
+    fn cut_from_last(&mut self, length: u32)
+        ensures { CutsAs length self.old self.new }
+    {
+        for _ in 0..self.map.len() {
+            if !self.cut_last(length) {
+                break;
+            }
+        }
+    }
+
+    /// Takes the last property away, if a cut takes it away first.
+    fn cut_last(&mut self, length: u32) -> bool
+        ensures { CutsAs length self.old self.new }
+    {
+        match bound_without_last(&self.map, self.top, length) {
+            None => false,
+            Some(left) => {
+                let _ = self.map.pop();
+                self.top = left;
+                true
+            }
+        }
+    }
+
+    /// A cut that looks at each property, if an index can be large enough.
+    fn cut_rest(&mut self, length: u32) -> u32
         ensures end { result ≡ cut_end length self.old }
         ensures table { self.new ≡ cut_at result self.old }
     {
@@ -105,6 +141,19 @@ fn lowered(top: u32, key: &Key) -> u32
     match array_index(key) {
         Some(index) if index + 1 == top => index,
         _ => top,
+    }
+}
+
+/// The bound once the last property is gone, if a cut to `asked` takes it away first: its index is the largest, and it may go.
+fn bound_without_last(map: &IndexMap<Key, Prop>, top: u32, asked: u32) -> Option<u32>
+    ensures { IfSome result (λ left. IsFirstToGo asked top left (slice_get map.now.entries (length map.now.entries - 1))) }
+{
+    let (key, property) = map.last()?;
+    match array_index(key) {
+        Some(index) if index >= asked && index + 1 == top && property.is_configurable() => {
+            Some(index)
+        }
+        _ => None,
     }
 }
 

@@ -12,7 +12,7 @@ use Rattle.es_calls.specs.declared.call.BuiltinCall.{BuiltinCall}
 use Rattle.es_calls.specs.declared.call.Place.{Place}
 use Rattle.es_calls.specs.declared.call.Place.TheVariants as place
 use Rattle.es_calls.specs.declared.call.Want.TheVariants as want
-use Rattle.es_calls.specs.declared.call.ErrorKind.TheVariants.{TypeError}
+use Rattle.es_realm.specs.declared.errors.ErrorKind.TheVariants.{TypeError}
 use Rattle.es_calls.specs.Properties.{with_property}
 use Rattle.es_calls.specs.Calls.{Turn, Effect, arg, gives, throws, goes, is_undefined, text_in, object_in}
 

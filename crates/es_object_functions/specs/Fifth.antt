@@ -21,14 +21,14 @@ use Rattle.es_realm.specs.declared.look.Look.TheVariants as look
 use Rattle.es_realm.specs.Names.{object_prototype, array_prototype}
 use Rattle.es_realm.specs.LeftOut.{is_builtin}
 use Rattle.es_realm.specs.Look.{is_named, look_own, look_up}
-use Rattle.es_realm.specs.Access.{definition_exit}
+use Rattle.es_realm.specs.Access.{converted_length, definition_exit}
 use Rattle.es_operators.specs.Primitives.{is_object, is_callable, truth_of}
 use Rattle.es_calls.specs.declared.call.BuiltinCall.{BuiltinCall}
 use Rattle.es_calls.specs.declared.call.Place.{Place}
 use Rattle.es_calls.specs.declared.call.Place.TheVariants as place
 use Rattle.es_calls.specs.declared.call.Want.{Want}
 use Rattle.es_calls.specs.declared.call.Want.TheVariants as want
-use Rattle.es_calls.specs.declared.call.ErrorKind.TheVariants.{TypeError, RangeError}
+use Rattle.es_realm.specs.declared.errors.ErrorKind.TheVariants.{TypeError, RangeError}
 use Rattle.es_object_functions.specs.declared.fifth.Fields.{Fields}
 use Rattle.es_calls.specs.Calls.{Turn, Effect, Answered, answered, still, arg, throws, leaves, goes, is_undefined, text_in, number_in, object_in, plus}
 use Rattle.es_calls.specs.Properties.{wanted}
@@ -232,11 +232,12 @@ define_turn heap c =
     if int_lt c.index (pos 6) then still heap (field_if_there c (look_up Fifth heap (object_in (arg c 2)) (Text (field_name c.index))))
     else define_end heap c
 
+abbrev pub define_converted : Heap → BuiltinCall → Option ℤ → Answered
+define_converted heap c None = wanted heap (want.Throws RangeError)
+define_converted heap c (Some n) = define_fields heap (object_in (arg c 0)) (kept_key c) (record (fields_of c.list) { value = Some (value.Number n) })
+
 abbrev pub define_length : Heap → BuiltinCall → Answered
-define_length heap c =
-    if int_eq c.length (number_in c.input)
-    then define_fields heap (object_in (arg c 0)) (kept_key c) (record (fields_of c.list) { value = Some (value.Number c.length) })
-    else wanted heap (want.Throws RangeError)
+define_length heap c = define_converted heap c (converted_length c.length (number_in c.input))
 
 abbrev pub define_receiver : BuiltinCall → Turn
 define_receiver c = if is_object (arg c 2) then goes (record c { kept = c.input }) place.Turn want.Again else throws c TypeError

@@ -24,7 +24,7 @@ use Rattle.es_calls.specs.declared.call.Place.{Place}
 use Rattle.es_calls.specs.declared.call.Place.TheVariants as place
 use Rattle.es_calls.specs.declared.call.Want.{Want}
 use Rattle.es_calls.specs.declared.call.Want.TheVariants as want
-use Rattle.es_calls.specs.declared.call.ErrorKind.TheVariants.{TypeError}
+use Rattle.es_realm.specs.declared.errors.ErrorKind.TheVariants.{TypeError}
 use Rattle.es_calls.specs.Calls.{Turn, Answered, arg, goes, is_undefined, text_in}
 use Rattle.es_calls.specs.Properties.{made_object, wanted, class_text}
 

@@ -9,7 +9,7 @@ use es_calls::{
     BuiltinCall, ErrorKind, Place, Want, add_property, is_undefined, object_in, text_in,
 };
 use es_heap::{Class, Heap, HeapFault, Prop};
-use es_operators::{is_object, key_of_word, text_of_word};
+use es_operators::{is_object, key_of_word};
 use es_value::{ObjId, Str, Value};
 use std::alloc::{AllocError, Global};
 
@@ -32,7 +32,7 @@ fn error_message(call: &BuiltinCall, alloc: Global, heap: &mut Heap) -> Result<W
     ensures { IfOk result (λ want. (want ≡ (error_message heap.old call.now).want) × (heap.new ≡ (error_message heap.old call.now).heap)) }
 {
     let message = call.input.share()?;
-    add_property(heap, alloc, object_in(&call.kept), b"message", message)?;
+    add_property(alloc, heap, object_in(&call.kept), b"message", message)?;
     Ok(Want::Done(call.kept.share()?))
 }
 
@@ -75,7 +75,7 @@ fn name_read(call: &mut BuiltinCall, alloc: Global) -> Result<Want, AllocError>
     ensures { IfOk result (λ want. (want ≡ (error_text call.old AtReceiver).want) × (call.new ≡ (error_text call.old AtReceiver).call)) }
 {
     if is_undefined(&call.input) {
-        call.other = Value::Text(text_of_word(alloc, b"Error")?);
+        call.other = Value::Text(Str::of_bytes(alloc, b"Error")?);
         return wants_message(call, alloc);
     }
     call.place = Place::Search;

@@ -14,7 +14,9 @@ use es_calls::{
 use es_heap::{Class, Heap, HeapFault, Key, Prop};
 use es_operators::{is_callable, is_object, key_of_word, truth_of};
 use es_realm::names::{ARRAY_PROTOTYPE, OBJECT_PROTOTYPE};
-use es_realm::{Edition, Look, definition_exit, is_builtin, is_named, look_own, look_up};
+use es_realm::{
+    Edition, Look, converted_length, definition_exit, is_builtin, is_named, look_own, look_up,
+};
 use es_value::{ObjId, Str, Value};
 use std::alloc::{AllocError, Global};
 
@@ -63,8 +65,8 @@ fn function_or_undefined(function: Option<ObjId>) -> Value
 
 /// A descriptor with two properties and whether it is configurable (8.10.4).
 fn three_properties(
-    heap: &mut Heap,
     alloc: Global,
+    heap: &mut Heap,
     name: &[u8],
     value: Value,
     second_name: &[u8],
@@ -74,9 +76,9 @@ fn three_properties(
     ensures { IfOk result (λ want. (want ≡ WantDone (ObjectValue (next_id heap.old))) × (heap.new ≡ three_properties heap.old name.now value second_name.now second_value configurable)) }
 {
     let id = heap.make(alloc, Some(OBJECT_PROTOTYPE), Class::Object)?;
-    add_property(heap, alloc, id, name, value)?;
-    add_property(heap, alloc, id, second_name, second_value)?;
-    add_property(heap, alloc, id, b"configurable", Value::Bool(configurable))?;
+    add_property(alloc, heap, id, name, value)?;
+    add_property(alloc, heap, id, second_name, second_value)?;
+    add_property(alloc, heap, id, b"configurable", Value::Bool(configurable))?;
     Ok(Want::Done(Value::Object(id)))
 }
 
@@ -116,7 +118,7 @@ fn own_copy(heap: &Heap, id: ObjId, key: &Key) -> Result<Option<Prop>, AllocErro
 }
 
 /// FromPropertyDescriptor (8.10.4).
-fn descriptor(heap: &mut Heap, alloc: Global, property: Option<Prop>) -> Result<Want, AllocError>
+fn descriptor(alloc: Global, heap: &mut Heap, property: Option<Prop>) -> Result<Want, AllocError>
     ensures { IfOk result (λ want. (want ≡ (descriptor heap.old property).want) × (heap.new ≡ (descriptor heap.old property).heap)) }
 {
     match property {
@@ -128,8 +130,8 @@ fn descriptor(heap: &mut Heap, alloc: Global, property: Option<Prop>) -> Result<
                 configurable,
             },
         ) => three_properties(
-            heap,
             alloc,
+            heap,
             b"value",
             value,
             b"writable",
@@ -143,8 +145,8 @@ fn descriptor(heap: &mut Heap, alloc: Global, property: Option<Prop>) -> Result<
                 configurable,
             },
         ) => three_properties(
-            heap,
             alloc,
+            heap,
             b"get",
             function_or_undefined(get),
             b"set",
@@ -154,13 +156,13 @@ fn descriptor(heap: &mut Heap, alloc: Global, property: Option<Prop>) -> Result<
     }
 }
 
-fn described_own(heap: &mut Heap, alloc: Global, key: &Key, found: Look) -> Result<Want, AllocError>
+fn described_own(alloc: Global, heap: &mut Heap, key: &Key, found: Look) -> Result<Want, AllocError>
     ensures { IfOk result (λ want. (want ≡ (described_own heap.old key.now found).want) × (heap.new ≡ (described_own heap.old key.now found).heap)) }
 {
     match found {
         Look::Found(id) => {
             let property = own_copy(heap, id, key)?;
-            descriptor(heap, alloc, property)
+            descriptor(alloc, heap, property)
         }
         Look::Missing | Look::Binding => Ok(Want::Done(Value::Undefined)),
         Look::Leaves(exit) => Ok(Want::Leaves(exit)),
@@ -192,7 +194,7 @@ pub fn get_descriptor(
             let key = Key::Text(Str::of(alloc, text_in(&call.input))?);
             let id = object_in(&call.arg(0)?);
             let found = look_own(Edition::Fifth, heap, id, &key);
-            described_own(heap, alloc, &key, found)
+            described_own(alloc, heap, &key, found)
         }
     }
 }
@@ -430,8 +432,8 @@ fn adds_includes(heap: &Heap, id: ObjId, key: &Key, property: &Prop) -> bool
 }
 
 fn define_allowed(
-    heap: &mut Heap,
     alloc: Global,
+    heap: &mut Heap,
     id: ObjId,
     key: Key,
     property: Prop,
@@ -449,8 +451,8 @@ fn define_allowed(
 }
 
 fn define_fields(
-    heap: &mut Heap,
     alloc: Global,
+    heap: &mut Heap,
     id: ObjId,
     key: Key,
     fields: Fields,
@@ -464,7 +466,7 @@ fn define_fields(
     if is_builtin(Edition::Fifth, id) && !adds_includes(heap, id, &key, &property) {
         return Ok(Want::Leaves(7));
     }
-    define_allowed(heap, alloc, id, key, property)
+    define_allowed(alloc, heap, id, key, property)
 }
 
 fn kept_key(call: &BuiltinCall, alloc: Global) -> Result<Key, AllocError>
@@ -509,7 +511,7 @@ fn define_end(call: &mut BuiltinCall, alloc: Global, heap: &mut Heap) -> Result<
     }
     let id = object_in(&call.arg(0)?);
     let key = kept_key(call, alloc)?;
-    define_fields(heap, alloc, id, key, fields)
+    define_fields(alloc, heap, id, key, fields)
 }
 
 fn define_turn(call: &mut BuiltinCall, alloc: Global, heap: &mut Heap) -> Result<Want, AllocError>
@@ -528,14 +530,14 @@ fn define_turn(call: &mut BuiltinCall, alloc: Global, heap: &mut Heap) -> Result
 fn define_length(call: &BuiltinCall, alloc: Global, heap: &mut Heap) -> Result<Want, AllocError>
     ensures { IfOk result (λ want. (want ≡ (define_length heap.old call.now).want) × (heap.new ≡ (define_length heap.old call.now).heap)) }
 {
-    if call.length != number_in(&call.input) {
+    let Some(length) = converted_length(call.length, number_in(&call.input)) else {
         return Ok(Want::Throws(ErrorKind::RangeError));
-    }
+    };
     let mut fields = fields_of(call.list.as_slice())?;
-    fields.value = Some(Value::Number(call.length));
+    fields.value = Some(Value::Number(length));
     let id = object_in(&call.arg(0)?);
     let key = kept_key(call, alloc)?;
-    define_fields(heap, alloc, id, key, fields)
+    define_fields(alloc, heap, id, key, fields)
 }
 
 fn define_receiver(call: &mut BuiltinCall) -> Result<Want, AllocError>

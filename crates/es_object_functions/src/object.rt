@@ -12,7 +12,6 @@ ghost use Rattle.es_calls.specs.Properties.{class_text};
 use es_access::is_above;
 use es_calls::{BuiltinCall, ErrorKind, Place, Want, class_text, is_undefined, text_in};
 use es_heap::{Class, Heap, Key};
-use es_operators::text_of_word;
 use es_realm::names::{
     ARRAY_ITERATOR_PROTOTYPE, BOOLEAN_PROTOTYPE, GENERATOR_FUNCTION_PROTOTYPE, GENERATOR_PROTOTYPE,
     NUMBER_PROTOTYPE, STRING_ITERATOR_PROTOTYPE,
@@ -61,7 +60,7 @@ fn is_tagged(heap: &Heap, id: ObjId) -> bool
 fn done_text(alloc: Global, word: &[u8]) -> Result<Want, AllocError>
     ensures { IfOk result (λ want. want ≡ WantDone (TextValue word.now)) }
 {
-    Ok(Want::Done(Value::Text(text_of_word(alloc, word)?)))
+    Ok(Want::Done(Value::Text(Str::of_bytes(alloc, word)?)))
 }
 
 fn object_text(alloc: Global, edition: Edition, heap: &Heap, id: ObjId) -> Result<Want, AllocError>
@@ -207,7 +206,7 @@ fn prototype_text(
     ensures { IfOk result (λ want. want ≡ prototype_text edition radix.now word.now) }
 {
     match edition {
-        Edition::Fifth => Ok(decimal_text(radix, text_of_word(alloc, word)?)),
+        Edition::Fifth => Ok(decimal_text(radix, Str::of_bytes(alloc, word)?)),
         Edition::Sixth => Ok(Want::Throws(ErrorKind::TypeError)),
     }
 }

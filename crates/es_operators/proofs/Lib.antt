@@ -1,1 +1,3 @@
 pub mod InstanceLemmas
+pub mod PrimLemmas
+pub mod SeenLemmas

@@ -11,9 +11,11 @@ use Rattle.es_access.specs.Access.{is_above}
 use Rattle.es_realm.specs.declared.edition.Edition.{Edition}
 use Rattle.es_realm.specs.declared.edition.Edition.TheVariants.{Sixth, Fifth}
 use Rattle.es_realm.specs.Names.{function_prototype, generator_function_prototype, error, type_error, reference_error, range_error}
-use Rattle.es_realm.specs.Look.{is_closure, is_method}
+use Rattle.es_realm.specs.Look.{is_closure, is_method, is_namespace}
 use Rattle.es_operators.specs.declared.functions.Constructor.{Constructor}
 use Rattle.es_operators.specs.declared.functions.Constructor.TheVariants as constructor
+use Rattle.es_operators.specs.declared.functions.Prototype.{Prototype}
+use Rattle.es_operators.specs.declared.functions.Prototype.TheVariants as prototype
 use Rattle.es_operators.specs.declared.functions.Instance.{Instance}
 use Rattle.es_operators.specs.declared.functions.Instance.TheVariants as instance
 use Rattle.es_operators.specs.Primitives.{is_callable, is_object}
@@ -40,6 +42,12 @@ constructor_of_class edition heap id _ = constructor.Fails
 abbrev pub constructor_of : Edition → Heap → Value → Constructor
 constructor_of edition heap (value.Object id) = constructor_of_class edition heap id (object_at heap id).class
 constructor_of edition heap _ = constructor.Fails
+
+-- the prototype of what a function makes, whose property `prototype` has this value (9.1.15): another value than an object counts for
+-- the default. X12 of a namespace object
+abbrev pub prototype_for : Heap → Value → ObjId → Prototype
+prototype_for heap (value.Object id) default = if is_namespace (object_at heap id).class then prototype.Leaves 12 else prototype.Is id
+prototype_for heap _ default = prototype.Is default
 
 -- the heritage of a class (14.5.14): a function of the program, or X10
 abbrev pub heritage_of_class : Heap → ObjId → Class → Constructor

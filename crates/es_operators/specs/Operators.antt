@@ -6,11 +6,10 @@ use Rattle.std.specs.Cmp.Lexicographic.{slice_cmp}
 use Rattle.es_value.specs.declared.arithmetic.Exit.{Exit}
 use Rattle.es_value.specs.declared.value.Value.{Value}
 use Rattle.es_value.specs.declared.value.Value.TheVariants as value
-use Rattle.es_value.specs.Arithmetic.{sum, difference, product, quotient, remainder, power}
+use Rattle.es_value.specs.Arithmetic.{exit_number, sum, difference, product, quotient, remainder, power}
 use Rattle.es_value.specs.Bits.{bitwise_and, bitwise_or, bitwise_xor, bitwise_not, left_shift, signed_right_shift, unsigned_right_shift}
 use Rattle.es_value.specs.Convert.{number_of, text_of}
 use Rattle.es_value.specs.Equality.{same_value, same_truth}
-use Rattle.es_realm.specs.Access.{exit_number}
 use Rattle.es_operators.specs.declared.operators.Arithmetic.{Arithmetic}
 use Rattle.es_operators.specs.declared.operators.Arithmetic.TheVariants as op
 use Rattle.es_operators.specs.declared.operators.Relation.{Relation}
@@ -77,7 +76,7 @@ relation_of relation.Greater a b = is_less b a true
 relation_of relation.LessOrEqual a b = is_less b a false
 relation_of relation.GreaterOrEqual a b = is_less a b false
 
--- `-` and `~` of a primitive (12.5.8 and 12.5.11)
+-- `-` and `~` of a primitive (12.5.10 and 12.5.11); `+` gives its number (12.5.9)
 abbrev pub negation : Result ℤ Exit → Outcome
 negation (Ok n) = given (difference (pos 0) n)
 negation (Err x) = Leaves (exit_number x)

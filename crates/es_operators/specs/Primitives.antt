@@ -1,5 +1,5 @@
 -- Primitive values, and those that pass between a program and its hosts.
-use Rattle.std.specs.Prelude.{ℕ, ℤ, pos, Bool, true, false, not, List, [], ◌∷◌, Option, None, Some, codes}
+use Rattle.std.specs.Prelude.{ℕ, ℤ, pos, Bool, true, false, not, List, [], ◌∷◌, ◌++◌, fold, Option, None, Some, codes}
 use Rattle.std.specs.Ordering.{int_eq}
 use Rattle.es_value.specs.Convert.{text_of}
 use Rattle.es_value.specs.declared.value.Value.{Value}
@@ -20,6 +20,15 @@ to_prim (value.Bool b) = Some (primitive.Bool b)
 to_prim (value.Number n) = Some (primitive.Number n)
 to_prim (value.Text us) = Some (primitive.Text us)
 to_prim (value.Object id) = None
+
+-- the primitives that values are, or None where one is an object
+abbrev pub with_prim : Option (List Primitive) → Option Primitive → Option (List Primitive)
+with_prim None p = None
+with_prim (Some ps) None = None
+with_prim (Some ps) (Some p) = Some (ps ++ p ∷ [])
+
+abbrev pub to_prims : List Value → Option (List Primitive)
+to_prims vs = fold (λ ps v. with_prim ps (to_prim v)) (Some []) vs
 
 abbrev pub of_prim : Primitive → Value
 of_prim primitive.Undefined = value.Undefined

@@ -93,18 +93,7 @@ fn need_of_read(heap: &Heap, read: Read) -> Need
 pub fn key_of_word(alloc: Global, word: &[u8]) -> Result<Key, AllocError>
     ensures { IfOk result (λ key. key ≡ KeyText word.now) }
 {
-    Ok(Key::Text(text_of_word(alloc, word)?))
-}
-
-/// The text of these ASCII characters.
-pub fn text_of_word(alloc: Global, word: &[u8]) -> Result<Str, AllocError>
-    ensures { IfOk result (λ text. text ≡ word.now) }
-{
-    let mut units = Vec::with_capacity(alloc, word.len())?;
-    for byte in word {
-        units.push(u16::from(*byte))?;
-    }
-    Str::of_vec(alloc, units)
+    Ok(Key::Text(Str::of_bytes(alloc, word)?))
 }
 
 fn need_of_name(

@@ -1,7 +1,7 @@
 //! Which functions can be constructed and inherited from, and the walk of `instanceof`.
 ghost use Rattle.std.specs.Prelude.{◌≡◌, IfOk};
 ghost use Rattle.es_realm.specs.Look.{is_method};
-ghost use Rattle.es_operators.specs.Functions.{is_generator_function, is_no_constructor, constructor_of, heritage_of, not_callable, instance_of, is_error_kind, is_parent_step, met, met_at, instance_walk};
+ghost use Rattle.es_operators.specs.Functions.{is_generator_function, is_no_constructor, constructor_of, prototype_for, heritage_of, not_callable, instance_of, is_error_kind, is_parent_step, met, met_at, instance_walk};
 
 use crate::conversion::key_of_word;
 use crate::primitives::{is_callable, is_object};
@@ -21,6 +21,14 @@ pub enum Constructor {
     MakesError(u16),
     /// A TypeError.
     Fails,
+    /// The run leaves the profile at the exit of this number.
+    Leaves(u8),
+}
+
+/// What the prototype of a new object is.
+#[derive(Clone, Copy, Debug, PartialEq, Eq)]
+pub enum Prototype {
+    Is(ObjId),
     /// The run leaves the profile at the exit of this number.
     Leaves(u8),
 }
@@ -96,6 +104,19 @@ pub fn constructor_of(
             }
         }
         _ => Ok(Constructor::Fails),
+    }
+}
+
+/// The prototype of what a function makes, by `new` or as a generator, whose property `prototype` has this value (9.1.15).
+pub fn prototype_for(heap: &Heap, value: &Value, default: ObjId) -> Prototype
+    ensures { result ≡ prototype_for heap.now value.now default }
+{
+    match value {
+        Value::Object(id) => match heap.class(*id) {
+            Class::Namespace(_) => Prototype::Leaves(12),
+            _ => Prototype::Is(*id),
+        },
+        _ => Prototype::Is(default),
     }
 }
 

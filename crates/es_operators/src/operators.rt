@@ -4,9 +4,8 @@ ghost use Rattle.std.specs.Ordering.{nat_cmp, is_lt};
 ghost use Rattle.std.specs.Cmp.Lexicographic.{slice_cmp};
 ghost use Rattle.es_value.specs.declared.arithmetic.Exit.{Exit as ExitValue};
 ghost use Rattle.es_value.specs.Arithmetic.{sum};
-ghost use Rattle.es_value.specs.Convert.{IsPrimitive, number_of};
+ghost use Rattle.es_value.specs.Convert.{number_of};
 ghost use Rattle.es_value.specs.Equality.{same_truth};
-ghost use Rattle.es_realm.specs.Access.{exit_number};
 ghost use Rattle.es_operators.specs.Operators.{given, calculate, arithmetic, is_text, addition, truth, is_less, relation_of, negation, complement, is_nothing, equal_numbers, loose, loose_equality};
 
 use es_value::{
@@ -61,21 +60,12 @@ pub enum Equality {
     Leaves(u8),
 }
 
-fn exit_number(exit: Exit) -> u8
-    ensures { result ≡ exit_number exit }
-{
-    match exit {
-        Exit::X1 => 1,
-        Exit::X2 => 2,
-    }
-}
-
 fn given(number: Result<i64, Exit>) -> Outcome
     ensures { result ≡ given number }
 {
     match number {
         Ok(number) => Outcome::Gives(Value::Number(number)),
-        Err(exit) => Outcome::Leaves(exit_number(exit)),
+        Err(exit) => Outcome::Leaves(exit.number()),
     }
 }
 
@@ -99,14 +89,12 @@ fn calculate(operator: Arithmetic, a: i64, b: i64) -> Result<i64, Exit>
 
 /// An arithmetic operator on two primitives (12.6 to 12.8 and 12.11; 7th edition, 12.6).
 pub fn arithmetic_of(operator: Arithmetic, a: &Value, b: &Value) -> Outcome
-    requires left { IsPrimitive a.now }
-    requires right { IsPrimitive b.now }
     ensures { result ≡ arithmetic operator a.now b.now }
 {
     match to_number(a) {
-        Err(exit) => Outcome::Leaves(exit_number(exit)),
+        Err(exit) => Outcome::Leaves(exit.number()),
         Ok(m) => match to_number(b) {
-            Err(exit) => Outcome::Leaves(exit_number(exit)),
+            Err(exit) => Outcome::Leaves(exit.number()),
             Ok(n) => given(calculate(operator, m, n)),
         },
     }
@@ -120,8 +108,6 @@ fn is_text(value: &Value) -> bool
 
 /// `+` of two primitives (12.7.3).
 pub fn add_values(alloc: Global, a: &Value, b: &Value) -> Result<Outcome, AllocError>
-    requires left { IsPrimitive a.now }
-    requires right { IsPrimitive b.now }
     ensures { IfOk result (λ outcome. outcome ≡ addition a.now b.now) }
 {
     if is_text(a) || is_text(b) {
@@ -129,9 +115,9 @@ pub fn add_values(alloc: Global, a: &Value, b: &Value) -> Result<Outcome, AllocE
         return Ok(Outcome::Gives(Value::Text(text)));
     }
     match to_number(a) {
-        Err(exit) => Ok(Outcome::Leaves(exit_number(exit))),
+        Err(exit) => Ok(Outcome::Leaves(exit.number())),
         Ok(m) => match to_number(b) {
-            Err(exit) => Ok(Outcome::Leaves(exit_number(exit))),
+            Err(exit) => Ok(Outcome::Leaves(exit.number())),
             Ok(n) => Ok(given(add(m, n))),
         },
     }
@@ -145,8 +131,6 @@ fn same_truth(a: bool, b: bool) -> bool
 
 /// Whether `a` is less than `b` (7.2.11), or the opposite where `turned` is false.
 fn is_less(a: &Value, b: &Value, turned: bool) -> Outcome
-    requires left { IsPrimitive a.now }
-    requires right { IsPrimitive b.now }
     ensures { result ≡ is_less a.now b.now turned }
 {
     if let (Value::Text(us), Value::Text(vs)) = (a, b) {
@@ -154,9 +138,9 @@ fn is_less(a: &Value, b: &Value, turned: bool) -> Outcome
         return Outcome::Gives(Value::Bool(same_truth(turned, less)));
     }
     match to_number(a) {
-        Err(exit) => Outcome::Leaves(exit_number(exit)),
+        Err(exit) => Outcome::Leaves(exit.number()),
         Ok(m) => match to_number(b) {
-            Err(exit) => Outcome::Leaves(exit_number(exit)),
+            Err(exit) => Outcome::Leaves(exit.number()),
             Ok(n) => Outcome::Gives(Value::Bool(same_truth(turned, m < n))),
         },
     }
@@ -164,8 +148,6 @@ fn is_less(a: &Value, b: &Value, turned: bool) -> Outcome
 
 /// `<`, `>`, `<=` and `>=` of two primitives (12.9.3).
 pub fn relation_of(relation: Relation, a: &Value, b: &Value) -> Outcome
-    requires left { IsPrimitive a.now }
-    requires right { IsPrimitive b.now }
     ensures { result ≡ relation_of relation a.now b.now }
 {
     match relation {
@@ -176,43 +158,47 @@ pub fn relation_of(relation: Relation, a: &Value, b: &Value) -> Outcome
     }
 }
 
-/// `-` of a primitive (12.5.8).
+/// `+` of a primitive (12.5.9), which is what `++` and `--` add to as well (12.4.4, 12.4.5, 12.5.7 and 12.5.8).
+pub fn plus_of(value: &Value) -> Outcome
+    ensures { result ≡ given (number_of value.now) }
+{
+    given(to_number(value))
+}
+
+/// `-` of a primitive (12.5.10).
 pub fn negation_of(value: &Value) -> Outcome
-    requires { IsPrimitive value.now }
     ensures { result ≡ negation (number_of value.now) }
 {
     match to_number(value) {
         Ok(number) => given(sub(0, number)),
-        Err(exit) => Outcome::Leaves(exit_number(exit)),
+        Err(exit) => Outcome::Leaves(exit.number()),
     }
 }
 
 /// `~` of a primitive (12.5.11).
 pub fn complement_of(value: &Value) -> Outcome
-    requires { IsPrimitive value.now }
     ensures { result ≡ complement (number_of value.now) }
 {
     match to_number(value) {
         Ok(number) => Outcome::Gives(Value::Number(not(number))),
-        Err(exit) => Outcome::Leaves(exit_number(exit)),
+        Err(exit) => Outcome::Leaves(exit.number()),
     }
 }
 
-fn is_nothing(value: &Value) -> bool
+/// Whether the value is undefined or null.
+pub fn is_nothing(value: &Value) -> bool
     ensures { result ≡ is_nothing value.now }
 {
     matches!(value, Value::Undefined | Value::Null)
 }
 
 fn equal_numbers(a: &Value, b: &Value) -> Equality
-    requires left { IsPrimitive a.now }
-    requires right { IsPrimitive b.now }
     ensures { result ≡ equal_numbers (number_of a.now) (number_of b.now) }
 {
     match to_number(a) {
-        Err(exit) => Equality::Leaves(exit_number(exit)),
+        Err(exit) => Equality::Leaves(exit.number()),
         Ok(m) => match to_number(b) {
-            Err(exit) => Equality::Leaves(exit_number(exit)),
+            Err(exit) => Equality::Leaves(exit.number()),
             Ok(n) => Equality::Is(m == n),
         },
     }

@@ -1,10 +1,9 @@
 //! Primitive values, and those that pass between a program and its hosts.
 ghost use Rattle.std.specs.Prelude.{◌≡◌, IfOk};
-ghost use Rattle.es_value.specs.Convert.{IsPrimitive};
-ghost use Rattle.es_operators.specs.Primitives.{to_prim, of_prim, is_object, to_key, has_units, truth_of, is_callable, type_name};
+ghost use Rattle.es_operators.specs.Primitives.{to_prim, with_prim, to_prims, of_prim, is_object, to_key, has_units, truth_of, is_callable, type_name};
 
 use es_heap::{Heap, Key};
-use es_outside::{Prim, Units};
+use es_outside::{Prim, Prims, Units};
 use es_realm::is_function;
 use es_value::{Str, Value, to_text};
 use std::alloc::{AllocError, Global};
@@ -22,6 +21,20 @@ pub fn to_prim(alloc: Global, value: &Value) -> Result<Option<Prim>, AllocError>
         Value::Object(_) => return Ok(None),
     };
     Ok(Some(prim))
+}
+
+/// The primitives that the values are, or None where one is an object: what a host is handed.
+pub fn to_prims(alloc: Global, values: &[Value]) -> Result<Option<Prims>, AllocError>
+    ensures { IfOk result (λ prims. prims ≡ to_prims values.now) }
+{
+    let mut list = Vec::new(alloc);
+    for value in values {
+        match to_prim(alloc, value)? {
+            Some(prim) => list.push(prim)?,
+            None => return Ok(None),
+        }
+    }
+    Ok(Some(Prims::of(list)))
 }
 
 /// The value that a primitive is.
@@ -46,7 +59,6 @@ pub fn is_object(value: &Value) -> bool
 
 /// ToPropertyKey of a primitive (7.1.14).
 pub fn to_key(alloc: Global, value: &Value) -> Result<Key, AllocError>
-    requires { IsPrimitive value.now }
     ensures { IfOk result (λ key. key ≡ to_key value.now) }
 {
     Ok(Key::Text(to_text(alloc, value)?))

@@ -1,22 +1,23 @@
 -- Reading, writing and deleting of properties (ECMA-262, 6th edition, 9.1.8 to 9.1.10), up to the function that is to be called,
 -- the namespace that is to be read, or the exit at which the run leaves.
-use Rattle.std.specs.Prelude.{ℕ, ℤ, pos, Bool, true, false, ◌&&◌, ◌||◌, not, nat_eq, if◌then◌else◌, List, [], ◌∷◌, length, slice_get, Option, None, Some, is_some, Result, Ok, Err, codes}
-use Rattle.std.specs.List.{list_any}
+use Rattle.std.specs.Prelude.{ℕ, ℤ, pos, Bool, true, false, ◌&&◌, ◌||◌, not, if◌then◌else◌, List, [], ◌∷◌, length, slice_get, Option, None, Some, is_some, Result, Ok, Err, codes}
 use Rattle.std.specs.Ordering.{int_eq}
 use Rattle.es_value.specs.declared.arithmetic.Exit.{Exit}
-use Rattle.es_value.specs.declared.arithmetic.Exit.TheVariants.{X1, X2}
+use Rattle.es_value.specs.Arithmetic.{exit_number}
+use Rattle.es_value.specs.Bits.{to_uint32}
 use Rattle.es_value.specs.Convert.{number_of}
 use Rattle.es_value.specs.declared.value.ObjId.{ObjId}
 use Rattle.es_value.specs.declared.value.Value.{Value}
 use Rattle.es_value.specs.declared.value.Value.TheVariants as value
 use Rattle.es_heap.specs.declared.key.Key.{Key}
+use Rattle.es_heap.specs.declared.key.Key.TheVariants.{Text, Iterator}
 use Rattle.es_heap.specs.declared.prop.Prop.{Prop}
 use Rattle.es_heap.specs.declared.prop.Prop.TheVariants.{Plain, Accessor}
 use Rattle.es_heap.specs.Classes.{is_array}
-use Rattle.es_heap.specs.Keys.{same_key, array_index}
+use Rattle.es_heap.specs.Keys.{array_index}
 use Rattle.es_heap.specs.Tables.{is_configurable}
-use Rattle.es_heap.specs.Objects.{Object, own, after_delete, writable_in}
-use Rattle.es_heap.specs.Heaps.{Heap, object_at, with_object, set_length}
+use Rattle.es_heap.specs.Objects.{Outcome, own, after_delete, writable_in}
+use Rattle.es_heap.specs.Heaps.{Heap, object_at, with_object, define_own, set_length, is_recorded_below}
 use Rattle.es_access.specs.declared.access.PutAnswer.{PutAnswer}
 use Rattle.es_access.specs.declared.access.PutAnswer.TheVariants as put_answer
 use Rattle.es_access.specs.Access.{put, answer_of}
@@ -92,10 +93,6 @@ write_answer put_answer.OutOfRange = write.OutOfRange
 abbrev pub put_own : Heap → ObjId → Key → Value → Written
 put_own heap id k v = record { after = (put heap id k v (Some id)).after; answer = write_answer (put heap id k v (Some id)).answer }
 
-abbrev pub exit_number : Exit → ℕ
-exit_number X1 = 1
-exit_number X2 = 2
-
 abbrev pub put_length_number : Heap → ObjId → Key → Result ℤ Exit → Written
 put_length_number heap id k (Ok n) = put_own heap id k (value.Number n)
 put_length_number heap id k (Err x) = answers heap (write.Leaves (exit_number x))
@@ -131,12 +128,21 @@ write_looked edition heap id k v (look.Leaves x) = answers heap (write.Leaves x)
 abbrev pub write_object : Edition → Heap → ObjId → Key → Value → Written
 write_object edition heap id k v = write_looked edition heap id k v (look_up edition heap id k)
 
--- a write to an array's length of the number to which both conversions of its value came (9.4.2.4, 3 to 6)
+-- the length that the two conversions of an object give (9.4.2.4, 3 to 7): ToUint32 of the first, if the second is that number
+abbrev pub converted_length : ℤ → ℤ → Option ℤ
+converted_length first second = if int_eq (pos (to_uint32 first)) second then Some second else None
+
+-- what a definition answers
+abbrev pub defined : Outcome Heap → Written
+defined outcome = record { after = outcome.after; answer = write_answer (answer_of outcome.fault) }
+
+-- a write to an array's length goes on with it
+abbrev pub write_converted : Heap → ObjId → Option ℤ → Written
+write_converted heap id None = answers heap write.OutOfRange
+write_converted heap id (Some n) = defined (set_length heap id n)
+
 abbrev pub write_length : Heap → ObjId → ℤ → ℤ → Written
-write_length heap id first second =
-    if int_eq first second
-    then record { after = (set_length heap id first).after; answer = write_answer (answer_of (set_length heap id first).fault) }
-    else answers heap write.OutOfRange
+write_length heap id first second = write_converted heap id (converted_length first second)
 
 -- [[Set]] with a primitive as the receiver: it is refused, unless a setter or an exit is met first
 abbrev pub write_above : Option Prop → Write
@@ -174,21 +180,25 @@ definition_exit edition heap id k =
     else if is_left_out edition id k then Some 7
     else None
 
-abbrev pub is_up : Option ObjId → ObjId → Bool
-is_up None id = false
-is_up (Some up) id = nat_eq up.0 id.0
+-- a definition of a property that has every field, as literals and classes make it (9.1.6): X7 of an object of the library, and a
+-- namespace object refuses (9.4.6.6)
+abbrev pub define_unless : Edition → Heap → ObjId → Key → Prop → Option ℕ → Written
+define_unless edition heap id k p (Some x) = answers heap (write.Leaves x)
+define_unless edition heap id k p None =
+    if is_builtin edition id then answers heap (write.Leaves 7)
+    else if is_namespace (object_at heap id).class then answers heap write.Refused
+    else defined (define_own heap id k p)
 
-abbrev pub records_from : ObjId → Key → Object → Bool
-records_from id k o = is_up o.proto id && list_any (same_key k) o.recorded
+abbrev pub define_key : Edition → Heap → ObjId → Key → Prop → Written
+define_key edition heap id k p = define_unless edition heap id k p (definition_exit edition heap id k)
 
 -- X6: the key is recorded for the class, or for a class whose parent it is
 abbrev pub is_inherited_static : Heap → ObjId → Key → Bool
-is_inherited_static heap id k = is_closure (object_at heap id).class && (is_recorded heap id k || list_any (records_from id k) heap)
+is_inherited_static heap id k = is_closure (object_at heap id).class && (is_recorded heap id k || is_recorded_below heap id k)
 
 abbrev pub deletion_exit : Edition → Heap → ObjId → Key → Option ℕ
 deletion_exit edition heap id k =
-    if is_reserved_key edition k then Some 3
-    else if is_fixed edition heap id k then Some 4
+    if is_fixed edition heap id k then Some 4
     else if is_inherited_static heap id k then Some 6
     else if is_left_out edition id k then Some 7
     else None
@@ -204,6 +214,31 @@ abbrev pub delete_unless : Edition → Heap → ObjId → Key → Option ℕ →
 delete_unless edition heap id k (Some x) = answers heap (write.Leaves x)
 delete_unless edition heap id k None = delete_property edition heap id k (own (object_at heap id) k)
 
--- [[Delete]] of an object that is no namespace object (9.1.10)
+-- X12: the iterator key of a namespace object; its other keys go to its module's bindings (9.4.6.10)
+abbrev pub delete_in_namespace : Key → Write
+delete_in_namespace Iterator = write.Leaves 12
+delete_in_namespace (Text units) = write.Binding
+
+-- [[Delete]] (9.1.10)
 abbrev pub delete_key : Edition → Heap → ObjId → Key → Written
-delete_key edition heap id k = delete_unless edition heap id k (deletion_exit edition heap id k)
+delete_key edition heap id k =
+    if is_reserved_key edition k then answers heap (write.Leaves 3)
+    else if is_namespace (object_at heap id).class then answers heap (delete_in_namespace k)
+    else delete_unless edition heap id k (deletion_exit edition heap id k)
+
+-- a primitive's own properties are those of a text, none of which can go
+abbrev pub delete_own_of : Option Value → Write
+delete_own_of None = write.Done
+delete_own_of (Some v) = write.Refused
+
+abbrev pub unless_reserved : Edition → Key → Write → Write
+unless_reserved edition k answer = if is_reserved_key edition k then write.Leaves 3 else answer
+
+-- `delete` of a property of a value (12.5.4.2); undefined and null have none, which is a TypeError as a refusal is
+abbrev pub delete_value : Edition → Heap → Value → Key → Written
+delete_value edition heap value.Undefined k = answers heap write.Refused
+delete_value edition heap value.Null k = answers heap write.Refused
+delete_value edition heap (value.Bool b) k = answers heap (unless_reserved edition k write.Done)
+delete_value edition heap (value.Number n) k = answers heap (unless_reserved edition k write.Done)
+delete_value edition heap (value.Text us) k = answers heap (unless_reserved edition k (delete_own_of (own_of_text us k)))
+delete_value edition heap (value.Object id) k = delete_key edition heap id k

@@ -5,3 +5,5 @@ pub mod Realms
 pub mod LeftOut
 pub mod Look
 pub mod Access
+pub mod Errors
+pub mod Globals

@@ -1,22 +1,22 @@
 //! Reading, writing and deleting of properties, up to the function that is to be called, the namespace that is to be read, or
 //! the exit at which the run leaves.
 ghost use Rattle.std.specs.Prelude.{◌≡◌, IfOk, OnErr, true};
-ghost use Rattle.std.specs.List.{list_any};
 ghost use Rattle.std.specs.Option.{option_copied};
-ghost use Rattle.es_value.specs.Convert.{IsPrimitive};
 ghost use Rattle.es_heap.specs.Heaps.{object_at};
 ghost use Rattle.es_heap.specs.Objects.{own, writable_in};
 ghost use Rattle.es_heap.specs.Classes.{is_array};
-ghost use Rattle.es_realm.specs.Access.{read_property, read_looked, read_object, unit_at, own_of_text, read_value, Written, write_answer, put_own, exit_number, put_length, put_value, write_library, write_at, write_object, write_length, write_above, write_primitive_looked, write_primitive, is_fixed, definition_exit, records_from, is_inherited_static, deletion_exit, delete_property, delete_key};
+ghost use Rattle.es_realm.specs.Access.{read_property, read_looked, read_object, unit_at, own_of_text, read_value, Written, write_answer, put_own, put_length, put_value, write_library, write_at, write_object, converted_length, write_length, write_above, write_primitive_looked, write_primitive, is_fixed, definition_exit, define_key, is_inherited_static, deletion_exit, delete_property, delete_in_namespace, delete_key, delete_own_of, unless_reserved, delete_value};
 ghost use Rattle.es_realm.specs.Look.{look_up};
 
 use crate::edition::Edition;
 use crate::left_out::{is_builtin, is_left_out};
-use crate::look::{Look, is_closure, is_function, is_hidden, is_named, is_reserved_key, look_up};
+use crate::look::{
+    Look, is_closure, is_function, is_hidden, is_named, is_namespace, is_reserved_key, look_up,
+};
 use crate::names::{BOOLEAN_PROTOTYPE, NUMBER_PROTOTYPE, STRING_PROTOTYPE};
-use es_access::{PutAnswer, put};
+use es_access::{PutAnswer, define, put};
 use es_heap::{Class, Heap, HeapFault, Key, Prop, array_index};
-use es_value::{Exit, ObjId, Str, Value, to_number};
+use es_value::{ObjId, Str, Value, to_number, to_uint32};
 use std::alloc::{AllocError, Global};
 
 /// What a read gives.
@@ -33,7 +33,7 @@ pub enum Read {
     Leaves(u8),
 }
 
-/// What a write or a deletion answers.
+/// What a write, a definition or a deletion answers.
 #[derive(Clone, Copy, Debug, PartialEq, Eq)]
 pub enum Write {
     Done,
@@ -45,6 +45,9 @@ pub enum Write {
     OutOfRange,
     /// The value, an object, becomes an array's length: it is to be converted to a number twice, and then `write_length` goes on.
     Convert,
+    /// The object is a namespace object, whose names are bindings of its module: the answer of a deletion alone, which is refused
+    /// where the module exports the name, and done where it doesn't (9.4.6.10).
+    Binding,
     /// The run leaves the profile at the exit of this number.
     Leaves(u8),
 }
@@ -123,15 +126,6 @@ pub fn read_value(
     }
 }
 
-pub(crate) fn exit_number(exit: Exit) -> u8
-    ensures { result ≡ exit_number exit }
-{
-    match exit {
-        Exit::X1 => 1,
-        Exit::X2 => 2,
-    }
-}
-
 fn write_answer(answer: PutAnswer) -> Write
     ensures { result ≡ write_answer answer }
 {
@@ -144,20 +138,20 @@ fn write_answer(answer: PutAnswer) -> Write
 }
 
 fn put_own(
-    heap: &mut Heap,
     alloc: Global,
+    heap: &mut Heap,
     id: ObjId,
     key: Key,
     value: Value,
 ) -> Result<Write, AllocError>
     ensures { IfOk result (λ answer. (answer ≡ (put_own heap.old id key value).answer) × (heap.new ≡ (put_own heap.old id key value).after)) }
 {
-    Ok(write_answer(put(heap, alloc, id, key, value, Some(id))?))
+    Ok(write_answer(put(alloc, heap, id, key, value, Some(id))?))
 }
 
 fn put_length(
-    heap: &mut Heap,
     alloc: Global,
+    heap: &mut Heap,
     id: ObjId,
     key: Key,
     value: Value,
@@ -168,8 +162,8 @@ fn put_length(
         return Ok(Write::Convert);
     }
     match to_number(&value) {
-        Ok(number) => put_own(heap, alloc, id, key, Value::Number(number)),
-        Err(exit) => Ok(Write::Leaves(exit_number(exit))),
+        Ok(number) => put_own(alloc, heap, id, key, Value::Number(number)),
+        Err(exit) => Ok(Write::Leaves(exit.number())),
     }
 }
 
@@ -186,8 +180,8 @@ fn is_array(class: &Class) -> bool
 }
 
 fn put_value(
-    heap: &mut Heap,
     alloc: Global,
+    heap: &mut Heap,
     id: ObjId,
     key: Key,
     value: Value,
@@ -195,10 +189,10 @@ fn put_value(
     ensures { IfOk result (λ answer. (answer ≡ (put_value heap.old id key value).answer) × (heap.new ≡ (put_value heap.old id key value).after)) }
 {
     if !is_array(heap.class(id)) || !is_named(&key, b"length") {
-        return put_own(heap, alloc, id, key, value);
+        return put_own(alloc, heap, id, key, value);
     }
     if is_writable(heap.get_own(id, &key)) {
-        put_length(heap, alloc, id, key, value)
+        put_length(alloc, heap, id, key, value)
     } else {
         Ok(Write::Refused)
     }
@@ -222,9 +216,9 @@ fn write_library(property: Option<&Prop>) -> Write
 
 /// [[Set]] of an object that is the receiver too (9.1.9).
 pub fn write_object(
+    alloc: Global,
     edition: Edition,
     heap: &mut Heap,
-    alloc: Global,
     id: ObjId,
     key: Key,
     value: Value,
@@ -236,22 +230,34 @@ pub fn write_object(
             holder, &key,
         ))),
         Look::Missing if is_builtin(edition, id) => Ok(Write::Leaves(7)),
-        Look::Found(_) | Look::Missing => put_value(heap, alloc, id, key, value),
+        Look::Found(_) | Look::Missing => put_value(alloc, heap, id, key, value),
         Look::Binding => Ok(Write::Refused),
         Look::Leaves(exit) => Ok(Write::Leaves(exit)),
     }
 }
 
-/// Goes on with a write to an array's length, once its value was converted twice (9.4.2.4).
+/// The length that the two conversions of an object give: the second number, if it is ToUint32 of the first. Else it is a
+/// RangeError (9.4.2.4, 3 to 7).
+pub fn converted_length(first: i64, second: i64) -> Option<i64>
+    ensures { result ≡ converted_length first second }
+{
+    if i64::from(to_uint32(first)) == second {
+        Some(second)
+    } else {
+        None
+    }
+}
+
+/// Goes on with a write to an array's length, once its value was converted to a number twice (9.4.2.4). An object that is no array
+/// refuses it.
 pub fn write_length(heap: &mut Heap, id: ObjId, first: i64, second: i64) -> Write
-    requires { is_array (object_at heap.old id).class ≡ true }
     ensures answer { result ≡ (write_length heap.old id first second).answer }
     ensures heap { heap.new ≡ (write_length heap.old id first second).after }
 {
-    if first != second {
+    let Some(length) = converted_length(first, second) else {
         return Write::OutOfRange;
-    }
-    match heap.set_length(id, first) {
+    };
+    match heap.set_length(id, length) {
         Ok(()) => Write::Done,
         Err(HeapFault::BadLength) => Write::OutOfRange,
         Err(
@@ -335,40 +341,40 @@ pub fn definition_exit(edition: Edition, heap: &Heap, id: ObjId, key: &Key) -> O
     }
 }
 
-/// Whether a class whose parent is this object has the key recorded.
-fn is_recorded_below(heap: &Heap, id: ObjId, key: &Key) -> bool
-    ensures { result ≡ list_any (records_from id key.now) heap.now }
+/// [[DefineOwnProperty]] where the descriptor has every field, as literals and classes use it (9.1.6).
+pub fn define_key(
+    alloc: Global,
+    edition: Edition,
+    heap: &mut Heap,
+    id: ObjId,
+    key: Key,
+    property: Prop,
+) -> Result<Write, AllocError>
+    ensures { IfOk result (λ answer. (answer ≡ (define_key edition heap.old id key property).answer) × (heap.new ≡ (define_key edition heap.old id key property).after)) }
 {
-    for place in 0..heap.len() {
-        if records_from(heap, ObjId(place), id, key) {
-            return true;
-        }
+    if let Some(exit) = definition_exit(edition, heap, id, &key) {
+        return Ok(Write::Leaves(exit));
     }
-    false
-}
-
-fn records_from(heap: &Heap, place: ObjId, id: ObjId, key: &Key) -> bool
-    ensures { result ≡ records_from id key.now (object_at heap.now place) }
-{
-    match heap.proto(place) {
-        Some(up) if up.0 == id.0 => heap.is_recorded(place, key),
-        _ => false,
+    if is_builtin(edition, id) {
+        return Ok(Write::Leaves(7));
     }
+    if is_namespace(heap.class(id)) {
+        return Ok(Write::Refused);
+    }
+    Ok(write_answer(define(alloc, heap, id, key, property)?))
 }
 
 fn is_inherited_static(heap: &Heap, id: ObjId, key: &Key) -> bool
     ensures { result ≡ is_inherited_static heap.now id key.now }
 {
-    is_closure(heap.class(id)) && (heap.is_recorded(id, key) || is_recorded_below(heap, id, key))
+    is_closure(heap.class(id)) && (heap.is_recorded(id, key) || heap.is_recorded_below(id, key))
 }
 
-/// The exit at which a deletion on an object leaves.
+/// The exit at which a deletion on an object leaves that is no namespace object, for a key that isn't reserved.
 fn deletion_exit(edition: Edition, heap: &Heap, id: ObjId, key: &Key) -> Option<u8>
     ensures { result ≡ deletion_exit edition heap.now id key.now }
 {
-    if is_reserved_key(edition, key) {
-        Some(3)
-    } else if is_fixed(edition, heap, id, key) {
+    if is_fixed(edition, heap, id, key) {
         Some(4)
     } else if is_inherited_static(heap, id, key) {
         Some(6)
@@ -379,11 +385,26 @@ fn deletion_exit(edition: Edition, heap: &Heap, id: ObjId, key: &Key) -> Option<
     }
 }
 
-/// [[Delete]] of an object that is no namespace object (9.1.10).
+fn delete_in_namespace(key: &Key) -> Write
+    ensures { result ≡ delete_in_namespace key.now }
+{
+    match key {
+        Key::Iterator => Write::Leaves(12),
+        Key::Text(_) => Write::Binding,
+    }
+}
+
+/// [[Delete]] (9.1.10).
 pub fn delete_key(edition: Edition, heap: &mut Heap, id: ObjId, key: &Key) -> Write
     ensures answer { result ≡ (delete_key edition heap.old id key.now).answer }
     ensures heap { heap.new ≡ (delete_key edition heap.old id key.now).after }
 {
+    if is_reserved_key(edition, key) {
+        return Write::Leaves(3);
+    }
+    if is_namespace(heap.class(id)) {
+        return delete_in_namespace(key);
+    }
     match deletion_exit(edition, heap, id, key) {
         Some(exit) => Write::Leaves(exit),
         None => delete_property(edition, heap, id, key),
@@ -405,5 +426,45 @@ fn delete_property(edition: Edition, heap: &mut Heap, id: ObjId, key: &Key) -> W
     match heap.delete_own(id, key) {
         Ok(_) => Write::Done,
         Err(_) => Write::Refused,
+    }
+}
+
+fn delete_own_of(own: &Option<Value>) -> Write
+    ensures { result ≡ delete_own_of own.now }
+{
+    match own {
+        None => Write::Done,
+        Some(_) => Write::Refused,
+    }
+}
+
+fn unless_reserved(edition: Edition, key: &Key, answer: Write) -> Write
+    ensures { result ≡ unless_reserved edition key.now answer }
+{
+    if is_reserved_key(edition, key) {
+        Write::Leaves(3)
+    } else {
+        answer
+    }
+}
+
+/// `delete` of a property of a value (12.5.4.2): a refusal is a TypeError.
+pub fn delete_value(
+    alloc: Global,
+    edition: Edition,
+    heap: &mut Heap,
+    value: &Value,
+    key: &Key,
+) -> Result<Write, AllocError>
+    ensures { IfOk result (λ answer. (answer ≡ (delete_value edition heap.old value.now key.now).answer) × (heap.new ≡ (delete_value edition heap.old value.now key.now).after)) }
+{
+    match value {
+        Value::Undefined | Value::Null => Ok(Write::Refused),
+        Value::Bool(_) | Value::Number(_) => Ok(unless_reserved(edition, key, Write::Done)),
+        Value::Text(text) => {
+            let own = own_of_text(alloc, text.units(), key)?;
+            Ok(unless_reserved(edition, key, delete_own_of(&own)))
+        }
+        Value::Object(id) => Ok(delete_key(edition, heap, *id, key)),
     }
 }

@@ -118,7 +118,5 @@ pub const OBJECT_GET_PROTOTYPE_OF: ObjId = ObjId(41);
 
 pub const OBJECT_PREVENT_EXTENSIONS: ObjId = ObjId(42);
 
-/// How many objects the library has in each realm.
-pub(crate) const LIBRARY6: usize = 52;
-
+/// How many objects the library of the 5.1 edition's realm has.
 pub(crate) const LIBRARY5: usize = 43;

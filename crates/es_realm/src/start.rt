@@ -82,22 +82,11 @@ fn add_functions(
     Ok(())
 }
 
-/// The text of these ASCII characters.
-pub(crate) fn ascii(alloc: Global, characters: &str) -> Result<Str, AllocError>
-    ensures { IfOk result (λ text. text ≡ characters.now) }
-{
-    let mut units = Vec::with_capacity(alloc, characters.len())?;
-    for byte in characters.as_bytes() {
-        units.push(u16::from(*byte))?;
-    }
-    Str::of_vec(alloc, units)
-}
-
 fn key_of(alloc: Global, name: KeyName) -> Result<Key, AllocError>
     ensures { IfOk result (λ key. key ≡ key_of name) }
 {
     match name {
-        KeyName::Word(word) => Ok(Key::Text(ascii(alloc, word)?)),
+        KeyName::Word(word) => Ok(Key::Text(Str::of_bytes(alloc, word.as_bytes())?)),
         KeyName::Iterator => Ok(Key::Iterator),
     }
 }
@@ -107,7 +96,7 @@ fn value_of(alloc: Global, content: Content) -> Result<Value, AllocError>
 {
     match content {
         Content::Object(id) => Ok(Value::Object(id)),
-        Content::Text(text) => Ok(Value::Text(ascii(alloc, text)?)),
+        Content::Text(text) => Ok(Value::Text(Str::of_bytes(alloc, text.as_bytes())?)),
     }
 }
 

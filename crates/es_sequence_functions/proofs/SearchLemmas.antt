@@ -1,6 +1,7 @@
 -- Where a text stands in another, by their bytes and by their units.
-use Rattle.std.proofs.Common.{◌≡◌, ℕ, zero, suc, ◌+◌, ◌*◌, ◌/◌, ◌<◌, ◌≤◌, true, false, nat_eq, List, [], ◌∷◌, ◌++◌, length, get_or, drop, refl, sym, ap, subst, ◌∙◌, arith, pos, negsuc, ◌⊎◌, Some, None, inl, inr, length-drop, get_or-drop}
+use Rattle.std.proofs.Common.{◌≡◌, ℕ, zero, suc, ◌+◌, ◌*◌, ◌/◌, ◌<◌, ◌≤◌, true, false, nat_eq, List, [], ◌∷◌, ◌++◌, length, get_or, take, drop, refl, sym, ap, subst, ◌∙◌, arith, pos, negsuc, ◌⊎◌, Some, None, inl, inr, length-drop, get_or-drop}
 use Rattle.std.specs.List.{starts_with}
+use Rattle.std.proofs.lemmas.List.{get_or-take, length-take}
 use Rattle.std.proofs.lemmas.Bool.{cases_Bool}
 use Rattle.std.proofs.lemmas.Bool.Decides.{Decides-eqb}
 use Rattle.std.proofs.lemmas.List.Prefix.{front_fits, front_reads, at_from_reads}
@@ -159,40 +160,96 @@ first_aligned us [] (suc k) n first h =
 first_aligned us (u ∷ s) k n first h = occurs_aligned us (u ∷ s) k (omega arith) h
 
 -- what the search for the bytes finds, in units
-pub search_from_bytes : (start : ℕ) (us s : List ℕ) (k n : ℕ) → NoneBefore (OccursAt (encoded us) (encoded s)) 0 n k → OccursAt (encoded us) (encoded s) k → search_from start us s ≡ pos (start + k / 3)
-search_from_bytes start us s k n first h =
-    let at = first_aligned us s k n first h in
-    let i = k / 3 in
-    let there : OccursAt us s i = occurs_down us s i (subst (λ (m : ℕ). OccursAt (encoded us) (encoded s) m) at h) in
-    let hf = there.fits in
-    search_from-found start us s i (omega arith) (occurs_starts us s i there) (λ j l.
-    elim (cases_Bool (starts_with nat_eq (drop j us) s)) [
-      | inl found ↦ absurd (first.before (3 * j) (omega arith) (omega arith) (occurs_up us s j (starts_occurs us s j (omega arith) found)))
-      | inr missing ↦ missing
-    ])
-
-pub search_from_no_bytes : (start : ℕ) (us s : List ℕ) → Nowhere (OccursAt (encoded us) (encoded s)) 0 (length (encoded us) + 1) → search_from start us s ≡ negsuc 0
-search_from_no_bytes start us s nowhere =
-    let lu = length-encoded us in
-    search_from-none start us s (λ j l.
-    elim (cases_Bool (starts_with nat_eq (drop j us) s)) [
-      | inl found ↦ absurd (nowhere (3 * j) (omega arith) (omega arith) (occurs_up us s j (starts_occurs us s j l found)))
-      | inr missing ↦ missing
-    ])
-
--- the same of bytes that are those of two texts
-pub search_from-none_of : (start : ℕ) (us s bs cs : List ℕ) → bs ≡ encoded us → cs ≡ encoded s → FindsNeedle bs cs 0 None → search_from start us s ≡ negsuc 0
-search_from-none_of start us s bs cs eb ec h =
-    search_from_no_bytes start us s
-    (subst (λ (b : List ℕ). Nowhere (OccursAt b (encoded s)) 0 (length b + 1)) eb
-    (subst (λ (c : List ℕ). Nowhere (OccursAt bs c) 0 (length bs + 1)) ec h))
-
-pub search_from-found_of : (start : ℕ) (us s bs cs : List ℕ) (k : ℕ) → bs ≡ encoded us → cs ≡ encoded s → FindsNeedle bs cs 0 (Some k) → search_from start us s ≡ pos (start + k / 3)
-search_from-found_of start us s bs cs k eb ec h =
+pub finds_units : (us s bs cs : List ℕ) (k : ℕ) → bs ≡ encoded us → cs ≡ encoded s → FindsNeedle bs cs 0 (Some k) → FindsNeedle us s 0 (Some (k / 3))
+finds_units us s bs cs k eb ec h =
     let P : List ℕ → List ℕ → Type 0 = λ b c. NoneBefore (OccursAt b c) 0 (length b + 1) k × OccursAt b c k in
     let found : P (encoded us) (encoded s) = subst (λ (b : List ℕ). P b (encoded s)) eb (subst (λ (c : List ℕ). P bs c) ec h) in
-    search_from_bytes start us s k (length (encoded us) + 1) found.0 found.1
+    let at = first_aligned us s k (length (encoded us) + 1) found.0 found.1 in
+    let there : OccursAt us s (k / 3) = occurs_down us s (k / 3) (subst (λ (m : ℕ). OccursAt (encoded us) (encoded s) m) at found.1) in
+    let hf = there.fits in (
+      record {
+        low = omega arith;
+        high = omega arith;
+        before = λ j lo l occurs. found.0.before (3 * j) (omega arith) (omega arith) (occurs_up us s j occurs);
+      },
+      there,
+    )
 
--- the unit's place lies in the text
+pub finds_no_units : (us s bs cs : List ℕ) → bs ≡ encoded us → cs ≡ encoded s → FindsNeedle bs cs 0 None → FindsNeedle us s 0 None
+finds_no_units us s bs cs eb ec h =
+    let lu = length-encoded us in
+    let nowhere : Nowhere (OccursAt (encoded us) (encoded s)) 0 (length (encoded us) + 1) =
+    subst (λ (b : List ℕ). Nowhere (OccursAt b (encoded s)) 0 (length b + 1)) eb (subst (λ (c : List ℕ). Nowhere (OccursAt bs c) 0 (length bs + 1)) ec h) in
+    λ j lo l occurs. nowhere (3 * j) (omega arith) (omega arith) (occurs_up us s j occurs)
+
+-- what occurs in a front occurs in the whole
+front_up : (n : ℕ) (us s : List ℕ) (j : ℕ) → OccursAt (take n us) s j → OccursAt us s j
+front_up n us s j h =
+    let hf = h.fits in
+    let short = length-take n us in
+    record {
+      fits = omega (arith, hf, short);
+      reads = λ i l. sym (get_or-take n us (j + i) 0 (omega (arith, hf, short))) ∙ h.reads i l;
+    }
+
+-- and the other way round, where it ends within the front
+front_down : (n : ℕ) (us s : List ℕ) (j : ℕ) → n ≤ length us → j + length s ≤ n → OccursAt us s j → OccursAt (take n us) s j
+front_down n us s j short ends h =
+    let front = length-take n us in
+    record {
+      fits = omega (arith, front);
+      reads = λ i l. get_or-take n us (j + i) 0 (omega arith) ∙ h.reads i l;
+    }
+
+-- what is found in a front is found in the whole
+pub search_from-front : (k n i : ℕ) (us s : List ℕ) → n ≤ length us → FindsNeedle (take n us) s 0 (Some i) → search_from k us s ≡ pos (k + i)
+search_from-front k n i us s short h =
+    let there : OccursAt us s i = front_up n us s i h.1 in
+    let hf = there.fits in
+    let ends = h.1.fits in
+    let front = length-take n us in
+    search_from-found k us s i (omega arith) (occurs_starts us s i there) (λ j l.
+    elim (cases_Bool (starts_with nat_eq (drop j us) s)) [
+      | inl found ↦ absurd (h.0.before j (omega arith) l (front_down n us s j short (omega (arith, ends, front)) (starts_occurs us s j (omega arith) found)))
+      | inr missing ↦ missing
+    ])
+
+pub search_from-whole : (k i : ℕ) (us s : List ℕ) → FindsNeedle us s 0 (Some i) → search_from k us s ≡ pos (k + i)
+search_from-whole k i us s h =
+    let hf = h.1.fits in
+    search_from-found k us s i (omega arith) (occurs_starts us s i h.1) (λ j l.
+    elim (cases_Bool (starts_with nat_eq (drop j us) s)) [
+      | inl found ↦ absurd (h.0.before j (omega arith) l (starts_occurs us s j (omega arith) found))
+      | inr missing ↦ missing
+    ])
+
+pub search_from-nowhere : (k : ℕ) (us s : List ℕ) → FindsNeedle us s 0 None → search_from k us s ≡ negsuc 0
+search_from-nowhere k us s nowhere =
+    search_from-none k us s (λ j l.
+    elim (cases_Bool (starts_with nat_eq (drop j us) s)) [
+      | inl found ↦ absurd (nowhere j (omega arith) (omega arith) (starts_occurs us s j l found))
+      | inr missing ↦ missing
+    ])
+
+search_from-later : (k step : ℕ) (us s : List ℕ) → step ≤ length us → ((j : ℕ) → j < step → starts_with nat_eq (drop j us) s ≡ false) → search_from k us s ≡ search_from (k + step) (drop step us) s
+search_from-later k zero us s short never = let e : k ≡ k + 0 = omega arith in ap (λ m. search_from m us s) e
+search_from-later k (suc step) [] s short never = absurd (omega arith)
+search_from-later k (suc step) (u ∷ us) s short never =
+    let first = never 0 (omega arith) in
+    let more = search_from-later (k + 1) step us s (omega arith) (λ j l. never (suc j) (omega arith)) in
+    let e : k + 1 + step ≡ k + suc step = omega arith in
+    rw first (more ∙ ap (λ m. search_from m (drop step us) s) e)
+
+-- a search goes on where a front had nothing
+pub search_from-on : (k n step : ℕ) (us s : List ℕ) → n ≤ length us → step + length s ≤ n → FindsNeedle (take n us) s 0 None → search_from k us s ≡ search_from (k + step) (drop step us) s
+search_from-on k n step us s short ends nowhere =
+    let front = length-take n us in
+    search_from-later k step us s (omega arith) (λ j l.
+    elim (cases_Bool (starts_with nat_eq (drop j us) s)) [
+      | inl found ↦ absurd (nowhere j (omega arith) (omega (arith, front)) (front_down n us s j short (omega arith) (starts_occurs us s j (omega arith) found)))
+      | inr missing ↦ missing
+    ])
+
+-- a place found by bytes lies in the text
 pub place-within : (us bs : List ℕ) (k : ℕ) → bs ≡ encoded us → k < length bs + 1 → k / 3 ≤ length us
 place-within us bs k e l = let lu = length-encoded us in let le = ap length e in omega arith

@@ -21,13 +21,14 @@ use Rattle.es_realm.specs.Access.{Written, write_object, delete_key}
 use Rattle.es_realm.specs.Look.{look_up}
 use Rattle.es_realm.specs.Names.{array_iterator_prototype}
 use Rattle.es_operators.specs.Primitives.{is_callable}
+use Rattle.es_operators.specs.Operators.{is_nothing}
 use Rattle.es_calls.specs.declared.call.BuiltinCall.{BuiltinCall}
 use Rattle.es_calls.specs.declared.call.Place.{Place}
 use Rattle.es_calls.specs.declared.call.Place.TheVariants as place
 use Rattle.es_calls.specs.declared.call.Want.{Want}
 use Rattle.es_calls.specs.declared.call.Want.TheVariants as want
-use Rattle.es_calls.specs.declared.call.ErrorKind.TheVariants.{TypeError, RangeError}
-use Rattle.es_calls.specs.Calls.{Turn, Effect, still, arg, value_or_undefined, gives, throws, leaves, goes, is_nothing, is_undefined, position, text_in, number_in, plus, index_key, object_in}
+use Rattle.es_realm.specs.declared.errors.ErrorKind.TheVariants.{TypeError, RangeError}
+use Rattle.es_calls.specs.Calls.{Turn, Effect, still, arg, value_or_undefined, gives, throws, leaves, goes, is_undefined, position, text_in, number_in, plus, index_key, object_in}
 use Rattle.es_sequence_functions.specs.Functions.{is_list}
 use Rattle.es_calls.specs.Properties.{class_text}
 
@@ -137,14 +138,14 @@ to_string heap c place.Begin = if is_list heap c.this_value then goes c place.El
 to_string heap c place.Element = to_string_element heap c
 to_string heap c _ = gives c c.input
 
--- what follows a write: the setter is called, or the call goes on at the place, or it ends as strict code does (6.2.3.2)
+-- what follows a write of a value that is no object or of an element: the setter is called, or the call goes on at the place, or it
+-- ends as strict code does (6.2.3.2)
 abbrev pub after_write : BuiltinCall → Value → Place → Write → Turn
 after_write c v p write.Done = goes c p want.Again
 after_write c v p (write.Setter s) = goes c p (want.Call (value.Object s) c.this_value (v ∷ []))
-after_write c v p write.Refused = throws c TypeError
 after_write c v p write.OutOfRange = throws c RangeError
-after_write c v p write.Convert = throws c TypeError
 after_write c v p (write.Leaves x) = leaves c x
+after_write c v p _ = throws c TypeError
 
 abbrev pub written : BuiltinCall → Heap → Turn → Effect
 written c heap turn = record { call = turn.call; heap = heap; want = turn.want }
@@ -190,11 +191,8 @@ pop_length c =
 -- what follows the deletion of the last element
 abbrev pub after_deletion : BuiltinCall → Write → Turn
 after_deletion c write.Done = goes (record c { kept = c.input }) place.Turn want.Again
-after_deletion c (write.Setter s) = throws c TypeError
-after_deletion c write.Refused = throws c TypeError
-after_deletion c write.OutOfRange = throws c TypeError
-after_deletion c write.Convert = throws c TypeError
 after_deletion c (write.Leaves x) = leaves c x
+after_deletion c _ = throws c TypeError
 
 abbrev pub pop_element : Edition → Heap → BuiltinCall → Effect
 pop_element edition heap c =

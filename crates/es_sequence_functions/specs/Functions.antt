@@ -11,13 +11,14 @@ use Rattle.es_heap.specs.Objects.{own}
 use Rattle.es_heap.specs.Heaps.{Heap, object_at}
 use Rattle.es_realm.specs.Look.{is_arguments}
 use Rattle.es_operators.specs.Primitives.{is_callable}
+use Rattle.es_operators.specs.Operators.{is_nothing}
 use Rattle.es_calls.specs.declared.call.BuiltinCall.{BuiltinCall}
 use Rattle.es_calls.specs.declared.call.Place.{Place}
 use Rattle.es_calls.specs.declared.call.Place.TheVariants as place
 use Rattle.es_calls.specs.declared.call.Want.{Want}
 use Rattle.es_calls.specs.declared.call.Want.TheVariants as want
-use Rattle.es_calls.specs.declared.call.ErrorKind.TheVariants.{TypeError}
-use Rattle.es_calls.specs.Calls.{Turn, arg, gives, throws, leaves, goes, is_nothing, number_in, plus, index_key}
+use Rattle.es_realm.specs.declared.errors.ErrorKind.TheVariants.{TypeError}
+use Rattle.es_calls.specs.Calls.{Turn, arg, gives, throws, leaves, goes, number_in, plus, index_key}
 
 -- a `length` that an arguments object may have in these functions
 abbrev pub is_length : Option Prop → Bool

@@ -6,29 +6,22 @@ use Rattle.es_value.specs.declared.value.Value.TheVariants as value
 use Rattle.es_heap.specs.declared.class.Class.{Class}
 use Rattle.es_heap.specs.declared.class.Class.TheVariants as class
 use Rattle.es_heap.specs.declared.key.Key.TheVariants.{Text}
-use Rattle.es_heap.specs.Objects.{Object}
-use Rattle.es_heap.specs.Heaps.{Heap, object_at, with_object, made, next_id}
-use Rattle.es_realm.specs.Names.{object_prototype, array_iterator_prototype, string_iterator_prototype}
+use Rattle.es_heap.specs.Heaps.{Heap, object_at, with_class, next_id}
+use Rattle.es_realm.specs.Names.{array_iterator_prototype, string_iterator_prototype}
+use Rattle.es_operators.specs.Operators.{is_nothing}
 use Rattle.es_calls.specs.declared.call.BuiltinCall.{BuiltinCall}
 use Rattle.es_calls.specs.declared.call.Place.{Place}
 use Rattle.es_calls.specs.declared.call.Place.TheVariants as place
 use Rattle.es_calls.specs.declared.call.Want.TheVariants as want
-use Rattle.es_calls.specs.declared.call.ErrorKind.TheVariants.{TypeError}
-use Rattle.es_calls.specs.Calls.{Turn, Effect, Answered, answered, still, gives, throws, goes, is_nothing, text_in, number_in, object_in, plus, index_key}
+use Rattle.es_realm.specs.declared.errors.ErrorKind.TheVariants.{TypeError}
+use Rattle.es_calls.specs.Calls.{Turn, Effect, Answered, answered, still, gives, throws, goes, text_in, number_in, object_in, plus, index_key}
 use Rattle.es_calls.specs.Properties.{made_object}
+use Rattle.es_calls.specs.Making.{result_heap}
 use Rattle.es_sequence_functions.specs.Strings.{coerced}
-use Rattle.es_calls.specs.Properties.{with_property}
 
--- the result of a step of an iterator (7.4.7)
-abbrev pub result_heap : Heap → Value → Bool → Heap
-result_heap heap v over =
-    with_property (with_property (made heap (Some object_prototype) class.Object) (next_id heap) (codes "value") v) (next_id heap) (codes "done") (value.Bool over)
-
+-- the call ends with the result of a step of an iterator (7.4.7)
 abbrev pub results : Heap → Value → Bool → Answered
 results heap v over = record { heap = result_heap heap v over; want = want.Done (value.Object (next_id heap)) }
-
-abbrev pub with_class : Heap → ObjId → Class → Heap
-with_class heap id class = with_object heap id (record (object_at heap id) { class = class })
 
 -- Array.prototype's iterator key (22.1.3.29), of any receiver but undefined and null
 abbrev pub array_iterator : Heap → BuiltinCall → Effect

@@ -7,13 +7,14 @@ use Rattle.es_value.specs.declared.value.Value.TheVariants as value
 use Rattle.es_realm.specs.declared.edition.Edition.{Edition}
 use Rattle.es_realm.specs.declared.edition.Edition.TheVariants.{Sixth, Fifth}
 use Rattle.es_realm.specs.Names.{string_prototype}
+use Rattle.es_operators.specs.Operators.{is_nothing}
 use Rattle.es_calls.specs.declared.call.BuiltinCall.{BuiltinCall}
 use Rattle.es_calls.specs.declared.call.Place.{Place}
 use Rattle.es_calls.specs.declared.call.Place.TheVariants as place
 use Rattle.es_calls.specs.declared.call.Want.{Want}
 use Rattle.es_calls.specs.declared.call.Want.TheVariants as want
-use Rattle.es_calls.specs.declared.call.ErrorKind.TheVariants.{TypeError}
-use Rattle.es_calls.specs.Calls.{Turn, arg, gives, throws, leaves, goes, is_nothing, is_undefined, position, text_in, number_in}
+use Rattle.es_realm.specs.declared.errors.ErrorKind.TheVariants.{TypeError}
+use Rattle.es_calls.specs.Calls.{Turn, arg, gives, throws, leaves, goes, is_undefined, position, text_in, number_in}
 
 -- the receiver as a text, unless it is undefined or null (7.2.1)
 abbrev pub coerced : BuiltinCall → Turn

@@ -5,11 +5,11 @@ ghost use Rattle.es_sequence_functions.specs.Arrays.{is_array_value, measured, w
 
 use crate::function::is_list;
 use es_calls::{
-    BuiltinCall, ErrorKind, Place, Want, class_text, index_key, is_nothing, is_undefined,
-    number_in, object_in, plus, position, text_in,
+    BuiltinCall, ErrorKind, Place, Want, class_text, index_key, is_undefined, number_in, object_in,
+    plus, position, text_in,
 };
 use es_heap::{Class, Heap};
-use es_operators::{is_callable, key_of_word, text_of_word};
+use es_operators::{is_callable, is_nothing, key_of_word};
 use es_realm::{Edition, Look, Write, delete_key, look_up, write_object};
 use es_value::{Str, Value, same};
 use sqlite_items::Items;
@@ -221,7 +221,7 @@ fn separator(call: &BuiltinCall, alloc: Global) -> Result<Value, AllocError>
 {
     let value = call.arg(0)?;
     if is_undefined(&value) {
-        Ok(Value::Text(text_of_word(alloc, b",")?))
+        Ok(Value::Text(Str::of_bytes(alloc, b",")?))
     } else {
         Ok(value)
     }
@@ -293,7 +293,7 @@ fn to_string_element(call: &mut BuiltinCall, alloc: Global, heap: &Heap) -> Resu
         ));
     }
     let text = class_text(heap.class(object_in(&call.this_value)));
-    Ok(Want::Done(Value::Text(text_of_word(alloc, text)?)))
+    Ok(Want::Done(Value::Text(Str::of_bytes(alloc, text)?)))
 }
 
 /// toString (22.1.3.27).
@@ -334,7 +334,9 @@ fn after_write(
             call.place = place;
             Ok(Want::Call(Value::Object(setter), call.this_value.share()?, args))
         }
-        Write::Refused | Write::Convert => Ok(Want::Throws(ErrorKind::TypeError)),
+        Write::Refused | Write::Convert | Write::Binding => {
+            Ok(Want::Throws(ErrorKind::TypeError))
+        }
         Write::OutOfRange => Ok(Want::Throws(ErrorKind::RangeError)),
         Write::Leaves(exit) => Ok(Want::Leaves(exit)),
     }
@@ -353,7 +355,7 @@ fn write_measure(
 {
     let key = key_of_word(alloc, b"length")?;
     let id = object_in(&call.this_value);
-    let answer = write_object(edition, heap, alloc, id, key, Value::Number(length))?;
+    let answer = write_object(alloc, edition, heap, id, key, Value::Number(length))?;
     after_write(call, alloc, Value::Number(length), Place::End, answer)
 }
 
@@ -371,7 +373,7 @@ fn push_one(
     let key = index_key(alloc, plus(call.length, call.index))?;
     let id = object_in(&call.this_value);
     let pushed = value.share()?;
-    let answer = write_object(edition, heap, alloc, id, key, value)?;
+    let answer = write_object(alloc, edition, heap, id, key, value)?;
     after_write(call, alloc, pushed, Place::Called, answer)
 }
 
@@ -458,9 +460,8 @@ fn after_deletion(call: &mut BuiltinCall, answer: Write) -> Result<Want, AllocEr
             Ok(Want::Again)
         }
         Write::Leaves(exit) => Ok(Want::Leaves(exit)),
-        Write::Setter(_) | Write::Refused | Write::OutOfRange | Write::Convert => Ok(Want::Throws(
-            ErrorKind::TypeError,
-        )),
+        Write::Setter(_) | Write::Refused | Write::OutOfRange | Write::Convert | Write::Binding =>
+            Ok(Want::Throws(ErrorKind::TypeError)),
     }
 }
 

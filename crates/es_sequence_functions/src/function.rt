@@ -6,11 +6,9 @@ ghost use Rattle.es_heap.specs.Heaps.{object_at};
 ghost use Rattle.std.specs.Option.{option_copied};
 ghost use Rattle.es_sequence_functions.specs.Functions.{is_length, is_list, call_at, apply_begin, apply_turn, apply_at};
 
-use es_calls::{
-    BuiltinCall, ErrorKind, Place, Want, index_key, is_nothing, number_in, plus, share_all,
-};
+use es_calls::{BuiltinCall, ErrorKind, Place, Want, index_key, number_in, plus, share_all};
 use es_heap::{Class, Heap, Prop};
-use es_operators::{is_callable, key_of_word};
+use es_operators::{is_callable, is_nothing, key_of_word};
 use es_value::{ObjId, Value};
 use sqlite_items::Items;
 use std::alloc::{AllocError, Global};

@@ -1,28 +1,24 @@
 //! The iterators of arrays and texts (21.1.5, 22.1.5 and 25.1).
-ghost use Rattle.std.specs.Prelude.{◌≡◌, ◌≤◌, false, length, IfOk, OnOk};
-ghost use Rattle.es_heap.specs.Classes.{is_array};
+ghost use Rattle.std.specs.Prelude.{◌≡◌, ◌≤◌, length, IfOk, OnOk};
 ghost use Rattle.es_heap.specs.Heaps.{object_at};
 ghost use Rattle.es_sequence_functions.specs.Iterators.{results, array_iterator, array_begin, array_begin_of, array_moved, array_finished, array_position, array_next, string_iterator, is_lead, is_trail, point_of, string_step, string_next_by, string_next};
 
 use crate::string::coerced;
 use es_calls::{
-    BuiltinCall, ErrorKind, Place, Want, add_property, index_key, is_nothing, number_in, object_in,
-    plus, text_in,
+    BuiltinCall, ErrorKind, Place, Want, index_key, iter_result, number_in, object_in, plus,
+    text_in,
 };
 use es_heap::{Class, Heap};
-use es_operators::key_of_word;
-use es_realm::names::{ARRAY_ITERATOR_PROTOTYPE, OBJECT_PROTOTYPE, STRING_ITERATOR_PROTOTYPE};
+use es_operators::{is_nothing, key_of_word};
+use es_realm::names::{ARRAY_ITERATOR_PROTOTYPE, STRING_ITERATOR_PROTOTYPE};
 use es_value::{ObjId, Str, Value};
 use std::alloc::{AllocError, Global};
 
-/// The result of a step of an iterator (7.4.7).
-fn results(heap: &mut Heap, alloc: Global, value: Value, over: bool) -> Result<Want, AllocError>
+/// The call ends with the result of a step of an iterator (7.4.7).
+fn results(alloc: Global, heap: &mut Heap, value: Value, over: bool) -> Result<Want, AllocError>
     ensures { IfOk result (λ want. (want ≡ (results heap.old value over).want) × (heap.new ≡ (results heap.old value over).heap)) }
 {
-    let id = heap.make(alloc, Some(OBJECT_PROTOTYPE), Class::Object)?;
-    add_property(heap, alloc, id, b"value", value)?;
-    add_property(heap, alloc, id, b"done", Value::Bool(over))?;
-    Ok(Want::Done(Value::Object(id)))
+    Ok(Want::Done(Value::Object(iter_result(alloc, heap, value, over)?)))
 }
 
 /// Array.prototype's iterator key (22.1.3.29).
@@ -54,7 +50,7 @@ fn array_begin(
 {
     let (value, next) = match heap.class(id) {
         Class::ArrayIterator { of: None, .. } => {
-            return results(heap, alloc, Value::Undefined, true);
+            return results(alloc, heap, Value::Undefined, true);
         }
         Class::ArrayIterator {
             of: Some(value),
@@ -117,7 +113,7 @@ fn array_position(
 {
     if call.index >= number_in(&call.input) {
         array_finished(heap, id);
-        return results(heap, alloc, Value::Undefined, true);
+        return results(alloc, heap, Value::Undefined, true);
     }
     array_moved(heap, id, plus(call.index, 1))?;
     call.place = Place::Element;
@@ -144,7 +140,7 @@ pub fn array_next(
         }
         _ => {
             let value = call.input.share()?;
-            results(heap, alloc, value, false)
+            results(alloc, heap, value, false)
         }
     }
 }
@@ -197,18 +193,17 @@ fn point_of(units: &[u16]) -> &[u16]
 
 /// A step of a string iterator over this text, from the unit at `next`.
 fn string_step(
-    heap: &mut Heap,
     alloc: Global,
+    heap: &mut Heap,
     id: ObjId,
     text: Str,
     next: usize,
 ) -> Result<Want, AllocError>
-    requires { is_array (object_at heap.old id).class ≡ false }
     ensures { IfOk result (λ want. (want ≡ (string_step heap.old id text next).want) × (heap.new ≡ (string_step heap.old id text next).heap)) }
 {
     if next >= text.units().len() {
         heap.set_class(id, Class::StringIterator { of: None, next });
-        return results(heap, alloc, Value::Undefined, true);
+        return results(alloc, heap, Value::Undefined, true);
     }
     let point = point_of(&text.units()[next..]);
     let after = next + point.len();
@@ -220,7 +215,7 @@ fn string_step(
             next: after,
         },
     );
-    results(heap, alloc, value, false)
+    results(alloc, heap, value, false)
 }
 
 fn string_next_by(alloc: Global, heap: &mut Heap, id: ObjId) -> Result<Want, AllocError>
@@ -228,7 +223,7 @@ fn string_next_by(alloc: Global, heap: &mut Heap, id: ObjId) -> Result<Want, All
 {
     let (text, next) = match heap.class(id) {
         Class::StringIterator { of: None, .. } => {
-            return results(heap, alloc, Value::Undefined, true);
+            return results(alloc, heap, Value::Undefined, true);
         }
         Class::StringIterator {
             of: Some(text),
@@ -236,7 +231,7 @@ fn string_next_by(alloc: Global, heap: &mut Heap, id: ObjId) -> Result<Want, All
         } => (text.share()?, *next),
         _ => return Ok(Want::Throws(ErrorKind::TypeError)),
     };
-    string_step(heap, alloc, id, text, next)
+    string_step(alloc, heap, id, text, next)
 }
 
 /// next of a string iterator (21.1.5.2.1).

@@ -7,9 +7,8 @@ ghost use Rattle.es_calls.specs.Calls.{arg, position};
 ghost use Rattle.es_sequence_functions.specs.Strings.{coerced, unit_at, unit_list, char_at, char_code_at, clamp, index_of, between, end_of, substring, string_of, prototype_text, text_value};
 
 use crate::search::index_in;
-use es_calls::{
-    BuiltinCall, ErrorKind, Place, Want, is_nothing, is_undefined, number_in, position, text_in,
-};
+use es_calls::{BuiltinCall, ErrorKind, Place, Want, is_undefined, number_in, position, text_in};
+use es_operators::is_nothing;
 use es_realm::Edition;
 use es_realm::names::STRING_PROTOTYPE;
 use es_value::{Str, Value};

@@ -2,7 +2,12 @@
 -- 7th edition, 12.6, give where their exact result is such a number, and the exit X1 elsewhere.
 use Rattle.std.specs.Prelude.{ℕ, zero, suc, ℤ, pos, negsuc, ◌+ℤ◌, ◌-ℤ◌, ◌*ℤ◌, unsigned_abs, int_div, int_rem, Bool, ◌&&◌, not, if◌then◌else◌, nat_le, nat_eq, Result, Ok, Err}
 use Rattle.es_value.specs.declared.arithmetic.Exit.{Exit}
-use Rattle.es_value.specs.declared.arithmetic.Exit.TheVariants.{X1}
+use Rattle.es_value.specs.declared.arithmetic.Exit.TheVariants.{X1, X2}
+
+-- the number of an exit among all those at which a run leaves
+abbrev pub exit_number : Exit → ℕ
+exit_number X1 = 1
+exit_number X2 = 2
 
 -- whether z is safe: at most 2^53 - 1, and no less than its opposite (20.1.2.6 and 20.1.2.8)
 abbrev pub is_safe : ℤ → Bool

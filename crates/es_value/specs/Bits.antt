@@ -1,4 +1,4 @@
--- The operators on 32-bit numbers (ECMA-262, 6th edition, 12.5.8, 12.8 and 12.11).
+-- The operators on 32-bit numbers (ECMA-262, 6th edition, 12.5.11, 12.8 and 12.11).
 use Rattle.std.specs.Prelude.{ℕ, ℤ, pos, ◌*◌, ◌/◌, ◌%◌, ◌-◌, ◌^◌, unsigned_abs, bit_and, bit_or, bit_xor}
 use Rattle.std.specs.Int.{w32, cast_signed, int_rem_euclid, int_shr}
 

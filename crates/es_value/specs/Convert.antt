@@ -11,11 +11,6 @@ use Rattle.es_value.specs.declared.value.Value.{Value}
 use Rattle.es_value.specs.declared.value.Value.TheVariants.{Undefined, Null, Bool as Truth, Number, Text, Object}
 use Rattle.es_value.specs.Arithmetic.{whole}
 
--- the value is no object
-abbrev pub IsPrimitive : Value → Type 0
-IsPrimitive (Object id) = ⊥
-IsPrimitive v = Unit {0}
-
 abbrev pub is_space_separator : GeneralCategory → Bool
 is_space_separator SpaceSeparator = true
 is_space_separator _ = false
@@ -54,7 +49,7 @@ number_of_trimmed [] = Ok (pos 0)
 number_of_trimmed (u ∷ us) =
     if u == 43 then signed_digits pos us else if u == 45 then signed_digits (λ n. neg_ℤ (pos n)) us else signed_digits pos (u ∷ us)
 
--- ToNumber (7.1.3) of a primitive
+-- ToNumber (7.1.3) of a primitive; an object, which its caller converts first, counts as none
 abbrev pub number_of : Value → Result ℤ Exit
 number_of Undefined = Err X1
 number_of Null = Ok (pos 0)
@@ -64,7 +59,7 @@ number_of (Number n) = Ok n
 number_of (Text us) = number_of_trimmed (trim us)
 number_of (Object id) = Err X1
 
--- ToString (7.1.12) of a primitive
+-- ToString (7.1.12) of a primitive; an object, which its caller converts first, counts as the empty text
 abbrev pub text_of : Value → List ℕ
 text_of Undefined = codes "undefined"
 text_of Null = codes "null"

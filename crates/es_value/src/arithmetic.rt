@@ -14,6 +14,21 @@ pub enum Exit {
     X2,
 }
 
+impl Exit {
+    ghost use Rattle.std.specs.Prelude.{◌≡◌};
+    ghost use Rattle.es_value.specs.Arithmetic.{exit_number};
+
+    /// The number of the exit among all those at which a run leaves.
+    pub fn number(self) -> u8
+        ensures { result ≡ exit_number self }
+    {
+        match self {
+            Exit::X1 => 1,
+            Exit::X2 => 2,
+        }
+    }
+}
+
 /// The number, if it is safe.
 pub(crate) fn whole(exact: i64) -> Result<i64, Exit>
     ensures { result ≡ whole exact }

@@ -3,7 +3,7 @@ ghost use Rattle.std.specs.Prelude.{◌≡◌};
 ghost use Rattle.es_value.specs.Bits.{to_uint32, bitwise_and, bitwise_or, bitwise_xor, bitwise_not, left_shift, signed_right_shift, unsigned_right_shift};
 
 /// ToUint32 (7.1.6).
-fn to_uint32(number: i64) -> u32
+pub fn to_uint32(number: i64) -> u32
     ensures { result ≡ to_uint32 number }
 {
     number.rem_euclid(4294967296) as u32
@@ -30,7 +30,7 @@ pub fn xor(a: i64, b: i64) -> i64
     i64::from((to_uint32(a) ^ to_uint32(b)).cast_signed())
 }
 
-/// `~a` (12.5.8).
+/// `~a` (12.5.11).
 pub fn not(a: i64) -> i64
     ensures { result ≡ bitwise_not a }
 {

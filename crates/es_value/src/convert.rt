@@ -3,7 +3,7 @@ ghost use Rattle.std.specs.Prelude.{◌≡◌, ◌&&◌, false, true, IfOk, IsTr
 ghost use Rattle.std.specs.List.{list_all};
 ghost use Rattle.std.specs.Fmt.{signed_decimal};
 ghost use Rattle.std.specs.Prelude.{if◌then◌else◌};
-ghost use Rattle.es_value.specs.Convert.{IsPrimitive, signed_digits, is_white, is_space_separator, skip_white, skip_white_back, trim, is_digit, digits_value, number_of_trimmed, number_of, text_of};
+ghost use Rattle.es_value.specs.Convert.{signed_digits, is_white, is_space_separator, skip_white, skip_white_back, trim, is_digit, digits_value, number_of_trimmed, number_of, text_of};
 ghost use Rattle.unicode.specs.GeneralCategory.{general_category};
 ghost use Rattle.es_value.specs.Arithmetic.{whole};
 
@@ -108,9 +108,9 @@ fn signed_digits(units: &[u16], negative: bool) -> Result<i64, Exit>
 }
 
 /// ToNumber of a primitive (7.1.3): X1 for undefined and for digits beyond the safe numbers, X2 for a text that, cut of white
-/// space and line terminators at both ends, is neither empty nor an optional sign with decimal digits.
+/// space and line terminators at both ends, is neither empty nor an optional sign with decimal digits. An object is to be
+/// converted to a primitive first; one that isn't gives X1.
 pub fn to_number(value: &Value) -> Result<i64, Exit>
-    requires { IsPrimitive value.now }
     ensures { result ≡ number_of value.now }
 {
     match value {
@@ -122,28 +122,16 @@ pub fn to_number(value: &Value) -> Result<i64, Exit>
     }
 }
 
-/// The text of ASCII characters.
-fn ascii(alloc: Global, characters: &str) -> Result<Str, AllocError>
-    ensures { IfOk result (λ text. text ≡ characters.now) }
-{
-    let mut units = Vec::with_capacity(alloc, characters.len())?;
-    for byte in characters.as_bytes() {
-        units.push(u16::from(*byte))?;
-    }
-    Str::of_vec(alloc, units)
-}
-
-/// ToString of a primitive (7.1.12).
+/// ToString of a primitive (7.1.12). An object is to be converted to a primitive first; one that isn't gives the empty text.
 pub fn to_text(alloc: Global, value: &Value) -> Result<Str, AllocError>
-    requires { IsPrimitive value.now }
     ensures { IfOk result (λ text. text ≡ text_of value.now) }
 {
     match value {
-        Value::Undefined => ascii(alloc, "undefined"),
-        Value::Null => ascii(alloc, "null"),
-        Value::Bool(true) => ascii(alloc, "true"),
-        Value::Bool(false) => ascii(alloc, "false"),
-        Value::Number(number) => ascii(alloc, format!(in alloc; "{number}")?.as_str()),
+        Value::Undefined => Str::of_bytes(alloc, b"undefined"),
+        Value::Null => Str::of_bytes(alloc, b"null"),
+        Value::Bool(true) => Str::of_bytes(alloc, b"true"),
+        Value::Bool(false) => Str::of_bytes(alloc, b"false"),
+        Value::Number(number) => Str::of_bytes(alloc, format!(in alloc; "{number}")?.as_bytes()),
         Value::Text(text) => text.share(),
         Value::Object(_) => Str::of(alloc, &[]),
     }

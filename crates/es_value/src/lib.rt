@@ -11,7 +11,7 @@ mod text;
 mod value;
 
 pub use arithmetic::{Exit, add, div, mul, power, rem, sub};
-pub use bits::{and, not, or, shl, shr, ushr, xor};
+pub use bits::{and, not, or, shl, shr, to_uint32, ushr, xor};
 pub use convert::{to_number, to_text};
 pub use text::{Str, compare, concat};
 pub use value::{ObjId, Value, same};

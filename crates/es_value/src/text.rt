@@ -39,6 +39,17 @@ impl Str {
         Ok(Str { shared })
     }
 
+    /// The text of these characters, whose codes are below 256 and stand in a byte each.
+    pub fn of_bytes(alloc: Global, characters: &[u8]) -> Result<Str, AllocError>
+        ensures { IfOk result (λ text. text ≡ characters.now) }
+    {
+        let mut units = Vec::with_capacity(alloc, characters.len())?;
+        for byte in characters {
+            units.push(u16::from(*byte))?;
+        }
+        Str::of_vec(alloc, units)
+    }
+
     /// The text of these units, which aren't copied.
     pub fn of_vec(alloc: Global, units: Vec<u16>) -> Result<Str, AllocError>
         ensures { IfOk result (λ text. text ≡ units.items) }
@@ -94,7 +105,7 @@ pub fn compare(a: &Str, b: &Str) -> Ordering
     a.units().cmp(b.units())
 }
 
-/// `a` followed by `b`.
+/// `a` followed by `b`: what each holds is copied.
 pub fn concat(alloc: Global, a: &Str, b: &Str) -> Result<Str, AllocError>
     ensures { IfOk result (λ text. text ≡ a.now ++ b.now) }
 {

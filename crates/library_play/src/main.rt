@@ -7,12 +7,12 @@
 //!
 //! - `realm 5` or `realm 6` begins a fresh realm;
 //! - `object PROTOTYPE`, `array ITEM ..`, `arguments ITEM ..` and `namespace` make an object;
-//! - `function gives VALUE`, `function throws VALUE`, `function receiver` and `function argument INDEX` make a function,
-//!   each call of which is printed before the answer, and whose prototype is a further word's;
+//! - `function gives VALUE`, `function throws VALUE`, `function turns VALUE VALUE`, `function receiver` and
+//!   `function argument INDEX` make a function, which gives two values by turns, or as the word says, and each call of which is printed before the answer, and whose prototype is a further word's;
 //! - `define OBJECT KEY VALUE WRITABLE CONFIGURABLE` and `accessor OBJECT KEY GETTER SETTER CONFIGURABLE` define a property;
 //! - `seal OBJECT` prevents extensions, and `record OBJECT KEY` records a key of a static member that is inherited;
-//! - `read VALUE KEY`, `write VALUE KEY VALUE` and `delete OBJECT KEY` do that to a property;
-//! - `binary OPERATOR VALUE VALUE` and `unary OPERATOR VALUE` apply an operator, the sign being `-`;
+//! - `read VALUE KEY`, `write VALUE KEY VALUE` and `delete VALUE KEY` do that to a property;
+//! - `binary OPERATOR VALUE VALUE` and `unary OPERATOR VALUE` apply an operator;
 //! - `new VALUE` and `extends VALUE` ask whether that is a constructor and a heritage;
 //! - `call NUMBER THIS ARGUMENT ..` calls the function of this number in the table of the library.
 //!

@@ -1,16 +1,14 @@
 //! The operators on primitives, and what `new`, a heritage, `instanceof`, a write and a deletion do.
-ghost use Rattle.es_value.specs.Convert.{IsPrimitive};
-
 use crate::outcome::Outcome;
 use es_builtins::ErrorKind;
 use es_heap::{Heap, Key};
 use es_operators::{
     Arithmetic, Constructor, Equality, Instance, Outcome as Operated, Relation, add_values,
     arithmetic_of, complement_of, constructor_of, heritage_of, instance_of, instance_walk,
-    key_of_word, loose_equality, negation_of, relation_of, text_of_word, truth_of, type_name,
+    is_object, key_of_word, loose_equality, negation_of, plus_of, relation_of, truth_of, type_name,
 };
-use es_realm::{Edition, Read, Write, delete_key, read_object, write_object, write_primitive};
-use es_value::{ObjId, Value};
+use es_realm::{Edition, Read, Write, delete_value, read_object, write_object, write_primitive};
+use es_value::{Str, Value};
 use std::alloc::{AllocError, Global};
 
 fn arithmetic_named(name: &str) -> Option<Arithmetic> {
@@ -57,24 +55,9 @@ pub fn binary(
     if name == "==" {
         return Ok(equal(left, right));
     }
-    match left {
-        Value::Object(_) => Ok(Outcome::Stuck),
-        _ => match right {
-            Value::Object(_) => Ok(Outcome::Stuck),
-            _ => binary_of_primitives(alloc, name, left, right),
-        },
+    if is_object(left) || is_object(right) {
+        return Ok(Outcome::Stuck);
     }
-}
-
-fn binary_of_primitives(
-    alloc: Global,
-    name: &str,
-    left: &Value,
-    right: &Value,
-) -> Result<Outcome, AllocError>
-    requires left { IsPrimitive left.now }
-    requires right { IsPrimitive right.now }
-{
     if name == "+" {
         return Ok(given(add_values(alloc, left, right)?));
     }
@@ -95,27 +78,26 @@ fn equal(left: &Value, right: &Value) -> Outcome {
     }
 }
 
-/// `!`, `typeof`, and on primitives `~` and the sign.
+/// `!`, `typeof`, and on primitives `~` and the signs.
 pub fn unary(alloc: Global, heap: &Heap, name: &str, value: &Value) -> Result<Outcome, AllocError> {
     match name {
         "!" => Ok(Outcome::Value(Value::Bool(!truth_of(value)))),
         "typeof" => {
-            let text = text_of_word(alloc, type_name(heap, value))?;
+            let text = Str::of_bytes(alloc, type_name(heap, value))?;
             Ok(Outcome::Value(Value::Text(text)))
         }
-        _ => match value {
-            Value::Object(_) => Ok(Outcome::Stuck),
-            _ if name == "~" => Ok(given(complement_of(value))),
-            _ => Ok(given(negation_of(value))),
-        },
+        _ if is_object(value) => Ok(Outcome::Stuck),
+        "~" => Ok(given(complement_of(value))),
+        "+" => Ok(given(plus_of(value))),
+        _ => Ok(given(negation_of(value))),
     }
 }
 
-/// What a write or a deletion answers, whose setter isn't called.
+/// What a write or a deletion answers, whose setter isn't called. Each binding of a namespace object is there, so it can't go.
 pub fn written(answer: Write) -> Outcome {
     match answer {
         Write::Done => Outcome::Value(Value::Undefined),
-        Write::Refused => Outcome::Throws(ErrorKind::TypeError),
+        Write::Refused | Write::Binding => Outcome::Throws(ErrorKind::TypeError),
         Write::OutOfRange => Outcome::Throws(ErrorKind::RangeError),
         Write::Leaves(exit) => Outcome::Leaves(exit),
         Write::Setter(_) | Write::Convert => Outcome::Stuck,
@@ -132,20 +114,26 @@ pub fn write(
     value: Value,
 ) -> Result<Write, AllocError> {
     match base {
-        Value::Object(id) => write_object(edition, heap, alloc, *id, key, value),
+        Value::Object(id) => write_object(alloc, edition, heap, *id, key, value),
         _ => write_primitive(alloc, edition, heap, base, &key),
     }
 }
 
-pub fn delete(edition: Edition, heap: &mut Heap, id: ObjId, key: &Key) -> Outcome {
-    written(delete_key(edition, heap, id, key))
+pub fn delete(
+    alloc: Global,
+    edition: Edition,
+    heap: &mut Heap,
+    base: &Value,
+    key: &Key,
+) -> Result<Outcome, AllocError> {
+    Ok(written(delete_value(alloc, edition, heap, base, key)?))
 }
 
 fn constructor(alloc: Global, answer: Constructor) -> Result<Outcome, AllocError> {
     match answer {
         Constructor::Fails => Ok(Outcome::Throws(ErrorKind::TypeError)),
         Constructor::Leaves(exit) => Ok(Outcome::Leaves(exit)),
-        Constructor::Runs(_) => Ok(Outcome::Value(Value::Text(text_of_word(alloc, b"runs")?))),
+        Constructor::Runs(_) => Ok(Outcome::Value(Value::Text(Str::of_bytes(alloc, b"runs")?))),
         Constructor::MakesError(number) => Ok(Outcome::Value(Value::Number(i64::from(number)))),
     }
 }

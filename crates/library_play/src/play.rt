@@ -6,15 +6,19 @@ use crate::show::{kind_name, shown};
 use crate::words::{index_of, key_of, value_of};
 use es_builtins::{BuiltinCall, BuiltinStep, ErrorKind, step_builtin};
 use es_heap::{Class, Heap, HeapFault, Key, Prop};
+use es_operators::{Conversion, Hint, Need, is_object};
 use es_realm::names::{ARRAY_PROTOTYPE, FUNCTION_PROTOTYPE, OBJECT_PROTOTYPE};
-use es_realm::{Edition, Read, Write, read_value};
-use es_value::{ObjId, Str, Value};
+use es_realm::{Edition, Read, Write, read_value, write_length};
+use es_value::{ObjId, Str, Value, to_number};
 use sqlite_items::Items;
 use std::alloc::{AllocError, Global};
 use std::str::SplitWhitespace;
 
 /// How many steps a line may take.
 const STEPS: u32 = 20_000_000;
+
+/// How many functions a conversion may call: two methods, and a getter for each.
+const TRIES: u32 = 5;
 
 /// What a function of the list does.
 #[derive(Drop)]
@@ -23,6 +27,8 @@ enum Behavior {
     Throws(Value),
     Receiver,
     Argument(usize),
+    /// It gives these two values by turns.
+    Turns { first: Value, second: Value },
 }
 
 /// What is called.
@@ -42,6 +48,8 @@ pub struct Play {
     library: usize,
     slots: Vec<Value>,
     functions: Vec<Behavior>,
+    /// Whether each of them was called an odd number of times.
+    odd: Vec<bool>,
     /// What is printed before the answer.
     calls: String,
 }
@@ -60,6 +68,7 @@ impl Play {
             library,
             slots: Vec::new(alloc),
             functions: Vec::new(alloc),
+            odd: Vec::new(alloc),
             calls: String::new(alloc),
         })
     }
@@ -220,10 +229,15 @@ impl Play {
             Some("gives") => Behavior::Gives(self.next_value(alloc, words)?),
             Some("throws") => Behavior::Throws(self.next_value(alloc, words)?),
             Some("receiver") => Behavior::Receiver,
+            Some("turns") => Behavior::Turns {
+                first: self.next_value(alloc, words)?,
+                second: self.next_value(alloc, words)?,
+            },
             _ => Behavior::Argument(index_of(words.next().unwrap_or(""))),
         };
         let class = Class::Function(self.functions.len());
         self.functions.push(behavior)?;
+        self.odd.push(false)?;
         let parent = self
             .next_object(alloc, words)?
             .unwrap_or(FUNCTION_PROTOTYPE);
@@ -308,6 +322,7 @@ impl Play {
         let edition = self.realm.edition();
         match write(alloc, edition, &mut self.heap, &base, key, value.share()?)? {
             Write::Setter(setter) => self.set(alloc, setter, base, value),
+            Write::Convert => self.write_length(alloc, &base, &value),
             answer => Ok(written(answer)),
         }
     }
@@ -328,7 +343,63 @@ impl Play {
         }
     }
 
-    /// A call of a getter or setter.
+    /// A write to an array's length of an object, which is converted to a number twice.
+    fn write_length(
+        &mut self,
+        alloc: Global,
+        base: &Value,
+        value: &Value,
+    ) -> Result<Outcome, AllocError> {
+        let (Value::Object(list), Value::Object(object)) = (base, value) else {
+            return Ok(Outcome::Stuck);
+        };
+        let first = match self.number_of(alloc, *object)? {
+            Ok(number) => number,
+            Err(outcome) => return Ok(outcome),
+        };
+        let second = match self.number_of(alloc, *object)? {
+            Ok(number) => number,
+            Err(outcome) => return Ok(outcome),
+        };
+        Ok(written(write_length(&mut self.heap, *list, first, second)))
+    }
+
+    /// ToNumber of an object, or how its conversion ends else.
+    fn number_of(
+        &mut self,
+        alloc: Global,
+        object: ObjId,
+    ) -> Result<Result<i64, Outcome>, AllocError> {
+        let mut conversion = Conversion::begin(object, Hint::Number);
+        let mut need = conversion.next_method(alloc, self.realm.edition(), &self.heap)?;
+        for _ in 0..TRIES {
+            let (function, is_getter) = match need {
+                Need::Call(Value::Object(method)) => (method, false),
+                Need::Getter(getter) => (getter, true),
+                Need::Leaves(exit) => return Ok(Err(Outcome::Leaves(exit))),
+                Need::Fails | Need::Skip => {
+                    return Ok(Err(Outcome::Throws(ErrorKind::TypeError)));
+                }
+                Need::Call(_) | Need::Binding(_) => return Ok(Err(Outcome::Stuck)),
+            };
+            let receiver = Value::Object(object);
+            let given = match self.call_function(alloc, function, receiver, Items::new(alloc))? {
+                Outcome::Value(value) => value,
+                outcome => return Ok(Err(outcome)),
+            };
+            let edition = self.realm.edition();
+            if is_getter {
+                need = conversion.method_given(alloc, edition, &self.heap, given)?;
+            } else if is_object(&given) {
+                need = conversion.next_method(alloc, edition, &self.heap)?;
+            } else {
+                return Ok(to_number(&given).map_err(|exit| Outcome::Leaves(exit.number())));
+            }
+        }
+        Ok(Err(Outcome::Stuck))
+    }
+
+    /// A call of a getter, a setter or a conversion's method.
     fn call_function(
         &mut self,
         alloc: Global,
@@ -348,11 +419,9 @@ impl Play {
         alloc: Global,
         words: &mut SplitWhitespace,
     ) -> Result<Outcome, AllocError> {
-        let Some(id) = self.next_object(alloc, words)? else {
-            return Ok(Outcome::Stuck);
-        };
+        let base = self.next_value(alloc, words)?;
         let key = key_of(alloc, words.next().unwrap_or(""))?;
-        Ok(delete(self.realm.edition(), &mut self.heap, id, &key))
+        delete(alloc, self.realm.edition(), &mut self.heap, &base, &key)
     }
 
     /// Records a key of a static member that a class inherits.
@@ -372,7 +441,7 @@ impl Play {
     fn call(&mut self, alloc: Global, words: &mut SplitWhitespace) -> Result<Outcome, AllocError> {
         let number = words.next().unwrap_or("").parse::<u16>().unwrap_or(42);
         let this_value = self.next_value(alloc, words)?;
-        let mut args = Vec::new(alloc);
+        let mut args = Items::new(alloc);
         for word in words {
             args.push(value_of(alloc, &self.slots, word)?)?;
         }
@@ -414,6 +483,7 @@ impl Play {
             }
             BuiltinStep::Throws(kind) => Ok(Some(Outcome::Throws(kind))),
             BuiltinStep::Leaves(exit) => Ok(Some(Outcome::Leaves(exit))),
+            BuiltinStep::Resume(_) | BuiltinStep::Unknown => Ok(Some(Outcome::Stuck)),
             BuiltinStep::OutOfMemory => Err(AllocError),
         }
     }
@@ -429,19 +499,30 @@ impl Play {
     ) -> Result<Option<Outcome>, AllocError> {
         match callee_of(&self.heap, callee) {
             Callee::Library(number) => {
-                stack.push(BuiltinCall::begin(
-                    alloc,
-                    number,
-                    this_value,
-                    shared(alloc, args.as_slice())?,
-                ))?;
+                stack.push(BuiltinCall::begin(alloc, number, this_value, args))?;
                 Ok(None)
             }
             Callee::Listed(place) => {
                 self.note(alloc, callee, &this_value, args.as_slice())?;
-                self.behave(stack, place, this_value, args.as_slice())
+                let outcome = self.behave(stack, place, this_value, args.as_slice())?;
+                self.count(place);
+                Ok(outcome)
             }
             Callee::Nothing => Ok(Some(Outcome::Stuck)),
+        }
+    }
+
+    /// Notes that a function of the list was called once more.
+    fn count(&mut self, place: usize) {
+        if place < self.odd.len() {
+            self.odd[place] = !self.odd[place];
+        }
+    }
+
+    fn is_odd(&self, place: usize) -> bool {
+        match self.odd.get(place) {
+            Some(odd) => *odd,
+            None => false,
         }
     }
 
@@ -462,6 +543,13 @@ impl Play {
                 Some(argument) => argument.share()?,
                 None => Value::Undefined,
             },
+            Some(Behavior::Turns { first, second }) => {
+                if self.is_odd(place) {
+                    second.share()?
+                } else {
+                    first.share()?
+                }
+            }
             None => Value::Undefined,
         };
         Ok(deliver(stack, value))
@@ -499,14 +587,6 @@ fn callee_of(heap: &Heap, callee: &Value) -> Callee {
         },
         _ => Callee::Nothing,
     }
-}
-
-fn shared(alloc: Global, values: &[Value]) -> Result<Vec<Value>, AllocError> {
-    let mut list = Vec::new(alloc);
-    for value in values {
-        list.push(value.share()?)?;
-    }
-    Ok(list)
 }
 
 /// Hands a value to the call that waits for it, or ends the line with it.

@@ -71,13 +71,6 @@ impl Play {
         self.heap.define_own(alloc, id, key, property)
     }
 
-    fn set_length(&mut self, id: ObjId, length: i64) -> Result<(), HeapFault> {
-        match self.heap.class(id) {
-            Class::Array => self.heap.set_length(id, length),
-            _ => Ok(()),
-        }
-    }
-
     /// What the operation of a line answers.
     fn answer(&mut self, alloc: Global, line: &str) -> Result<String, AllocError> {
         let mut words = line.split_whitespace();
@@ -87,7 +80,7 @@ impl Play {
         match operation {
             "d" => shown(alloc, self.define(alloc, id, &mut words)),
             "g" => shown(alloc, self.define_getter(alloc, id, &mut words)),
-            "l" => shown(alloc, self.set_length(id, number_of(&mut words))),
+            "l" => shown(alloc, self.heap.set_length(id, number_of(&mut words))),
             "x" => match self.heap.delete_own(id, &key_of(alloc, &mut words)?) {
                 Ok(was_there) => format!(in alloc; "{was_there}"),
                 Err(fault) => shown(alloc, Err(fault)),

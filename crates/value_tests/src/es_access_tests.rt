@@ -1,5 +1,5 @@
-//! Reads and writes, with the answers that the standard gives.
-use es_access::{Got, PutAnswer, get, has, is_above, put};
+//! Writes, with the answers that the standard gives.
+use es_access::{PutAnswer, is_above, put};
 use es_heap::{Class, Heap, HeapFault, Key, Prop};
 use es_value::{ObjId, Str, Value};
 use std::alloc::{AllocError, Global};
@@ -10,17 +10,19 @@ fn key_of(alloc: Global, unit: u16) -> Result<Key, AllocError> {
     Ok(Key::Text(Str::of(alloc, &[unit])?))
 }
 
-/// What a read gives: a number, a getter's name, or neither.
-fn read(
-    alloc: Global,
-    heap: &Heap,
-    id: ObjId,
-    unit: u16,
-) -> Result<(Option<i64>, Option<ObjId>), AllocError> {
-    match get(heap, id, &key_of(alloc, unit)?)? {
-        Got::Have(Value::Number(number)) => Ok((Some(number), None)),
-        Got::Getter(getter) => Ok((None, Some(getter))),
-        _ => Ok((None, None)),
+/// The number that is found on the object's chain, if it is a plain property's.
+fn read(alloc: Global, heap: &Heap, id: ObjId, unit: u16) -> Result<Option<i64>, AllocError> {
+    match heap.find(id, &key_of(alloc, unit)?) {
+        Some(
+            (
+                _,
+                Prop::Plain {
+                    value: Value::Number(number),
+                    ..
+                },
+            ),
+        ) => Ok(Some(*number)),
+        _ => Ok(None),
     }
 }
 
@@ -32,8 +34,8 @@ fn write(
     receiver: Option<ObjId>,
 ) -> Result<PutAnswer, AllocError> {
     put(
-        heap,
         alloc,
+        heap,
         id,
         key_of(alloc, unit)?,
         Value::Number(5),
@@ -76,13 +78,11 @@ fn child_of(alloc: Global, heap: &mut Heap, parent: ObjId) -> Result<ObjId, Allo
 }
 
 #[test]
-fn reads_and_writes(rt: HostRuntime) -> Result<(), Fail> {
+fn writes(rt: HostRuntime) -> Result<(), Fail> {
     let alloc = rt.alloc();
     let mut heap = Heap::new(alloc);
     let parent = parent_of(alloc, &mut heap)?;
     let child = child_of(alloc, &mut heap, parent)?;
-    assert_eq!(rt; read(alloc, &heap, child, 103)?, (None, Some(parent)));
-    assert_eq!(rt; read(alloc, &heap, child, 115)?, (None, None));
     assert_eq!(rt;
         write(alloc, &mut heap, child, 103, Some(child))?,
         PutAnswer::Refused
@@ -103,10 +103,8 @@ fn reads_and_writes(rt: HostRuntime) -> Result<(), Fail> {
         write(alloc, &mut heap, child, 119, Some(child))?,
         PutAnswer::Done
     );
-    assert_eq!(rt; read(alloc, &heap, child, 119)?, (Some(5), None));
-    assert_eq!(rt; read(alloc, &heap, parent, 119)?, (Some(2), None));
-    assert!(rt; has(&heap, child, &key_of(alloc, 117)?));
-    assert!(rt; !has(&heap, child, &Key::Iterator));
+    assert_eq!(rt; read(alloc, &heap, child, 119)?, Some(5));
+    assert_eq!(rt; read(alloc, &heap, parent, 119)?, Some(2));
     assert!(rt; is_above(&heap, child, parent));
     assert!(rt; !is_above(&heap, child, child));
     Ok(())

@@ -61,24 +61,6 @@ fn make(
     heap.make(alloc, proto, class)
 }
 
-fn set_length(heap: &mut Heap, array: ObjId, length: i64) -> Option<Result<(), HeapFault>> {
-    match heap.class(array) {
-        Class::Array => Some(heap.set_length(array, length)),
-        _ => None,
-    }
-}
-
-/// Turns a function into another one.
-fn set_function(heap: &mut Heap, id: ObjId, number: usize) -> bool {
-    match heap.class(id) {
-        Class::Function(_) => {
-            heap.set_class(id, Class::Function(number));
-            true
-        }
-        _ => false,
-    }
-}
-
 fn function_number(heap: &Heap, id: ObjId) -> Option<usize> {
     match heap.class(id) {
         Class::Function(number) => Some(*number),
@@ -118,19 +100,16 @@ fn lengths(rt: HostRuntime) -> Result<(), Fail> {
     let mut heap = Heap::new(alloc);
     let array = array_of_three(alloc, &mut heap)?;
     assert_eq!(rt; own(alloc, &heap, array, "length")?, Some(3));
-    assert_eq!(rt; set_length(&mut heap, array, 1), Some(Ok(())));
+    assert_eq!(rt; heap.set_length(array, 1), Ok(()));
     assert_eq!(rt; own(alloc, &heap, array, "0")?, Some(10));
     assert_eq!(rt; own(alloc, &heap, array, "1")?, None);
     assert_eq!(rt;
-        set_length(&mut heap, array, 4294967296),
-        Some(Err(HeapFault::BadLength))
+        heap.set_length(array, 4294967296),
+        Err(HeapFault::BadLength)
     );
-    assert_eq!(rt;
-        set_length(&mut heap, array, -1),
-        Some(Err(HeapFault::BadLength))
-    );
-    assert_eq!(rt; set_length(&mut heap, array, 4294967295), Some(Ok(())));
-    assert_eq!(rt; set_length(&mut heap, array, 0), Some(Ok(())));
+    assert_eq!(rt; heap.set_length(array, -1), Err(HeapFault::BadLength));
+    assert_eq!(rt; heap.set_length(array, 4294967295), Ok(()));
+    assert_eq!(rt; heap.set_length(array, 0), Ok(()));
     assert_eq!(rt; own(alloc, &heap, array, "0")?, None);
     Ok(())
 }
@@ -148,11 +127,8 @@ fn cut_stops_at_an_element(rt: HostRuntime) -> Result<(), Fail> {
     // The length became unwritable all the same.
     let added = define(alloc, &mut heap, array, "2", plain(1, true, true));
     assert_eq!(rt; added, Err(HeapFault::NotWritable));
-    assert_eq!(rt; set_length(&mut heap, array, 2), Some(Ok(())));
-    assert_eq!(rt;
-        set_length(&mut heap, array, 1),
-        Some(Err(HeapFault::NotWritable))
-    );
+    assert_eq!(rt; heap.set_length(array, 2), Ok(()));
+    assert_eq!(rt; heap.set_length(array, 1), Err(HeapFault::NotWritable));
     assert_eq!(rt;
         delete(alloc, &mut heap, array, "length"),
         Err(HeapFault::NotConfigurable)
@@ -243,7 +219,7 @@ fn chains(rt: HostRuntime) -> Result<(), Fail> {
     );
     let changed = define_iterator(alloc, &mut heap, parent, plain(1, true, false));
     assert_eq!(rt; changed, Err(HeapFault::NotConfigurable));
-    assert!(rt; set_function(&mut heap, child, 8));
+    heap.set_class(child, Class::Function(8));
     assert_eq!(rt; function_number(&heap, child), Some(8));
     assert_eq!(rt; heap.proto(child), Some(parent));
     Ok(())

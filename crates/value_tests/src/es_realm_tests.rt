@@ -2,7 +2,8 @@
 use es_heap::{Class, Heap, HeapFault, Key, Prop};
 use es_outside::HostNames;
 use es_realm::{
-    Edition, Read, Realm5, Realm6, Write, delete_key, read_object, read_value, write_object,
+    Edition, ErrorKind, Global as GlobalName, Read, Realm5, Realm6, Write, define_key, delete_key,
+    delete_value, global_of, make_error, read_object, read_value, write_length, write_object,
 };
 use es_value::{ObjId, Str, Value, same};
 use std::alloc::{AllocError, Global};
@@ -92,9 +93,9 @@ fn library_stays(rt: HostRuntime) -> Result<(), Fail> {
     let (mut heap, realm) = Realm5::start(alloc, &two_hosts(alloc)?)?;
     assert_eq!(rt; realm.hosts.len(), 2);
     let written = write_object(
+        alloc,
         Edition::Fifth,
         &mut heap,
-        alloc,
         realm.array_prototype,
         key_of(alloc, "k")?,
         Value::Number(1),
@@ -103,12 +104,70 @@ fn library_stays(rt: HostRuntime) -> Result<(), Fail> {
     let list = heap.make(alloc, Some(realm.array_prototype), Class::Array)?;
     let text = Value::Text(text_of(alloc, "2")?);
     let length = key_of(alloc, "length")?;
-    let written = write_object(Edition::Fifth, &mut heap, alloc, list, length, text)?;
+    let written = write_object(alloc, Edition::Fifth, &mut heap, list, length, text)?;
     assert_eq!(rt; written, Write::Done);
     let read = read_object(Edition::Fifth, &heap, list, &key_of(alloc, "length")?)?;
     assert!(rt; has_value(&read, &Value::Number(2)));
     let of_text = Value::Text(text_of(alloc, "abc")?);
     let unit = read_value(alloc, Edition::Fifth, &heap, &of_text, &key_of(alloc, "1")?)?;
     assert!(rt; has_value(&unit, &Value::Text(text_of(alloc, "b")?)));
+    Ok(())
+}
+
+#[test]
+fn deletions(rt: HostRuntime) -> Result<(), Fail> {
+    let alloc = rt.alloc();
+    let edition = Edition::Sixth;
+    let (mut heap, _) = Realm6::start(alloc)?;
+    let namespace = heap.make(alloc, None, Class::Namespace(0))?;
+    let word = key_of(alloc, "k")?;
+    assert_eq!(rt;
+        delete_key(edition, &mut heap, namespace, &word),
+        Write::Binding
+    );
+    let iterator = delete_key(edition, &mut heap, namespace, &Key::Iterator);
+    assert_eq!(rt; iterator, Write::Leaves(12));
+    let text = Value::Text(text_of(alloc, "abc")?);
+    let unit = delete_value(alloc, edition, &mut heap, &text, &key_of(alloc, "1")?)?;
+    assert_eq!(rt; unit, Write::Refused);
+    let past = delete_value(alloc, edition, &mut heap, &text, &key_of(alloc, "5")?)?;
+    assert_eq!(rt; past, Write::Done);
+    let nothing = delete_value(alloc, edition, &mut heap, &Value::Null, &word)?;
+    assert_eq!(rt; nothing, Write::Refused);
+    Ok(())
+}
+
+#[test]
+fn definitions(rt: HostRuntime) -> Result<(), Fail> {
+    let alloc = rt.alloc();
+    let edition = Edition::Sixth;
+    let (mut heap, realm) = Realm6::start(alloc)?;
+    let error = make_error(alloc, &mut heap, ErrorKind::RangeError)?;
+    assert_eq!(rt; heap.proto(error), Some(realm.range_error_prototype));
+    let one = plain(Value::Number(1));
+    let answer = define_key(alloc, edition, &mut heap, error, key_of(alloc, "k")?, one)?;
+    assert_eq!(rt; answer, Write::Done);
+    let one = plain(Value::Number(1));
+    let marked = key_of(alloc, "@@k")?;
+    assert_eq!(rt;
+        define_key(alloc, edition, &mut heap, error, marked, one)?,
+        Write::Leaves(3)
+    );
+    assert_eq!(rt; write_length(&mut heap, error, 1, 1), Write::Refused);
+    let list = heap.make(alloc, Some(realm.array_prototype), Class::Array)?;
+    assert_eq!(rt; write_length(&mut heap, list, 4294967297, 1), Write::Done);
+    assert_eq!(rt;
+        write_length(&mut heap, list, 1, 4294967297),
+        Write::OutOfRange
+    );
+    Ok(())
+}
+
+#[test]
+fn global_names(rt: HostRuntime) -> Result<(), Fail> {
+    assert_eq!(rt; global_of(b"undefined"), GlobalName::Undefined);
+    assert_eq!(rt; global_of(b"RangeError"), GlobalName::Object(ObjId(16)));
+    assert_eq!(rt; global_of(b"JSON"), GlobalName::LeftOut);
+    assert_eq!(rt; global_of(b"print"), GlobalName::Unknown);
     Ok(())
 }

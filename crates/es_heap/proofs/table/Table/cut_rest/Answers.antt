@@ -2,7 +2,7 @@ use Rattle.std.proofs.Common.{◌≡◌, sym, rules}
 use Rattle.indexmap.proofs.CallerLemmas.{filter-RetainsPairs}
 use Rattle.es_heap.specs.Tables.{cut_at}
 use Rattle.es_heap.proofs.TableLemmas.{cut_end-above, cut_at-above, IndicesBelow-cut}
-use Rattle.es_heap.proofs.table.Table.cut.Goals as goal
+use Rattle.es_heap.proofs.table.Table.cut_rest.Goals as goal
 
 pub returns-then-length-self-clause-end : goal.returns-then-length-self-clause-end
 returns-then-length-self-clause-end c = rw (← c.self.view_is) (sym (cut_end-above c.self.inside.top c.args.length c.self.inside.map.entries c.if-length-self.true c.self.invariant))

@@ -1,0 +1,8 @@
+use Rattle.std.proofs.Common.{◌<◌, arith, length}
+use Rattle.es_heap.proofs.NoteLemmas.{kept}
+use Rattle.es_heap.proofs.heap.Heap.delete_own.Goals as goal
+
+pub invariant_of-self : goal.invariant_of-self
+invariant_of-self c =
+    let there : c.args.id.0 < length c.self.inside.objects.items = omega arith in
+    kept c.self.inside.notes.keys c.self.inside.objects.items c.args.id _ _ _ there c.index_mut-object.ensures.value c.delete_own.ensures.proto c.delete_own.ensures.recorded c.self.invariant

@@ -1,7 +1,0 @@
-use Rattle.std.proofs.Common.{◌≡◌, false, take}
-use Rattle.std.specs.List.{list_any}
-use Rattle.es_realm.specs.Access.{records_from}
-use Rattle.es_realm.proofs.access.is_recorded_below.Given as goal
-
-abbrev pub invariant-loop-place : goal.invariant-loop-place
-invariant-loop-place l = list_any (records_from l.fn.id l.key) (take l.place l.heap) ≡ false
