@@ -7,6 +7,7 @@ use Rattle.core_ast.specs.declared.whole.CoreFunction.{CoreFunction}
 use Rattle.core_ast.specs.declared.whole.CoreKind.{CoreKind}
 use Rattle.core_ast.specs.declared.whole.CoreKind.TheVariants.{Generator}
 use Rattle.core_ast.specs.declared.whole.CorePart.{CorePart}
+use Rattle.core_ast.specs.declared.whole.Resumption.{Resumption}
 use Rattle.core_ast.specs.declared.parts.Var.{Var}
 use Rattle.core_ast.specs.declared.parts.Label.{Label}
 use Rattle.core_ast.specs.declared.parts.ScopedName.{ScopedName}
@@ -317,12 +318,17 @@ abbrev pub round_part : ℕ → ℕ → ℕ → Round
 round_part names hosts functions =
     record { names = names; hosts = hosts; functions = functions; labels = []; loops = []; returns = false; yields = false }
 
-abbrev pub names_of : CoreFunction → List ℕ
-names_of f = number_of f.own ++ numbers f.parameters ++ number_of f.arguments ++ numbers f.cells ++ numbers f.locals
+abbrev pub resumed : Option Resumption → List ℕ
+resumed None = []
+resumed (Some r) = r.kind.0 ∷ r.value.0 ∷ []
+
+-- the names that a function declares itself, outside its statements
+abbrev pub own_names : CoreFunction → List ℕ
+own_names f = number_of f.own ++ numbers f.parameters ++ number_of f.arguments ++ numbers f.locals ++ resumed f.resumption
 
 abbrev pub function_lawful : ℕ → ℕ → ℕ → CoreFunction → Bool
 function_lawful names hosts number f =
-    list_all (λ n. nat_lt n names) (names_of f) && all_differ (numbers f.parameters)
+    list_all (λ n. nat_lt n names) (own_names f ++ numbers f.cells) && all_differ (numbers f.parameters)
     && is_empty f.declared
     && stats_lawful f.setup (round_function names hosts number false)
     && stats_lawful f.body (round_function names hosts number (is_generator f.kind))
@@ -349,8 +355,7 @@ held_in m = map (λ f. f.0) m.functions
 -- the names that a core declares; cells are those of another function
 abbrev pub declarations : Core → List ℕ
 declarations core =
-    flat_map (λ f. number_of f.own ++ numbers f.parameters ++ number_of f.arguments ++ numbers f.locals
-    ++ declared_in (function_mentions f)) core.functions
+    flat_map (λ f. own_names f ++ declared_in (function_mentions f)) core.functions
     ++ flat_map (λ p. scoped_numbers p.names ++ declared_in (part_mentions p)) core.parts
 
 abbrev pub held : Core → List ℕ

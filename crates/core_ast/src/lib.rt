@@ -22,4 +22,4 @@ pub use parts::{
     Unary, Update, Var, When,
 };
 pub use tree::{CoreCase, CoreExpr, CoreLink, CoreStat};
-pub use whole::{Core, CoreFunction, CoreKind, CorePart, Declared};
+pub use whole::{Core, CoreFunction, CoreKind, CorePart, Declared, Resumption};

@@ -23,6 +23,13 @@ pub struct Declared {
     pub function: FunctionId,
 }
 
+/// Where the step of a generator finds what it is resumed with: the kind (0 next, 1 throw, 2 return) and the value.
+#[derive(Clone, Copy, Debug, PartialEq, Eq)]
+pub struct Resumption {
+    pub kind: Var,
+    pub value: Var,
+}
+
 /// A function of the table. A function that another holds stands before that one.
 #[derive(Drop)]
 pub struct CoreFunction {
@@ -43,7 +50,8 @@ pub struct CoreFunction {
     /// initializes the parameters; in a generator before its object is made
     pub setup: Items<CoreStat>,
     pub body: Items<CoreStat>,
-    /// of a generator, from the states on: what its object is given
+    /// of a generator, from the states on: the parameters of what its object is given, and the statements of that
+    pub resumption: Option<Resumption>,
     pub step: Items<CoreStat>,
 }
 

@@ -84,6 +84,7 @@ fn flat_function(
         declared,
         setup,
         body,
+        resumption: function.resumption,
         step,
     })
 }
