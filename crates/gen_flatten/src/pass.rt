@@ -1,7 +1,6 @@
 //! The pass: functions, parts and the core.
 
 ghost use Rattle.std.specs.Prelude.{◌≡◌, ◌+◌, ◌++◌, map, max, [], length, IfOk, OnOk};
-ghost use Rattle.core_ast.specs.Mentions.{function_mentions, part_mentions};
 ghost use Rattle.yield_rules.specs.Yields.{all_functions, all_parts, begins, drawn, function_at, label_behind, name_behind, one_function, one_part, part_at, part_with_slots, slot_name, slots, with_slots, with_yields_flat};
 
 use crate::walk::block;

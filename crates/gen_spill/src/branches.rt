@@ -1,10 +1,9 @@
 //! Lazy links.
 
-ghost use Rattle.std.specs.Prelude.{◌≡◌, [], ◌∷◌, ◌++◌, Some, None, IfOk};
+ghost use Rattle.std.specs.Prelude.{◌≡◌, [], ◌∷◌, Some, IfOk};
 ghost use Rattle.core_ast.specs.Made.{linked};
 ghost use Rattle.core_ast.specs.declared.tree.CoreLink.TheVariants as link;
-ghost use Rattle.core_ast.specs.declared.tree.CoreStat.TheVariants as stat;
-ghost use Rattle.yield_rules.specs.Yields.{branch, case_of, going_on, in_slot, kept, one_branch, rest, test_of, two_branches};
+ghost use Rattle.yield_rules.specs.Yields.{branch, branched, first_case, going_on, one_branch, rest, test_of, two_branches, two_cases};
 
 use crate::build::{going_on, in_slot, keep};
 use crate::chains::finished;
@@ -41,7 +40,7 @@ fn first_case(
     when: When,
     yes: Spilled,
 ) -> Result<Items<CoreCase>, AllocError>
-    ensures { IfOk result (λ cs. cs ≡ case_of (Some (test_of place when)) (branch place yes) ∷ []) }
+    ensures { IfOk result (λ cs. cs ≡ first_case place when yes ∷ []) }
 {
     let test = Some(test_of(alloc, place, when)?);
     let body = branch(alloc, place, yes)?;
@@ -57,7 +56,7 @@ fn chosen(
     cases: Items<CoreCase>,
     chain: Chain,
 ) -> Result<Chain, AllocError>
-    ensures { IfOk result (λ c. c ≡ going_on (chain.before ++ kept place (rest chain) ∷ [] ++ stat.If cases ∷ []) (in_slot place)) }
+    ensures { IfOk result (λ c. c ≡ branched place cases chain) }
 {
     let Spilled { mut before, rest } = finished(alloc, chain)?;
     keep(alloc, place, rest, &mut before)?;
@@ -108,7 +107,7 @@ fn two_cases(
     yes: Spilled,
     no: Spilled,
 ) -> Result<Items<CoreCase>, AllocError>
-    ensures { IfOk result (λ cs. cs ≡ case_of (Some (test_of place when)) (branch place yes) ∷ case_of None (branch place no) ∷ []) }
+    ensures { IfOk result (λ cs. cs ≡ two_cases place when yes no) }
 {
     let mut cases = first_case(alloc, place, when, yes)?;
     let body = branch(alloc, place, no)?;

@@ -1,10 +1,10 @@
 //! Strict links behind an expression so far.
 
-ghost use Rattle.std.specs.Prelude.{◌≡◌, [], ◌∷◌, ◌++◌, Some, None, IfOk, OnOk};
+ghost use Rattle.std.specs.Prelude.{◌≡◌, [], ◌∷◌, ◌++◌, Some, IfOk, OnOk};
 ghost use Rattle.core_ast.specs.Made.{linked};
 ghost use Rattle.core_ast.specs.declared.parts.CoreOp.TheVariants as op;
 ghost use Rattle.core_ast.specs.declared.tree.CoreLink.TheVariants as link;
-ghost use Rattle.yield_rules.specs.Yields.{behind_slot, behind_statements, behind_value, called, called_function, called_host, called_method, deeper, finished, fixed, going_on, in_slot, indexed, kept, member, plain, put, referring, refers, rest, room, strict, target, then_part, updated};
+ghost use Rattle.yield_rules.specs.Yields.{behind_slot, behind_statements, behind_value, called, called_function, called_host, called_method, changed, finished, going_on, indexed, kept, member, method_call, method_kept, old_kept, plain, put, reference_kept, refers, rest, room, strict, then_part, updated};
 
 use crate::build::{going_on, in_slot, is_bare_host, keep, push_effects};
 use crate::delegation::{delegated, yielded};
@@ -278,7 +278,7 @@ fn keep_method(
     reference: Reference,
     out: &mut Items<CoreStat>,
 ) -> Result<(), AllocError>
-    ensures { OnOk result (out.new ≡ out.old ++ kept place base ∷ [] ++ kept (deeper 1 place) (linked (in_slot place) (referring reference)) ∷ []) }
+    ensures { OnOk result (out.new ≡ method_kept place base reference out.old) }
 {
     keep(alloc, place, base, out)?;
     let method = linked(in_slot(alloc, place), referring(alloc, reference))?;
@@ -292,7 +292,7 @@ fn method_call(
     more: Items<CoreExpr>,
     site: Option<Site>,
 ) -> Result<CoreExpr, AllocError>
-    ensures { IfOk result (λ x. x ≡ linked (in_slot (deeper 1 place)) (link.Strict op.CallWith (in_slot place ∷ more) site)) }
+    ensures { IfOk result (λ x. x ≡ method_call place more site) }
 {
     let mut parts = Items::new(alloc);
     parts.push(in_slot(alloc, place))?;
@@ -352,7 +352,7 @@ fn keep_reference(
     reference: Reference,
     out: &mut Items<CoreStat>,
 ) -> Result<(), AllocError>
-    ensures { OnOk result (out.new ≡ fixed place reference (out.old ++ kept place base ∷ [])) }
+    ensures { OnOk result (out.new ≡ reference_kept place base reference out.old) }
 {
     keep(alloc, place, base, out)?;
     fix(alloc, place, reference, out)
@@ -414,7 +414,7 @@ fn keep_old(
     reference: Reference,
     out: &mut Items<CoreStat>,
 ) -> Result<(), AllocError>
-    ensures { OnOk result (out.new ≡ fixed place reference (out.old ++ kept place base ∷ []) ++ kept (deeper 2 place) (target place reference) ∷ []) }
+    ensures { OnOk result (out.new ≡ old_kept place base reference out.old) }
 {
     let old = target(alloc, place, &reference)?;
     keep_reference(alloc, place, base, reference, out)?;
@@ -422,28 +422,30 @@ fn keep_old(
     keep(alloc, third, old, out)
 }
 
-/// The old value with the operator and the parts, written to the reference.
-fn write_update(
+/// The old value with the operator and the parts.
+fn changed(
     alloc: Global,
     place: Place,
     binary: Binary,
     parts: Items<CoreExpr>,
-    site: Option<Site>,
-    made: CoreExpr,
 ) -> Result<CoreExpr, AllocError>
-    ensures { IfOk result (λ x. x ≡ linked made (link.Strict op.Put (linked (in_slot (deeper 2 place)) (link.Strict (op.Operator binary) parts None) ∷ []) site)) }
+    ensures { IfOk result (λ x. x ≡ changed place binary parts) }
 {
     let third = deeper(place, 2)?;
     let op = CoreOp::Operator(binary);
-    let none = None;
-    let value = linked(
-        in_slot(alloc, third),
-        CoreLink::Strict {
-            op,
-            parts,
-            site: none,
-        },
-    )?;
+    let site = None;
+    linked(in_slot(alloc, third), CoreLink::Strict { op, parts, site })
+}
+
+/// The value is written to the reference.
+fn write(
+    alloc: Global,
+    made: CoreExpr,
+    value: CoreExpr,
+    site: Option<Site>,
+) -> Result<CoreExpr, AllocError>
+    ensures { IfOk result (λ x. x ≡ linked made (link.Strict op.Put (value ∷ []) site)) }
+{
     let mut parts = Items::new(alloc);
     parts.push(value)?;
     let op = CoreOp::Put;
@@ -470,6 +472,7 @@ fn update_kept(
     let mut before = before;
     keep_old(alloc, place, base, reference, &mut before)?;
     before.append(more)?;
-    let base = write_update(alloc, place, binary, parts, site, made)?;
+    let value = changed(alloc, place, binary, parts)?;
+    let base = write(alloc, made, value, site)?;
     Ok(going_on(before, base))
 }

@@ -1,8 +1,7 @@
 //! `yield` and `yield*` (ECMA-262, 6th edition, 14.4.14).
 
-ghost use Rattle.std.specs.Prelude.{◌≡◌, [], ◌∷◌, ◌++◌, IfOk, OnOk};
-ghost use Rattle.core_ast.specs.declared.tree.CoreStat.TheVariants as stat;
-ghost use Rattle.yield_rules.specs.Yields.{deeper, delegate_begin, delegate_loop, delegate_step, delegated, delegating, in_slot, is_done, is_same, kept, no_return, number, property, value_name, when, yielded};
+ghost use Rattle.std.specs.Prelude.{◌≡◌, IfOk, OnOk};
+ghost use Rattle.yield_rules.specs.Yields.{deeper, delegate_begin, delegate_body, delegate_loop, delegate_step, delegated, delegating, is_done, no_return, property, returned, value_name, yielded};
 
 use crate::build::{
     alone, going_on, in_slot, is_same, keep, kept, leave, number, property, two, when,
@@ -56,7 +55,7 @@ fn no_return(alloc: Global, place: Place) -> Result<CoreStat, AllocError>
 
 /// A return that is done is the generator's.
 fn returns(alloc: Global, place: Place) -> Result<CoreStat, AllocError>
-    ensures { IfOk result (λ s. s ≡ when (is_same (in_slot (deeper 1 place)) (number 2)) (stat.Return (property (deeper 3 place) value_name) ∷ [])) }
+    ensures { IfOk result (λ s. s ≡ returned place) }
 {
     let kind = in_slot(alloc, deeper(place, 1)?);
     let test = is_same(alloc, kind, number(alloc, 2))?;
@@ -87,7 +86,7 @@ fn delegating(alloc: Global, place: Place) -> Result<CoreStat, AllocError>
 }
 
 fn loop_body(alloc: Global, place: Place) -> Result<Items<CoreStat>, AllocError>
-    ensures { IfOk result (λ ss. ss ≡ kept (deeper 3 place) (delegate_step place) ∷ no_return place ∷ is_done place ∷ delegating place ∷ []) }
+    ensures { IfOk result (λ ss. ss ≡ delegate_body place) }
 {
     let step = delegate_step(alloc, place)?;
     let mut body = alone(alloc, kept(alloc, deeper(place, 3)?, step)?)?;

@@ -1,6 +1,6 @@
 //! References to properties.
 
-ghost use Rattle.std.specs.Prelude.{◌≡◌, [], ◌∷◌, ◌++◌, IfOk, OnOk};
+ghost use Rattle.std.specs.Prelude.{◌≡◌, [], ◌∷◌, IfOk, OnOk};
 ghost use Rattle.core_ast.specs.Made.{linked};
 ghost use Rattle.core_ast.specs.declared.parts.CoreOp.TheVariants as op;
 ghost use Rattle.core_ast.specs.declared.tree.CoreLink.TheVariants as link;

@@ -171,11 +171,15 @@ behind_slot p o t site c = going_on (c.before ++ kept p (rest c) ∷ [] ++ t.bef
 abbrev pub called_host : CoreOp → Settled → Option Site → Chain → Chain
 called_host o t site c = going_on (c.before ++ t.before) (linked c.base (link.Strict o t.parts site))
 
--- a method is read before its arguments
+-- a method is read before its arguments, into the slot behind its object
+abbrev pub method_kept : Place → CoreExpr → Reference → List CoreStat → List CoreStat
+method_kept p base r xs = xs ++ kept p base ∷ [] ++ kept (deeper 1 p) (linked (in_slot p) (referring r)) ∷ []
+
+abbrev pub method_call : Place → List CoreExpr → Option Site → CoreExpr
+method_call p parts site = linked (in_slot (deeper 1 p)) (link.Strict op.CallWith (in_slot p ∷ parts) site)
+
 abbrev pub called_method : Place → Settled → Option Site → List CoreStat → CoreExpr → Reference → Chain
-called_method p t site before base r = going_on
-    (before ++ kept p base ∷ [] ++ kept (deeper 1 p) (linked (in_slot p) (referring r)) ∷ [] ++ t.before)
-    (linked (in_slot (deeper 1 p)) (link.Strict op.CallWith (in_slot p ∷ t.parts) site))
+called_method p t site before base r = going_on (method_kept p base r before ++ t.before) (method_call p t.parts site)
 
 abbrev pub called_function : Place → CoreOp → Settled → Option Site → Chain → Chain
 called_function p o t site c = cond (is_bare_host c.base) (called_host o t site c) (behind_slot p o t site c)
@@ -184,18 +188,27 @@ abbrev pub called : Place → Settled → Option Site → Chain → Option Refer
 called p t site c None = called_function p op.Call t site c
 called p t site c (Some r) = called_method p t site c.before c.base r
 
+abbrev pub reference_kept : Place → CoreExpr → Reference → List CoreStat → List CoreStat
+reference_kept p base r xs = fixed p r (xs ++ kept p base ∷ [])
+
 abbrev pub put : Place → Settled → Option Site → Chain → Option Reference → Chain
 put p t site c None = behind_slot p op.Put t site c
 put p t site c (Some r) = going_on
-    (fixed p r (c.before ++ kept p c.base ∷ []) ++ t.before)
+    (reference_kept p c.base r c.before ++ t.before)
     (linked (target p r) (link.Strict op.Put t.parts site))
 
 -- the old value is read before the part
+abbrev pub old_kept : Place → CoreExpr → Reference → List CoreStat → List CoreStat
+old_kept p base r xs = reference_kept p base r xs ++ kept (deeper 2 p) (target p r) ∷ []
+
+abbrev pub changed : Place → Binary → List CoreExpr → CoreExpr
+changed p b parts = linked (in_slot (deeper 2 p)) (link.Strict (op.Operator b) parts None)
+
 abbrev pub updated : Place → Binary → Settled → Option Site → Chain → Option Reference → Chain
 updated p b t site c None = behind_slot p (op.Update b) t site c
 updated p b t site c (Some r) = going_on
-    (fixed p r (c.before ++ kept p c.base ∷ []) ++ kept (deeper 2 p) (target p r) ∷ [] ++ t.before)
-    (linked (target p r) (link.Strict op.Put (linked (in_slot (deeper 2 p)) (link.Strict (op.Operator b) t.parts None) ∷ []) site))
+    (old_kept p c.base r c.before ++ t.before)
+    (linked (target p r) (link.Strict op.Put (changed p b t.parts ∷ []) site))
 
 -- the current value of a comma is but its effect
 abbrev pub then_part : Settled → Option Site → Chain → Chain
@@ -257,16 +270,21 @@ delegate_step p =
 abbrev pub no_return : Place → CoreStat
 no_return p = when (is_same (in_slot (deeper 3 p)) undefined) (stat.Return (in_slot (deeper 2 p)) ∷ [])
 
+-- a return that is done is the generator's
+abbrev pub returned : Place → CoreStat
+returned p = when (is_same (in_slot (deeper 1 p)) (number 2)) (stat.Return (property (deeper 3 p) value_name) ∷ [])
+
 abbrev pub is_done : Place → CoreStat
-is_done p = when (property (deeper 3 p) done_name)
-    (when (is_same (in_slot (deeper 1 p)) (number 2)) (stat.Return (property (deeper 3 p) value_name) ∷ []) ∷ leave p ∷ [])
+is_done p = when (property (deeper 3 p) done_name) (returned p ∷ leave p ∷ [])
 
 abbrev pub delegating : Place → CoreStat
 delegating p = stat.Yield (in_slot (deeper 3 p)) (Some (slot (deeper 1 p))) (slot (deeper 2 p))
 
+abbrev pub delegate_body : Place → List CoreStat
+delegate_body p = kept (deeper 3 p) (delegate_step p) ∷ no_return p ∷ is_done p ∷ delegating p ∷ []
+
 abbrev pub delegate_loop : Place → CoreStat
-delegate_loop p = stat.Loop (label p ∷ []) None None
-    (kept (deeper 3 p) (delegate_step p) ∷ no_return p ∷ is_done p ∷ delegating p ∷ [])
+delegate_loop p = stat.Loop (label p ∷ []) None None (delegate_body p)
 
 abbrev pub delegate_begin : Place → CoreExpr → List CoreStat → List CoreStat
 delegate_begin p x xs =
@@ -308,18 +326,25 @@ branch p s = s.before ++ kept p s.rest ∷ []
 abbrev pub case_of : Option CoreExpr → List CoreStat → CoreCase
 case_of test body = roll-CoreCase (record { test = test; body = body })
 
+-- the current value goes into the slot, and the cases leave theirs there
+abbrev pub branched : Place → List CoreCase → Chain → Chain
+branched p cases c = going_on (c.before ++ kept p (rest c) ∷ [] ++ stat.If cases ∷ []) (in_slot p)
+
+abbrev pub first_case : Place → When → Spilled → CoreCase
+first_case p w s = case_of (Some (test_of p w)) (branch p s)
+
 abbrev pub one_branch : Place → When → Spilled → Chain → Chain
 one_branch p w taken c = cond (has taken)
-    (going_on (c.before ++ kept p (rest c) ∷ [] ++ stat.If (case_of (Some (test_of p w)) (branch p taken) ∷ []) ∷ []) (in_slot p))
+    (branched p (first_case p w taken ∷ []) c)
     (going_on c.before (linked (rest c) (link.Lazy w taken.rest None)))
 
+abbrev pub two_cases : Place → When → Spilled → Spilled → List CoreCase
+two_cases p w taken other = first_case p w taken ∷ case_of None (branch p other) ∷ []
+
 abbrev pub two_branches : Place → When → Spilled → Spilled → Chain → Chain
-two_branches p w taken no_ c = cond (has taken || has no_)
-    (going_on
-    (c.before ++ kept p (rest c) ∷ []
-    ++ stat.If (case_of (Some (test_of p w)) (branch p taken) ∷ case_of None (branch p no_) ∷ []) ∷ [])
-    (in_slot p))
-    (going_on c.before (linked (rest c) (link.Lazy w taken.rest (Some no_.rest))))
+two_branches p w taken other c = cond (has taken || has other)
+    (branched p (two_cases p w taken other) c)
+    (going_on c.before (linked (rest c) (link.Lazy w taken.rest (Some other.rest))))
 
 -- ---- the walk
 
