@@ -12,10 +12,33 @@ use Rattle.es6_ast.specs.declared.operators.Literal.TheVariants as literals
 use Rattle.es6_ast.specs.declared.operators.VariableKind.{VariableKind}
 use Rattle.es6_ast.specs.declared.operators.VariableKind.TheVariants.{Var, Let, Const}
 use Rattle.es6_ast.specs.declared.tree.Identifier.{Identifier}
+use Rattle.es6_ast.specs.declared.tree.Argument.{Argument, fold-Argument}
+use Rattle.es6_ast.specs.declared.tree.ArrayPart.{ArrayPart, fold-ArrayPart}
+use Rattle.es6_ast.specs.declared.tree.ArrowBody.{ArrowBody, fold-ArrowBody}
+use Rattle.es6_ast.specs.declared.tree.Element.{Element, fold-Element}
 use Rattle.es6_ast.specs.declared.tree.Expression.{Expression, fold-Expression}
+use Rattle.es6_ast.specs.declared.tree.ForFirst.{ForFirst, fold-ForFirst}
+use Rattle.es6_ast.specs.declared.tree.ForTarget.{ForTarget, fold-ForTarget}
+use Rattle.es6_ast.specs.declared.tree.Key.{Key, fold-Key}
+use Rattle.es6_ast.specs.declared.tree.Link.{Link, fold-Link}
+use Rattle.es6_ast.specs.declared.tree.ObjectPart.{ObjectPart, fold-ObjectPart}
+use Rattle.es6_ast.specs.declared.tree.Parameter.{Parameter, fold-Parameter}
+use Rattle.es6_ast.specs.declared.tree.Pattern.{Pattern, fold-Pattern}
+use Rattle.es6_ast.specs.declared.tree.Property.{Property, fold-Property}
 use Rattle.es6_ast.specs.declared.tree.Statement.{Statement, fold-Statement}
-use Rattle.es6_ast.specs.declared.tree.Function.{Function, fold-Function}
+use Rattle.es6_ast.specs.declared.tree.Arrow.{Arrow, fold-Arrow}
+use Rattle.es6_ast.specs.declared.tree.Block.{Block, fold-Block}
+use Rattle.es6_ast.specs.declared.tree.Case.{Case, fold-Case}
+use Rattle.es6_ast.specs.declared.tree.Catch.{Catch, fold-Catch}
 use Rattle.es6_ast.specs.declared.tree.Class.{Class, fold-Class}
+use Rattle.es6_ast.specs.declared.tree.ClassMember.{ClassMember, fold-ClassMember}
+use Rattle.es6_ast.specs.declared.tree.Condition.{Condition, fold-Condition}
+use Rattle.es6_ast.specs.declared.tree.Function.{Function, fold-Function}
+use Rattle.es6_ast.specs.declared.tree.Method.{Method, fold-Method}
+use Rattle.es6_ast.specs.declared.tree.Operand.{Operand, fold-Operand}
+use Rattle.es6_ast.specs.declared.tree.Part.{Part, fold-Part}
+use Rattle.es6_ast.specs.declared.tree.Template.{Template, fold-Template}
+use Rattle.es6_ast.specs.declared.tree.TemplatePart.{TemplatePart, fold-TemplatePart}
 use Rattle.es6_ast.specs.declared.tree.Argument.TheOpen as layer
 use Rattle.es6_ast.specs.declared.tree.Argument.TheOpen.{Argument-F, ArrayPart-F, ArrowBody-F, Element-F, Expression-F, ForFirst-F, ForTarget-F, Key-F, Link-F, ObjectPart-F, Parameter-F, Pattern-F, Property-F, Statement-F, Arrow-F, Block-F, Case-F, Catch-F, Class-F, ClassMember-F, Condition-F, Function-F, Method-F, Operand-F, Part-F, Template-F, TemplatePart-F}
 use Rattle.es6_ast.specs.declared.module.Module.{Module}
@@ -111,11 +134,10 @@ pub record LinkFound : Type 0 where
   pub is_call : Bool
   pub pairs : Inside
 
--- a pattern or a part of one: the names that it binds, and its pairs where it binds and where it is assigned
+-- a pattern or a part of one: the names that it binds, and its pairs by whether it declares them or something is assigned
 pub record TargetsFound : Type 0 where
   pub names : List Identifier
-  pub bound : Inside
-  pub assigned : Inside
+  pub pairs : Bool → Inside
 
 -- a statement: the lexical names that it declares, the function that it declares, the var names in it, and its pairs
 pub record StatementFound : Type 0 where
@@ -226,11 +248,17 @@ block_names ss = joined (λ s. s.lexical ++ s.functions) ss
 abbrev pub block_vars : List StatementFound → List Identifier
 block_vars ss = joined (λ s. s.vars) ss
 
+abbrev pub statements_pairs : List StatementFound → Inside
+statements_pairs ss scope = joined (λ s. s.pairs scope) ss
+
 abbrev pub block_pairs : List StatementFound → Inside
-block_pairs ss scope = joined (λ s. s.pairs (declaring (block_names ss) scope)) ss
+block_pairs ss scope = statements_pairs ss (declaring (block_names ss) scope)
 
 abbrev pub parts_names : List TargetsFound → List Identifier
 parts_names ps = joined (λ p. p.names) ps
+
+abbrev pub parts_pairs : Bool → List TargetsFound → Inside
+parts_pairs declares ps scope = joined (λ p. p.pairs declares scope) ps
 
 abbrev pub body_names : List StatementFound → List Identifier
 body_names ss = block_names ss ++ block_vars ss
@@ -239,7 +267,7 @@ body_names ss = block_names ss ++ block_vars ss
 abbrev pub function_pairs : List Identifier → List TargetsFound → BodyFound → Inside
 function_pairs own ps body scope =
     let inside = declaring (parts_names ps ++ own) scope in
-    joined (λ p. p.bound inside) ps ++ body.pairs (declaring body.names inside)
+    parts_pairs true ps inside ++ body.pairs (declaring body.names inside)
 
 abbrev pub lexical_names : VariableKind → List Identifier → List Identifier
 lexical_names Var names = []
@@ -276,13 +304,13 @@ argument_step (layer.Single x) = x.pairs
 argument_step (layer.Spread span x) = x.pairs
 
 abbrev pub array_part_step : Layer ArrayPart-F → TargetsFound
-array_part_step layer.SkippedPart = record { names = []; bound = nothing; assigned = nothing }
+array_part_step layer.SkippedPart = record { names = []; pairs = λ declares scope. [] }
 array_part_step (layer.SinglePart x) = x
 array_part_step (layer.RestPart span x) = x
 
 abbrev pub arrow_body_step : Layer ArrowBody-F → BodyFound
 arrow_body_step (layer.ValueBody x) = record { names = []; pairs = x.pairs }
-arrow_body_step (layer.BlockBody ss) = record { names = body_names ss; pairs = λ scope. joined (λ s. s.pairs scope) ss }
+arrow_body_step (layer.BlockBody ss) = record { names = body_names ss; pairs = statements_pairs ss }
 
 abbrev pub element_step : Layer Element-F → Inside
 element_step layer.Hole = nothing
@@ -309,7 +337,7 @@ expression_step (layer.Unary span operator x) = value span (λ scope. deleted op
 expression_step (layer.Power span base exponent) = value span (λ scope. base.pairs scope ++ exponent.pairs scope)
 expression_step (layer.Binary span first rest) = value span (λ scope. first.pairs scope ++ joined (λ o. o scope) rest)
 expression_step (layer.Conditional span test yes_ no_) = value span (λ scope. test.pairs scope ++ yes_.pairs scope ++ no_.pairs scope)
-expression_step (layer.Assign span operator target x) = value span (λ scope. target.assigned scope ++ x.pairs scope)
+expression_step (layer.Assign span operator target x) = value span (λ scope. target.pairs false scope ++ x.pairs scope)
 expression_step (layer.Sequence span first rest) = value span (λ scope. first.pairs scope ++ joined (λ x. x.pairs scope) rest)
 expression_step (layer.Yield span x) = value span (λ scope. maybe (λ y. y.pairs scope) x)
 expression_step (layer.Delegate span x) = value span x.pairs
@@ -318,12 +346,12 @@ expression_step (layer.Cover span held rest) = value span (λ scope. maybe (λ x
 
 abbrev pub for_first_step : Layer ForFirst-F → HeadFound
 for_first_step layer.NoFirst = record { lexical = []; vars = []; pairs = nothing }
-for_first_step (layer.FirstVariables span kind parts) = record { lexical = lexical_names kind (parts_names parts); vars = var_names kind (parts_names parts); pairs = λ scope. joined (λ p. p.bound scope) parts }
+for_first_step (layer.FirstVariables span kind parts) = record { lexical = lexical_names kind (parts_names parts); vars = var_names kind (parts_names parts); pairs = parts_pairs true parts }
 for_first_step (layer.FirstExpression x) = record { lexical = []; vars = []; pairs = x.pairs }
 
 abbrev pub for_target_step : Layer ForTarget-F → HeadFound
-for_target_step (layer.Declared span kind x) = record { lexical = lexical_names kind x.names; vars = var_names kind x.names; pairs = x.bound }
-for_target_step (layer.Assigned x) = record { lexical = []; vars = []; pairs = x.assigned }
+for_target_step (layer.Declared span kind x) = record { lexical = lexical_names kind x.names; vars = var_names kind x.names; pairs = x.pairs true }
+for_target_step (layer.Assigned x) = record { lexical = []; vars = []; pairs = x.pairs false }
 
 -- U10 at a literal name, and U9 but in a key
 abbrev pub key_step : Layer Key-F → Inside
@@ -340,17 +368,17 @@ link_step (layer.Tagged x) = record { member = None; is_call = false; pairs = x 
 
 abbrev pub object_part_step : Layer ObjectPart-F → TargetsFound
 object_part_step (layer.NamedPart x) = x
-object_part_step (layer.KeyedPart span key x) = record { names = x.names; bound = λ scope. key scope ++ x.bound scope; assigned = λ scope. key scope ++ x.assigned scope }
+object_part_step (layer.KeyedPart span key x) = record { names = x.names; pairs = λ declares scope. key scope ++ x.pairs declares scope }
 
 abbrev pub parameter_step : Layer Parameter-F → TargetsFound
 parameter_step (layer.SingleParameter x) = x
 parameter_step (layer.RestParameter span x) = x
 
 abbrev pub all_parts : List TargetsFound → TargetsFound
-all_parts parts = record { names = parts_names parts; bound = λ scope. joined (λ p. p.bound scope) parts; assigned = λ scope. joined (λ p. p.assigned scope) parts }
+all_parts parts = record { names = parts_names parts; pairs = λ declares. parts_pairs declares parts }
 
 abbrev pub pattern_step : Layer Pattern-F → TargetsFound
-pattern_step (layer.Target x) = record { names = some_name x.name; bound = λ scope. all_named (some_name x.name); assigned = target_pairs x }
+pattern_step (layer.Target x) = record { names = some_name x.name; pairs = λ declares scope. cond declares (all_named (some_name x.name)) (target_pairs x scope) }
 pattern_step (layer.ArrayPattern span parts) = all_parts parts
 pattern_step (layer.ObjectPattern span parts) = all_parts parts
 
@@ -362,7 +390,7 @@ property_step (layer.Defined m) = m.pairs true
 
 abbrev pub statement_step : Layer Statement-F → StatementFound
 statement_step (layer.Block ss) = with_vars (block_vars ss) (block_pairs ss)
-statement_step (layer.Variables span kind parts) = record { lexical = lexical_names kind (parts_names parts); functions = []; vars = var_names kind (parts_names parts); pairs = λ scope. joined (λ p. p.bound scope) parts }
+statement_step (layer.Variables span kind parts) = record { lexical = lexical_names kind (parts_names parts); functions = []; vars = var_names kind (parts_names parts); pairs = parts_pairs true parts }
 statement_step (layer.Empty span) = plain nothing
 statement_step (layer.Expression span x) = plain x.pairs
 statement_step (layer.If span first more otherwise) = with_vars (first.vars ++ joined (λ c. c.vars) more ++ maybe (λ s. s.vars) otherwise) (λ scope. first.pairs scope ++ joined (λ c. c.pairs scope) more ++ maybe (λ s. s.pairs scope) otherwise)
@@ -391,7 +419,7 @@ abbrev pub case_step : Layer Case-F → CaseFound
 case_step x = record { body = x.body; test = λ scope. maybe (λ y. y.pairs scope) x.test }
 
 abbrev pub catch_step : Layer Catch-F → PartFound
-catch_step x = record { vars = block_vars x.body; pairs = λ scope. let inside = declaring x.parameter.names scope in x.parameter.bound inside ++ block_pairs x.body inside }
+catch_step x = record { vars = block_vars x.body; pairs = λ scope. let inside = declaring x.parameter.names scope in x.parameter.pairs true inside ++ block_pairs x.body inside }
 
 -- the name of a class is declared in its heritage and its members (14.5.14)
 abbrev pub class_step : Layer Class-F → ClassFound
@@ -404,7 +432,7 @@ abbrev pub condition_step : Layer Condition-F → PartFound
 condition_step x = record { vars = x.body.vars; pairs = λ scope. x.test.pairs scope ++ x.body.pairs scope }
 
 abbrev pub function_step : Layer Function-F → FunctionFound
-function_step x = record { name = some_name x.name; pairs = λ in_object scope. all_named (some_name x.name) ++ function_pairs (arguments_name ∷ some_name x.name) x.parameters (record { names = body_names x.body; pairs = λ inner. joined (λ s. s.pairs inner) x.body }) (record scope { in_object = in_object }) }
+function_step x = record { name = some_name x.name; pairs = λ in_object scope. all_named (some_name x.name) ++ function_pairs (arguments_name ∷ some_name x.name) x.parameters (record { names = body_names x.body; pairs = statements_pairs x.body }) (record scope { in_object = in_object }) }
 
 abbrev pub method_step : Layer Method-F → MethodFound
 method_step x = record { pairs = λ in_object scope. x.key scope ++ x.function.pairs in_object scope }
@@ -413,7 +441,7 @@ abbrev pub operand_step : Layer Operand-F → Inside
 operand_step x = x.value.pairs
 
 abbrev pub part_step : Layer Part-F → TargetsFound
-part_step x = record { names = x.pattern.names; bound = λ scope. x.pattern.bound scope ++ maybe (λ y. y.pairs scope) x.default; assigned = λ scope. x.pattern.assigned scope ++ maybe (λ y. y.pairs scope) x.default }
+part_step x = record { names = x.pattern.names; pairs = λ declares scope. x.pattern.pairs declares scope ++ maybe (λ y. y.pairs scope) x.default }
 
 abbrev pub template_step : Layer Template-F → Inside
 template_step x = λ scope. joined (λ p. p scope) x.rest
@@ -421,25 +449,90 @@ template_step x = λ scope. joined (λ p. p scope) x.rest
 abbrev pub template_part_step : Layer TemplatePart-F → Inside
 template_part_step x = x.value.pairs
 
+-- what each kind of node gives, by the steps above
+abbrev pub by_steps : {Node Result : Type 0} → ((Layer Argument-F → Inside) → (Layer ArrayPart-F → TargetsFound) → (Layer ArrowBody-F → BodyFound) → (Layer Element-F → Inside) → (Layer Expression-F → Found) → (Layer ForFirst-F → HeadFound) → (Layer ForTarget-F → HeadFound) → (Layer Key-F → Inside) → (Layer Link-F → LinkFound) → (Layer ObjectPart-F → TargetsFound) → (Layer Parameter-F → TargetsFound) → (Layer Pattern-F → TargetsFound) → (Layer Property-F → Inside) → (Layer Statement-F → StatementFound) → (Layer Arrow-F → Inside) → (Layer Block-F → (List StatementFound)) → (Layer Case-F → CaseFound) → (Layer Catch-F → PartFound) → (Layer Class-F → ClassFound) → (Layer ClassMember-F → Inside) → (Layer Condition-F → PartFound) → (Layer Function-F → FunctionFound) → (Layer Method-F → MethodFound) → (Layer Operand-F → Inside) → (Layer Part-F → TargetsFound) → (Layer Template-F → Inside) → (Layer TemplatePart-F → Inside) → Node → Result) → Node → Result
+by_steps fold_ = fold_ argument_step array_part_step arrow_body_step element_step expression_step for_first_step for_target_step key_step link_step object_part_step parameter_step pattern_step property_step statement_step arrow_step block_step case_step catch_step class_step class_member_step condition_step function_step method_step operand_step part_step template_step template_part_step
+
+abbrev pub argument_found : Argument → Inside
+argument_found = by_steps (fold-Argument Inside TargetsFound BodyFound Inside Found HeadFound HeadFound Inside LinkFound TargetsFound TargetsFound TargetsFound Inside StatementFound Inside (List StatementFound) CaseFound PartFound ClassFound Inside PartFound FunctionFound MethodFound Inside TargetsFound Inside Inside)
+
+abbrev pub array_part_found : ArrayPart → TargetsFound
+array_part_found = by_steps (fold-ArrayPart Inside TargetsFound BodyFound Inside Found HeadFound HeadFound Inside LinkFound TargetsFound TargetsFound TargetsFound Inside StatementFound Inside (List StatementFound) CaseFound PartFound ClassFound Inside PartFound FunctionFound MethodFound Inside TargetsFound Inside Inside)
+
+abbrev pub arrow_body_found : ArrowBody → BodyFound
+arrow_body_found = by_steps (fold-ArrowBody Inside TargetsFound BodyFound Inside Found HeadFound HeadFound Inside LinkFound TargetsFound TargetsFound TargetsFound Inside StatementFound Inside (List StatementFound) CaseFound PartFound ClassFound Inside PartFound FunctionFound MethodFound Inside TargetsFound Inside Inside)
+
+abbrev pub element_found : Element → Inside
+element_found = by_steps (fold-Element Inside TargetsFound BodyFound Inside Found HeadFound HeadFound Inside LinkFound TargetsFound TargetsFound TargetsFound Inside StatementFound Inside (List StatementFound) CaseFound PartFound ClassFound Inside PartFound FunctionFound MethodFound Inside TargetsFound Inside Inside)
+
 abbrev pub expression_found : Expression → Found
-expression_found =
-    fold-Expression Inside TargetsFound BodyFound Inside Found HeadFound HeadFound Inside LinkFound TargetsFound TargetsFound TargetsFound Inside StatementFound Inside (List StatementFound) CaseFound PartFound ClassFound Inside PartFound FunctionFound MethodFound Inside TargetsFound Inside Inside
-    argument_step array_part_step arrow_body_step element_step expression_step for_first_step for_target_step key_step link_step object_part_step parameter_step pattern_step property_step statement_step arrow_step block_step case_step catch_step class_step class_member_step condition_step function_step method_step operand_step part_step template_step template_part_step
+expression_found = by_steps (fold-Expression Inside TargetsFound BodyFound Inside Found HeadFound HeadFound Inside LinkFound TargetsFound TargetsFound TargetsFound Inside StatementFound Inside (List StatementFound) CaseFound PartFound ClassFound Inside PartFound FunctionFound MethodFound Inside TargetsFound Inside Inside)
+
+abbrev pub for_first_found : ForFirst → HeadFound
+for_first_found = by_steps (fold-ForFirst Inside TargetsFound BodyFound Inside Found HeadFound HeadFound Inside LinkFound TargetsFound TargetsFound TargetsFound Inside StatementFound Inside (List StatementFound) CaseFound PartFound ClassFound Inside PartFound FunctionFound MethodFound Inside TargetsFound Inside Inside)
+
+abbrev pub for_target_found : ForTarget → HeadFound
+for_target_found = by_steps (fold-ForTarget Inside TargetsFound BodyFound Inside Found HeadFound HeadFound Inside LinkFound TargetsFound TargetsFound TargetsFound Inside StatementFound Inside (List StatementFound) CaseFound PartFound ClassFound Inside PartFound FunctionFound MethodFound Inside TargetsFound Inside Inside)
+
+abbrev pub key_found : Key → Inside
+key_found = by_steps (fold-Key Inside TargetsFound BodyFound Inside Found HeadFound HeadFound Inside LinkFound TargetsFound TargetsFound TargetsFound Inside StatementFound Inside (List StatementFound) CaseFound PartFound ClassFound Inside PartFound FunctionFound MethodFound Inside TargetsFound Inside Inside)
+
+abbrev pub link_found : Link → LinkFound
+link_found = by_steps (fold-Link Inside TargetsFound BodyFound Inside Found HeadFound HeadFound Inside LinkFound TargetsFound TargetsFound TargetsFound Inside StatementFound Inside (List StatementFound) CaseFound PartFound ClassFound Inside PartFound FunctionFound MethodFound Inside TargetsFound Inside Inside)
+
+abbrev pub object_part_found : ObjectPart → TargetsFound
+object_part_found = by_steps (fold-ObjectPart Inside TargetsFound BodyFound Inside Found HeadFound HeadFound Inside LinkFound TargetsFound TargetsFound TargetsFound Inside StatementFound Inside (List StatementFound) CaseFound PartFound ClassFound Inside PartFound FunctionFound MethodFound Inside TargetsFound Inside Inside)
+
+abbrev pub parameter_found : Parameter → TargetsFound
+parameter_found = by_steps (fold-Parameter Inside TargetsFound BodyFound Inside Found HeadFound HeadFound Inside LinkFound TargetsFound TargetsFound TargetsFound Inside StatementFound Inside (List StatementFound) CaseFound PartFound ClassFound Inside PartFound FunctionFound MethodFound Inside TargetsFound Inside Inside)
+
+abbrev pub pattern_found : Pattern → TargetsFound
+pattern_found = by_steps (fold-Pattern Inside TargetsFound BodyFound Inside Found HeadFound HeadFound Inside LinkFound TargetsFound TargetsFound TargetsFound Inside StatementFound Inside (List StatementFound) CaseFound PartFound ClassFound Inside PartFound FunctionFound MethodFound Inside TargetsFound Inside Inside)
+
+abbrev pub property_found : Property → Inside
+property_found = by_steps (fold-Property Inside TargetsFound BodyFound Inside Found HeadFound HeadFound Inside LinkFound TargetsFound TargetsFound TargetsFound Inside StatementFound Inside (List StatementFound) CaseFound PartFound ClassFound Inside PartFound FunctionFound MethodFound Inside TargetsFound Inside Inside)
 
 abbrev pub statement_found : Statement → StatementFound
-statement_found =
-    fold-Statement Inside TargetsFound BodyFound Inside Found HeadFound HeadFound Inside LinkFound TargetsFound TargetsFound TargetsFound Inside StatementFound Inside (List StatementFound) CaseFound PartFound ClassFound Inside PartFound FunctionFound MethodFound Inside TargetsFound Inside Inside
-    argument_step array_part_step arrow_body_step element_step expression_step for_first_step for_target_step key_step link_step object_part_step parameter_step pattern_step property_step statement_step arrow_step block_step case_step catch_step class_step class_member_step condition_step function_step method_step operand_step part_step template_step template_part_step
+statement_found = by_steps (fold-Statement Inside TargetsFound BodyFound Inside Found HeadFound HeadFound Inside LinkFound TargetsFound TargetsFound TargetsFound Inside StatementFound Inside (List StatementFound) CaseFound PartFound ClassFound Inside PartFound FunctionFound MethodFound Inside TargetsFound Inside Inside)
 
-abbrev pub function_found : Function → FunctionFound
-function_found =
-    fold-Function Inside TargetsFound BodyFound Inside Found HeadFound HeadFound Inside LinkFound TargetsFound TargetsFound TargetsFound Inside StatementFound Inside (List StatementFound) CaseFound PartFound ClassFound Inside PartFound FunctionFound MethodFound Inside TargetsFound Inside Inside
-    argument_step array_part_step arrow_body_step element_step expression_step for_first_step for_target_step key_step link_step object_part_step parameter_step pattern_step property_step statement_step arrow_step block_step case_step catch_step class_step class_member_step condition_step function_step method_step operand_step part_step template_step template_part_step
+abbrev pub arrow_found : Arrow → Inside
+arrow_found = by_steps (fold-Arrow Inside TargetsFound BodyFound Inside Found HeadFound HeadFound Inside LinkFound TargetsFound TargetsFound TargetsFound Inside StatementFound Inside (List StatementFound) CaseFound PartFound ClassFound Inside PartFound FunctionFound MethodFound Inside TargetsFound Inside Inside)
+
+abbrev pub block_found : Block → List StatementFound
+block_found = by_steps (fold-Block Inside TargetsFound BodyFound Inside Found HeadFound HeadFound Inside LinkFound TargetsFound TargetsFound TargetsFound Inside StatementFound Inside (List StatementFound) CaseFound PartFound ClassFound Inside PartFound FunctionFound MethodFound Inside TargetsFound Inside Inside)
+
+abbrev pub case_found : Case → CaseFound
+case_found = by_steps (fold-Case Inside TargetsFound BodyFound Inside Found HeadFound HeadFound Inside LinkFound TargetsFound TargetsFound TargetsFound Inside StatementFound Inside (List StatementFound) CaseFound PartFound ClassFound Inside PartFound FunctionFound MethodFound Inside TargetsFound Inside Inside)
+
+abbrev pub catch_found : Catch → PartFound
+catch_found = by_steps (fold-Catch Inside TargetsFound BodyFound Inside Found HeadFound HeadFound Inside LinkFound TargetsFound TargetsFound TargetsFound Inside StatementFound Inside (List StatementFound) CaseFound PartFound ClassFound Inside PartFound FunctionFound MethodFound Inside TargetsFound Inside Inside)
 
 abbrev pub class_found : Class → ClassFound
-class_found =
-    fold-Class Inside TargetsFound BodyFound Inside Found HeadFound HeadFound Inside LinkFound TargetsFound TargetsFound TargetsFound Inside StatementFound Inside (List StatementFound) CaseFound PartFound ClassFound Inside PartFound FunctionFound MethodFound Inside TargetsFound Inside Inside
-    argument_step array_part_step arrow_body_step element_step expression_step for_first_step for_target_step key_step link_step object_part_step parameter_step pattern_step property_step statement_step arrow_step block_step case_step catch_step class_step class_member_step condition_step function_step method_step operand_step part_step template_step template_part_step
+class_found = by_steps (fold-Class Inside TargetsFound BodyFound Inside Found HeadFound HeadFound Inside LinkFound TargetsFound TargetsFound TargetsFound Inside StatementFound Inside (List StatementFound) CaseFound PartFound ClassFound Inside PartFound FunctionFound MethodFound Inside TargetsFound Inside Inside)
+
+abbrev pub class_member_found : ClassMember → Inside
+class_member_found = by_steps (fold-ClassMember Inside TargetsFound BodyFound Inside Found HeadFound HeadFound Inside LinkFound TargetsFound TargetsFound TargetsFound Inside StatementFound Inside (List StatementFound) CaseFound PartFound ClassFound Inside PartFound FunctionFound MethodFound Inside TargetsFound Inside Inside)
+
+abbrev pub condition_found : Condition → PartFound
+condition_found = by_steps (fold-Condition Inside TargetsFound BodyFound Inside Found HeadFound HeadFound Inside LinkFound TargetsFound TargetsFound TargetsFound Inside StatementFound Inside (List StatementFound) CaseFound PartFound ClassFound Inside PartFound FunctionFound MethodFound Inside TargetsFound Inside Inside)
+
+abbrev pub function_found : Function → FunctionFound
+function_found = by_steps (fold-Function Inside TargetsFound BodyFound Inside Found HeadFound HeadFound Inside LinkFound TargetsFound TargetsFound TargetsFound Inside StatementFound Inside (List StatementFound) CaseFound PartFound ClassFound Inside PartFound FunctionFound MethodFound Inside TargetsFound Inside Inside)
+
+abbrev pub method_found : Method → MethodFound
+method_found = by_steps (fold-Method Inside TargetsFound BodyFound Inside Found HeadFound HeadFound Inside LinkFound TargetsFound TargetsFound TargetsFound Inside StatementFound Inside (List StatementFound) CaseFound PartFound ClassFound Inside PartFound FunctionFound MethodFound Inside TargetsFound Inside Inside)
+
+abbrev pub operand_found : Operand → Inside
+operand_found = by_steps (fold-Operand Inside TargetsFound BodyFound Inside Found HeadFound HeadFound Inside LinkFound TargetsFound TargetsFound TargetsFound Inside StatementFound Inside (List StatementFound) CaseFound PartFound ClassFound Inside PartFound FunctionFound MethodFound Inside TargetsFound Inside Inside)
+
+abbrev pub part_found : Part → TargetsFound
+part_found = by_steps (fold-Part Inside TargetsFound BodyFound Inside Found HeadFound HeadFound Inside LinkFound TargetsFound TargetsFound TargetsFound Inside StatementFound Inside (List StatementFound) CaseFound PartFound ClassFound Inside PartFound FunctionFound MethodFound Inside TargetsFound Inside Inside)
+
+abbrev pub template_found : Template → Inside
+template_found = by_steps (fold-Template Inside TargetsFound BodyFound Inside Found HeadFound HeadFound Inside LinkFound TargetsFound TargetsFound TargetsFound Inside StatementFound Inside (List StatementFound) CaseFound PartFound ClassFound Inside PartFound FunctionFound MethodFound Inside TargetsFound Inside Inside)
+
+abbrev pub template_part_found : TemplatePart → Inside
+template_part_found = by_steps (fold-TemplatePart Inside TargetsFound BodyFound Inside Found HeadFound HeadFound Inside LinkFound TargetsFound TargetsFound TargetsFound Inside StatementFound Inside (List StatementFound) CaseFound PartFound ClassFound Inside PartFound FunctionFound MethodFound Inside TargetsFound Inside Inside)
 
 abbrev pub is_host : Specifier → Bool
 is_host from = bytes_eq from.text (codes "host")

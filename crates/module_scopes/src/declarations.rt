@@ -3,7 +3,7 @@
 ghost use Rattle.std.specs.Prelude.{◌≡◌, ◌++◌, map, false, OnOk};
 ghost use Rattle.es6_static_semantics.specs.Findings.{joined};
 ghost use Rattle.es6_static_semantics.specs.Outside.{block_names, class_found, function_found, knows, lexical_names, parts_names, statement_found};
-ghost use Rattle.module_scopes.specs.Parts.{case_found, for_first_found, for_target_found, part_found, pattern_found};
+ghost use Rattle.es6_static_semantics.specs.Outside.{case_found, for_first_found, for_target_found, part_found, pattern_found};
 
 use crate::bindings::Bindings;
 use es6_ast::{Case, Class, ForFirst, ForTarget, Function, Part, Pattern, Statement, VariableKind};

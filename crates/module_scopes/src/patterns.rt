@@ -3,7 +3,7 @@
 ghost use Rattle.std.specs.Prelude.{◌≡◌, ◌++◌, map, false, OnOk};
 ghost use Rattle.es6_static_semantics.specs.Findings.{joined};
 ghost use Rattle.es6_static_semantics.specs.Outside.{expression_found, knows, parts_names, some_name};
-ghost use Rattle.module_scopes.specs.Parts.{array_part_found, object_part_found, parameter_found, part_found, pattern_found};
+ghost use Rattle.es6_static_semantics.specs.Outside.{array_part_found, object_part_found, parameter_found, part_found, pattern_found};
 
 use crate::bindings::Bindings;
 use es6_ast::{ArrayPart, Expression, ObjectPart, Parameter, Part, Pattern};

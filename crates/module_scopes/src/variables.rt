@@ -4,7 +4,7 @@ ghost use Rattle.std.specs.Prelude.{◌≡◌, ◌++◌, map, false, OnOk};
 ghost use Rattle.std.specs.Option.{option_map};
 ghost use Rattle.es6_static_semantics.specs.Findings.{joined, maybe};
 ghost use Rattle.es6_static_semantics.specs.Outside.{block_vars, body_names, knows, parts_names, statement_found, var_names};
-ghost use Rattle.module_scopes.specs.Parts.{block_found, case_found, catch_found, condition_found, for_first_found, for_target_found, part_found, pattern_found};
+ghost use Rattle.es6_static_semantics.specs.Outside.{block_found, case_found, catch_found, condition_found, for_first_found, for_target_found, part_found, pattern_found};
 
 use crate::bindings::Bindings;
 use es6_ast::{

@@ -1,5 +1,5 @@
-pub mod First
 pub mod ArgumentNames
-pub mod Entered
-pub mod Outcomes
-pub mod Weights
+pub mod First
+pub mod Layers
+pub mod Scoped
+pub mod Walking

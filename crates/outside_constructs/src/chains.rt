@@ -1,97 +1,99 @@
 //! Accesses and calls (ECMA-262, 6th edition, 12.3), and expressions that are keys.
 
-ghost use Rattle.std.specs.Prelude.{[], cond, map, codes};
-ghost use Rattle.es6_static_semantics.specs.Outside.{are_iterator, chain_pairs, expression_found, first_is_call, is_iterator_key, is_text};
-ghost use Rattle.es6_sizes.specs.Sizes.{expression_size, link_size, sizes};
-ghost use Rattle.module_scopes.specs.Parts.{link_found};
-ghost use Rattle.std.specs.Prelude.{◌≡◌, ◌+◌, ◌*◌, ◌<◌, OnOk};
-ghost use Rattle.outside_constructs.specs.Left.{done, met, outcome, weight};
-ghost use Rattle.outside_constructs.specs.Works.{weight_of};
+ghost use Rattle.std.specs.Prelude.{◌≡◌, [], cond, codes, map, OnOk};
+ghost use Rattle.es6_static_semantics.specs.Findings.{joined};
+ghost use Rattle.es6_static_semantics.specs.Outside.{are_iterator, expression_found, first_is_call, is_iterator_key, is_text, link_found};
+ghost use Rattle.outside_constructs.specs.Walked.{meets};
 
 use crate::walk::Walk;
-use crate::work::Work;
-use borrowed_parts::Rest;
 use es6_ast::{Expression, Link};
-use sqlite_items::{Boxed, Items};
 use std::alloc::AllocError;
 
-impl<'a> Walk<'a> {
-    /// An expression that is a key: `Symbol.iterator` may stand there by itself.
-    pub(crate) fn as_key(&mut self, expression: &'a Expression) -> Result<(), AllocError>
-        ensures outcome { OnOk result (outcome self.new ≡ done (Work.AsKey expression.entry) self.old) }
-        ensures falls { OnOk result (weight self.new < weight_of (Work.AsKey expression.entry) + weight self.old) }
+impl Walk {
+    /// What a chain begins with, and whether the chain calls it.
+    #[cycle(outside)]
+    pub(crate) fn head(&mut self, head: &Expression, is_called: bool) -> Result<(), AllocError>
+        ensures { OnOk result (self.new ≡ meets (λ scope. cond is_called ((expression_found head.now).callee scope) ((expression_found head.now).pairs scope)) self.old) }
     {
-        match expression {
-            Expression::Chain { head, links, .. } => { self.chain_as_key(head, links) }
-            _ => self.expression(expression),
-        }
-    }
-
-    fn chain_as_key(
-        &mut self,
-        head: &'a Boxed<Expression>,
-        links: &'a Items<Link>,
-    ) -> Result<(), AllocError>
-        ensures outcome { OnOk result (outcome self.new ≡ met (λ scope. cond (is_iterator_key (expression_found head.now) (map link_found links.now) scope) [] (chain_pairs (expression_found head.now) (map link_found links.now) scope)) self.old) }
-        ensures falls { OnOk result (weight self.new < 8 * (expression_size head.now + sizes (map link_size links.now) + 1) + weight self.old) }
-    {
-        if self.is_iterator_key(head.get(), links.as_slice()) {
-            return Ok(());
-        }
-        self.chain(head, links)
-    }
-
-    fn is_iterator_key(&self, head: &Expression, links: &[Link]) -> bool
-        ensures { result ≡ is_iterator_key (expression_found head.now) (map link_found links.now) self.now.environment }
-    {
-        let is_symbol = is_bare_symbol(head);
-        let are_iterator = are_iterator(links);
-        is_symbol & are_iterator & self.environment.is_free(b"Symbol".as_slice())
-    }
-
-    pub(crate) fn chain(
-        &mut self,
-        head: &'a Boxed<Expression>,
-        links: &'a Items<Link>,
-    ) -> Result<(), AllocError>
-        ensures outcome { OnOk result (outcome self.new ≡ met (chain_pairs (expression_found head.now) (map link_found links.now)) self.old) }
-        ensures falls { OnOk result (weight self.new < 8 * (expression_size head.now + sizes (map link_size links.now) + 1) + weight self.old) }
-    {
-        if first_is_call(links.as_slice()) {
-            self.two(Work::Callee(head), Work::Links(Rest::of(links)))
+        if is_called {
+            self.callee(head)
         } else {
-            self.two(Work::Whole(head.get()), Work::Links(Rest::of(links)))
+            self.expression(head)
         }
     }
 
-    pub(crate) fn links(&mut self, links: Rest<'a, Link>) -> Result<(), AllocError>
-        ensures outcome { OnOk result (outcome self.new ≡ done (Work.Links links.entry) self.old) }
-        ensures falls { OnOk result (weight self.new < weight_of (Work.Links links.entry) + weight self.old) }
+    /// An expression that is called: U14 is not met at a bare name.
+    #[cycle(outside)]
+    fn callee(&mut self, callee: &Expression) -> Result<(), AllocError>
+        ensures { OnOk result (self.new ≡ meets (expression_found callee.now).callee self.old) }
     {
-        let Some((first, rest)) = links.split_first() else {
-            return Ok(());
-        };
-        self.one(Work::Links(rest))?;
-        self.link(first)
+        match callee {
+            Expression::Name { span, name } => {
+                self.reference(name.bytes(), span.begin);
+                Ok(())
+            }
+            _ => self.expression(callee),
+        }
     }
 
-    fn link(&mut self, link: &'a Link) -> Result<(), AllocError>
-        ensures outcome { OnOk result (outcome self.new ≡ met (link_found link.now).pairs self.old) }
-        ensures falls { OnOk result (weight self.new < 8 * link_size link.now + weight self.old) }
+    /// An expression that is a key: `Symbol.iterator` may stand there by itself.
+    #[cycle(outside)]
+    pub(crate) fn as_key(&mut self, key: &Expression) -> Result<(), AllocError>
+        ensures { OnOk result (self.new ≡ meets (expression_found key.now).key self.old) }
+    {
+        if self.is_iterator_key(key) {
+            return Ok(());
+        }
+        self.expression(key)
+    }
+
+    #[cycle(outside)]
+    pub(crate) fn links(&mut self, links: &[Link]) -> Result<(), AllocError>
+        ensures { OnOk result (self.new ≡ meets (λ scope. joined (λ l. l.pairs scope) (map link_found links.now)) self.old) }
+    {
+        for link in links {
+            self.link(link)?;
+        }
+        Ok(())
+    }
+
+    #[cycle(outside)]
+    fn link(&mut self, link: &Link) -> Result<(), AllocError>
+        ensures { OnOk result (self.new ≡ meets (link_found link.now).pairs self.old) }
     {
         match link {
             Link::Member { name, .. } => {
                 self.named(name);
                 Ok(())
             }
-            Link::Index { index, .. } => self.one(Work::AsKey(index)),
-            Link::Call { arguments, .. } => self.one(Work::Arguments(Rest::of(arguments))),
+            Link::Index { index, .. } => self.as_key(index),
+            Link::Call { arguments, .. } => self.arguments(arguments.as_slice()),
             Link::Tagged(template) => self.template(template),
         }
     }
+
+    /// Whether an expression is `Symbol.iterator`, which means the same in both realms where it is a key.
+    fn is_iterator_key(&self, key: &Expression) -> bool
+        ensures { (expression_found key.now).key self.now.environment ≡ cond result [] ((expression_found key.now).pairs self.now.environment) }
+    {
+        match key {
+            Expression::Chain { head, links, .. } => {
+                self.is_iterator_of_symbol(head.get(), links.as_slice())
+            }
+            _ => false,
+        }
+    }
+
+    fn is_iterator_of_symbol(&self, head: &Expression, links: &[Link]) -> bool
+        ensures { result ≡ is_iterator_key (expression_found head.now) (map link_found links.now) self.now.environment }
+    {
+        let is_symbol = is_bare_symbol(head);
+        let are_iterator = are_iterator(links);
+        is_symbol & are_iterator & self.environment.is_free(b"Symbol".as_slice())
+    }
 }
 
-fn first_is_call(links: &[Link]) -> bool
+pub(crate) fn first_is_call(links: &[Link]) -> bool
     ensures { result ≡ first_is_call (map link_found links.now) }
 {
     let Some((first, _)) = links.split_first() else {

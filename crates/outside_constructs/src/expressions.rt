@@ -1,23 +1,21 @@
 //! Expressions (ECMA-262, 6th edition, 12).
 
-ghost use Rattle.std.specs.Prelude.{◌≡◌, ◌+◌, ◌*◌, ◌<◌, OnOk};
-ghost use Rattle.outside_constructs.specs.Left.{done, met, outcome, weight};
-ghost use Rattle.outside_constructs.specs.Works.{weight_of};
-ghost use Rattle.es6_static_semantics.specs.Outside.{expression_found};
-ghost use Rattle.es6_sizes.specs.Sizes.{argument_size, element_size, expression_size, template_size};
-ghost use Rattle.module_scopes.specs.Parts.{argument_found, element_found, template_found};
+ghost use Rattle.std.specs.Prelude.{◌≡◌, map, OnOk};
+ghost use Rattle.std.specs.Option.{option_map};
+ghost use Rattle.es6_static_semantics.specs.Findings.{joined, maybe};
+ghost use Rattle.es6_static_semantics.specs.Outside.{argument_found, element_found, expression_found, operand_found, template_found, template_part_found};
+ghost use Rattle.outside_constructs.specs.Walked.{meets};
 
+use crate::chains::first_is_call;
 use crate::walk::Walk;
-use crate::work::Work;
-use borrowed_parts::Rest;
 use es6_ast::{Argument, Element, Expression, Operand, Template, TemplatePart};
 use sqlite_items::Boxed;
 use std::alloc::AllocError;
 
-impl<'a> Walk<'a> {
-    pub(crate) fn expression(&mut self, expression: &'a Expression) -> Result<(), AllocError>
-        ensures outcome { OnOk result (outcome self.new ≡ done (Work.Whole expression.entry) self.old) }
-        ensures falls { OnOk result (weight self.new < weight_of (Work.Whole expression.entry) + weight self.old) }
+impl Walk {
+    #[cycle(outside)]
+    pub(crate) fn expression(&mut self, expression: &Expression) -> Result<(), AllocError>
+        ensures { OnOk result (self.new ≡ meets (expression_found expression.now).pairs self.old) }
     {
         match expression {
             Expression::Name { span, name } => {
@@ -28,19 +26,15 @@ impl<'a> Walk<'a> {
                 Ok(())
             }
             Expression::Template(template) => self.template(template),
-            Expression::ArrayList { elements, .. } => {
-                self.one(Work::Elements(Rest::of(elements)))
-            }
-            Expression::ObjectList { properties, .. } => {
-                self.one(Work::Properties(Rest::of(properties)))
-            }
-            Expression::Function(function) => self.one(Work::Function {
-                function: function.get(),
-                in_object: false,
-            }),
+            Expression::ArrayList { elements, .. } => self.elements(elements.as_slice()),
+            Expression::ObjectList { properties, .. } => self.properties(properties.as_slice()),
+            Expression::Function(function) => self.function(function.get(), false),
             Expression::Arrow(arrow) => self.arrow(arrow.get()),
             Expression::Class(class) => self.class(class.get()),
-            Expression::Chain { head, links, .. } => self.chain(head, links),
+            Expression::Chain { head, links, .. } => {
+                self.head(head.get(), first_is_call(links.as_slice()))?;
+                self.links(links.as_slice())
+            }
             Expression::SuperMember { span, name } => {
                 self.in_object(*span);
                 self.named(name);
@@ -48,120 +42,103 @@ impl<'a> Walk<'a> {
             }
             Expression::SuperIndex { span, index } => {
                 self.in_object(*span);
-                self.one(Work::AsKey(index.get()))
+                self.as_key(index.get())
             }
             Expression::SuperCall { span, arguments } => {
                 self.in_object(*span);
-                self.one(Work::Arguments(Rest::of(arguments)))
+                self.arguments(arguments.as_slice())
             }
             Expression::New {
                 callee,
                 arguments,
                 ..
-            } => self.two(
-                Work::Whole(callee.get()),
-                Work::Arguments(Rest::of(arguments)),
-            ),
-            Expression::Update { target, .. } => self.target(target.get()),
+            } => {
+                self.expression(callee.get())?;
+                self.arguments(arguments.as_slice())
+            }
+            Expression::Update { target, .. } => {
+                self.target(target.get());
+                self.expression(target.get())
+            }
             Expression::Unary {
                 operator,
                 operand,
                 ..
             } => {
                 self.deleted(*operator, operand.get());
-                self.one(Work::Whole(operand.get()))
+                self.expression(operand.get())
             }
             Expression::Power { base, exponent, .. } => {
-                self.two(Work::Whole(base.get()), Work::Whole(exponent.get()))
+                self.expression(base.get())?;
+                self.expression(exponent.get())
             }
-            Expression::Binary { first, rest, .. } => self.two(
-                Work::Whole(first.get()),
-                Work::Operands(Rest::of(rest)),
-            ),
-            Expression::Conditional { test, yes, no, .. } => self.three(
-                Work::Whole(test.get()),
-                Work::Whole(yes.get()),
-                Work::Whole(no.get()),
-            ),
+            Expression::Binary { first, rest, .. } => {
+                self.expression(first.get())?;
+                self.operands(rest.as_slice())
+            }
+            Expression::Conditional { test, yes, no, .. } => {
+                self.expression(test.get())?;
+                self.expression(yes.get())?;
+                self.expression(no.get())
+            }
             Expression::Assign { target, value, .. } => {
-                self.two(Work::Assigned(target), Work::Whole(value.get()))
+                self.targets(target, false)?;
+                self.expression(value.get())
             }
-            Expression::Sequence { first, rest, .. } => self.two(
-                Work::Whole(first.get()),
-                Work::Expressions(Rest::of(rest)),
-            ),
-            Expression::Yield { value, .. } => self.one(Work::OptionalBoxed(value)),
-            Expression::Delegate { value, .. } => self.one(Work::Whole(value.get())),
-            Expression::Group { held, .. } => self.one(Work::Whole(held.get())),
-            Expression::Cover { held, .. } => self.one(Work::OptionalBoxed(held)),
+            Expression::Sequence { first, rest, .. } => {
+                self.expression(first.get())?;
+                self.expressions(rest.as_slice())
+            }
+            Expression::Yield { value, .. } => self.optional_boxed(value),
+            Expression::Delegate { value, .. } => self.expression(value.get()),
+            Expression::Group { held, .. } => self.expression(held.get()),
+            Expression::Cover { held, .. } => self.optional_boxed(held),
         }
     }
 
-    /// An expression that is called: U14 is not met at a bare name.
-    pub(crate) fn callee(&mut self, expression: &'a Boxed<Expression>) -> Result<(), AllocError>
-        ensures outcome { OnOk result (outcome self.new ≡ done (Work.Callee expression.entry) self.old) }
-        ensures falls { OnOk result (weight self.new < weight_of (Work.Callee expression.entry) + weight self.old) }
-    {
-        let expression = expression.get();
-        match expression {
-            Expression::Name { span, name } => {
-                self.reference(name.bytes(), span.begin);
-                Ok(())
-            }
-            _ => self.expression(expression),
-        }
-    }
-
-    pub(crate) fn optional(&mut self, expression: &'a Option<Expression>) -> Result<(), AllocError>
-        ensures outcome { OnOk result (outcome self.new ≡ done (Work.Optional expression.entry) self.old) }
-        ensures falls { OnOk result (weight self.new < weight_of (Work.Optional expression.entry) + weight self.old) }
+    #[cycle(outside)]
+    pub(crate) fn optional(&mut self, expression: &Option<Expression>) -> Result<(), AllocError>
+        ensures { OnOk result (self.new ≡ meets (λ scope. maybe (λ y. y.pairs scope) (option_map expression_found expression.now)) self.old) }
     {
         match expression {
             None => Ok(()),
-            Some(expression) => self.one(Work::Whole(expression)),
+            Some(expression) => self.expression(expression),
         }
     }
 
-    pub(crate) fn optional_boxed(
-        &mut self,
-        expression: &'a Option<Boxed<Expression>>,
-    ) -> Result<(), AllocError>
-        ensures outcome { OnOk result (outcome self.new ≡ done (Work.OptionalBoxed expression.entry) self.old) }
-        ensures falls { OnOk result (weight self.new < weight_of (Work.OptionalBoxed expression.entry) + weight self.old) }
+    #[cycle(outside)]
+    fn optional_boxed(&mut self, expression: &Option<Boxed<Expression>>) -> Result<(), AllocError>
+        ensures { OnOk result (self.new ≡ meets (λ scope. maybe (λ y. y.pairs scope) (option_map expression_found expression.now)) self.old) }
     {
         match expression {
             None => Ok(()),
-            Some(expression) => self.one(Work::Whole(expression.get())),
+            Some(expression) => self.expression(expression.get()),
         }
     }
 
-    pub(crate) fn expressions(
-        &mut self,
-        expressions: Rest<'a, Expression>,
-    ) -> Result<(), AllocError>
-        ensures outcome { OnOk result (outcome self.new ≡ done (Work.Expressions expressions.entry) self.old) }
-        ensures falls { OnOk result (weight self.new < weight_of (Work.Expressions expressions.entry) + weight self.old) }
+    #[cycle(outside)]
+    fn expressions(&mut self, expressions: &[Expression]) -> Result<(), AllocError>
+        ensures { OnOk result (self.new ≡ meets (λ scope. joined (λ x. x.pairs scope) (map expression_found expressions.now)) self.old) }
     {
-        let Some((first, rest)) = expressions.split_first() else {
-            return Ok(());
-        };
-        self.two(Work::Whole(first), Work::Expressions(rest))
+        for expression in expressions {
+            self.expression(expression)?;
+        }
+        Ok(())
     }
 
-    pub(crate) fn elements(&mut self, elements: Rest<'a, Element>) -> Result<(), AllocError>
-        ensures outcome { OnOk result (outcome self.new ≡ done (Work.Elements elements.entry) self.old) }
-        ensures falls { OnOk result (weight self.new < weight_of (Work.Elements elements.entry) + weight self.old) }
+    #[cycle(outside)]
+    fn elements(&mut self, elements: &[Element]) -> Result<(), AllocError>
+        ensures { OnOk result (self.new ≡ meets (λ scope. joined (λ x. x scope) (map element_found elements.now)) self.old) }
     {
-        let Some((first, rest)) = elements.split_first() else {
-            return Ok(());
-        };
-        self.one(Work::Elements(rest))?;
-        self.element(first)
+        for element in elements {
+            self.element(element)?;
+        }
+        Ok(())
     }
 
-    fn element(&mut self, element: &'a Element) -> Result<(), AllocError>
-        ensures outcome { OnOk result (outcome self.new ≡ met (element_found element.now) self.old) }
-        ensures falls { OnOk result (weight self.new < 8 * element_size element.now + weight self.old) }
+    #[cycle(outside)]
+    fn element(&mut self, element: &Element) -> Result<(), AllocError>
+        ensures { OnOk result (self.new ≡ meets (element_found element.now) self.old) }
     {
         match element {
             Element::Hole => Ok(()),
@@ -169,52 +146,52 @@ impl<'a> Walk<'a> {
         }
     }
 
-    pub(crate) fn arguments(&mut self, arguments: Rest<'a, Argument>) -> Result<(), AllocError>
-        ensures outcome { OnOk result (outcome self.new ≡ done (Work.Arguments arguments.entry) self.old) }
-        ensures falls { OnOk result (weight self.new < weight_of (Work.Arguments arguments.entry) + weight self.old) }
+    #[cycle(outside)]
+    pub(crate) fn arguments(&mut self, arguments: &[Argument]) -> Result<(), AllocError>
+        ensures { OnOk result (self.new ≡ meets (λ scope. joined (λ x. x scope) (map argument_found arguments.now)) self.old) }
     {
-        let Some((first, rest)) = arguments.split_first() else {
-            return Ok(());
-        };
-        self.one(Work::Arguments(rest))?;
-        self.argument(first)
+        for argument in arguments {
+            self.argument(argument)?;
+        }
+        Ok(())
     }
 
-    fn argument(&mut self, argument: &'a Argument) -> Result<(), AllocError>
-        ensures outcome { OnOk result (outcome self.new ≡ met (argument_found argument.now) self.old) }
-        ensures falls { OnOk result (weight self.new < 8 * argument_size argument.now + weight self.old) }
+    #[cycle(outside)]
+    fn argument(&mut self, argument: &Argument) -> Result<(), AllocError>
+        ensures { OnOk result (self.new ≡ meets (argument_found argument.now) self.old) }
     {
         match argument {
-            Argument::Single(value) => self.one(Work::Whole(value)),
-            Argument::Spread { value, .. } => self.one(Work::Whole(value)),
+            Argument::Single(value) | Argument::Spread { value, .. } => self.expression(value),
         }
     }
 
-    pub(crate) fn operands(&mut self, operands: Rest<'a, Operand>) -> Result<(), AllocError>
-        ensures outcome { OnOk result (outcome self.new ≡ done (Work.Operands operands.entry) self.old) }
-        ensures falls { OnOk result (weight self.new < weight_of (Work.Operands operands.entry) + weight self.old) }
+    #[cycle(outside)]
+    #[tactic(auto, using(crate::proofs::Walking::walked, crate::proofs::Layers::operand_out))]
+    fn operands(&mut self, operands: &[Operand]) -> Result<(), AllocError>
+        ensures { OnOk result (self.new ≡ meets (λ scope. joined (λ x. x scope) (map operand_found operands.now)) self.old) }
     {
-        let Some((first, rest)) = operands.split_first() else {
-            return Ok(());
-        };
-        self.two(Work::Whole(&first.value), Work::Operands(rest))
+        for operand in operands {
+            self.expression(&operand.value)?;
+        }
+        Ok(())
     }
 
-    /// The values of a template.
-    pub(crate) fn template(&mut self, template: &'a Template) -> Result<(), AllocError>
-        ensures outcome { OnOk result (outcome self.new ≡ met (template_found template.now) self.old) }
-        ensures falls { OnOk result (weight self.new < 8 * template_size template.now + weight self.old) }
+    #[cycle(outside)]
+    #[tactic(auto, using(crate::proofs::Walking::walked, crate::proofs::Layers::template_out))]
+    pub(crate) fn template(&mut self, template: &Template) -> Result<(), AllocError>
+        ensures { OnOk result (self.new ≡ meets (template_found template.now) self.old) }
     {
-        self.one(Work::TemplateParts(Rest::of(&template.rest)))
+        self.template_parts(template.rest.as_slice())
     }
 
-    pub(crate) fn template_parts(&mut self, parts: Rest<'a, TemplatePart>) -> Result<(), AllocError>
-        ensures outcome { OnOk result (outcome self.new ≡ done (Work.TemplateParts parts.entry) self.old) }
-        ensures falls { OnOk result (weight self.new < weight_of (Work.TemplateParts parts.entry) + weight self.old) }
+    #[cycle(outside)]
+    #[tactic(auto, using(crate::proofs::Walking::walked, crate::proofs::Layers::template_part_out))]
+    fn template_parts(&mut self, parts: &[TemplatePart]) -> Result<(), AllocError>
+        ensures { OnOk result (self.new ≡ meets (λ scope. joined (λ x. x scope) (map template_part_found parts.now)) self.old) }
     {
-        let Some((first, rest)) = parts.split_first() else {
-            return Ok(());
-        };
-        self.two(Work::Whole(&first.value), Work::TemplateParts(rest))
+        for part in parts {
+            self.expression(&part.value)?;
+        }
+        Ok(())
     }
 }

@@ -1,139 +1,143 @@
 //! Functions, arrows and classes (ECMA-262, 6th edition, 14).
 
-ghost use Rattle.std.specs.Prelude.{◌≡◌, ◌+◌, ◌*◌, ◌<◌, OnOk};
-ghost use Rattle.outside_constructs.specs.Left.{done, met, outcome, weight};
-ghost use Rattle.outside_constructs.specs.Works.{weight_of};
-ghost use Rattle.es6_static_semantics.specs.Outside.{body_names, class_found, declaring};
-ghost use Rattle.es6_static_semantics.specs.Findings.{joined};
-ghost use Rattle.es6_sizes.specs.Sizes.{arrow_size, block_size, class_size, parameter_size};
-ghost use Rattle.module_scopes.specs.Parts.{arrow_found, block_found, parameter_found};
+ghost use Rattle.std.specs.Prelude.{◌≡◌, ◌∷◌, ◌++◌, [], map, true, OnOk};
+ghost use Rattle.std.specs.Option.{option_map};
+ghost use Rattle.es6_ast.specs.declared.tree.Function.{out-Function};
+ghost use Rattle.es6_static_semantics.specs.Findings.{joined, maybe};
+ghost use Rattle.es6_static_semantics.specs.Outside.{arguments_name, arrow_found, class_found, class_member_found, expression_found, function_found, function_pairs, heritage_pairs, parameter_found, parts_pairs, some_name, statement_found};
+ghost use Rattle.outside_constructs.specs.Walked.{arrow_body_parts, arrow_parts, inside_body, meets, statements_body};
 
 use crate::walk::Walk;
-use crate::work::Work;
-use borrowed_parts::Rest;
-use es6_ast::{
-    Arrow, ArrowBody, Block, Class, ClassMember, Expression, Function, Parameter, Statement,
-};
-use sqlite_items::{Boxed, Items};
+use es6_ast::{Arrow, ArrowBody, Class, ClassMember, Expression, Function, Parameter, Statement};
+use sqlite_items::Boxed;
 use std::alloc::AllocError;
 
-impl<'a> Walk<'a> {
-    /// A function, or the one of a method.
+impl Walk {
+    /// A function, or the one of a method, of an object literal or not.
+    #[cycle(outside)]
+    #[tactic(auto, using(crate::proofs::Walking::walked, crate::proofs::Layers::function_out))]
     pub(crate) fn function(
         &mut self,
-        function: &'a Function,
+        function: &Function,
         in_object: bool,
     ) -> Result<(), AllocError>
-        ensures outcome { OnOk result (outcome self.new ≡ done (Work.Function function.entry in_object) self.old) }
-        ensures falls { OnOk result (weight self.new < weight_of (Work.Function function.entry in_object) + weight self.old) }
+        ensures { OnOk result (self.new ≡ meets ((function_found function.now).pairs in_object) self.old) }
     {
         self.optional_name(&function.name);
-        self.enter_function(function, in_object)?;
-        self.two(
-            Work::Parameters(Rest::of(&function.parameters)),
-            Work::Body(&function.body),
-        )
+        let outer = self.environment.replace_in_object(in_object);
+        self.inside_function(function)?;
+        let _ = self.environment.replace_in_object(outer);
+        Ok(())
     }
 
-    pub(crate) fn arrow(&mut self, arrow: &'a Arrow) -> Result<(), AllocError>
-        ensures outcome { OnOk result (outcome self.new ≡ met (arrow_found arrow.now) self.old) }
-        ensures falls { OnOk result (weight self.new < 8 * arrow_size arrow.now + weight self.old) }
+    /// The parameters and the body of a function.
+    #[cycle(outside)]
+    fn inside_function(&mut self, function: &Function) -> Result<(), AllocError>
+        ensures { OnOk result (self.new ≡ meets (function_pairs (arguments_name ∷ some_name (out-Function function.now).name) (map parameter_found (out-Function function.now).parameters) (statements_body (map statement_found (out-Function function.now).body))) self.old) }
     {
-        self.enter_arrow(&arrow.parameters)?;
-        self.two(
-            Work::Parameters(Rest::of(&arrow.parameters)),
-            Work::ArrowBody(&arrow.body),
-        )
+        let mark = self.enter_function(function)?;
+        self.parameters(function.parameters.as_slice())?;
+        self.body(function.body.as_slice())?;
+        self.leave(mark);
+        Ok(())
     }
 
     /// The statements of a function, in a scope that declares their names.
-    pub(crate) fn body(&mut self, statements: &'a Items<Statement>) -> Result<(), AllocError>
-        ensures outcome { OnOk result (outcome self.new ≡ done (Work.Body statements.entry) self.old) }
-        ensures falls { OnOk result (weight self.new < weight_of (Work.Body statements.entry) + weight self.old) }
+    #[cycle(outside)]
+    fn body(&mut self, statements: &[Statement]) -> Result<(), AllocError>
+        ensures { OnOk result (self.new ≡ meets (inside_body (statements_body (map statement_found statements.now))) self.old) }
     {
-        self.enter_body(statements)?;
-        self.one(Work::Statements(Rest::of(statements)))
+        let mark = self.enter_body(statements)?;
+        self.statements(statements)?;
+        self.leave(mark);
+        Ok(())
     }
 
-    pub(crate) fn arrow_body(&mut self, body: &'a ArrowBody) -> Result<(), AllocError>
-        ensures outcome { OnOk result (outcome self.new ≡ done (Work.ArrowBody body.entry) self.old) }
-        ensures falls { OnOk result (weight self.new < weight_of (Work.ArrowBody body.entry) + weight self.old) }
+    /// An arrow.
+    #[cycle(outside)]
+    pub(crate) fn arrow(&mut self, arrow: &Arrow) -> Result<(), AllocError>
+        ensures { OnOk result (self.new ≡ meets (arrow_found arrow.now) self.old) }
+    {
+        self.inside_arrow(arrow)
+    }
+
+    /// The parameters and the body of an arrow.
+    #[cycle(outside)]
+    fn inside_arrow(&mut self, arrow: &Arrow) -> Result<(), AllocError>
+        ensures { OnOk result (self.new ≡ meets (arrow_parts arrow.now) self.old) }
+    {
+        let mark = self.enter_arrow(arrow.parameters.as_slice())?;
+        self.parameters(arrow.parameters.as_slice())?;
+        self.arrow_body(&arrow.body)?;
+        self.leave(mark);
+        Ok(())
+    }
+
+    #[cycle(outside)]
+    fn arrow_body(&mut self, body: &ArrowBody) -> Result<(), AllocError>
+        ensures { OnOk result (self.new ≡ meets (arrow_body_parts body.now) self.old) }
     {
         match body {
-            ArrowBody::ValueBody(value) => self.one(Work::Whole(value.get())),
-            ArrowBody::BlockBody(block) => self.arrow_block(block),
+            ArrowBody::ValueBody(value) => self.expression(value.get()),
+            ArrowBody::BlockBody(block) => self.body(block.statements.as_slice()),
         }
     }
 
-    /// The body of an arrow in braces, in a scope that declares its names.
-    fn arrow_block(&mut self, block: &'a Block) -> Result<(), AllocError>
-        ensures outcome { OnOk result (outcome self.new ≡ met (λ scope. joined (λ s. s.pairs (declaring (body_names (block_found block.now)) scope)) (block_found block.now)) self.old) }
-        ensures falls { OnOk result (weight self.new < 8 * block_size block.now + weight self.old) }
+    #[cycle(outside)]
+    fn parameters(&mut self, parameters: &[Parameter]) -> Result<(), AllocError>
+        ensures { OnOk result (self.new ≡ meets (parts_pairs true (map parameter_found parameters.now)) self.old) }
     {
-        self.enter_arrow_body(block)?;
-        self.one(Work::Statements(Rest::of(&block.statements)))
+        for parameter in parameters {
+            self.parameter(parameter)?;
+        }
+        Ok(())
     }
 
-    pub(crate) fn parameters(&mut self, parameters: Rest<'a, Parameter>) -> Result<(), AllocError>
-        ensures outcome { OnOk result (outcome self.new ≡ done (Work.Parameters parameters.entry) self.old) }
-        ensures falls { OnOk result (weight self.new < weight_of (Work.Parameters parameters.entry) + weight self.old) }
-    {
-        let Some((first, rest)) = parameters.split_first() else {
-            return Ok(());
-        };
-        self.one(Work::Parameters(rest))?;
-        self.parameter(first)
-    }
-
-    fn parameter(&mut self, parameter: &'a Parameter) -> Result<(), AllocError>
-        ensures outcome { OnOk result (outcome self.new ≡ met (parameter_found parameter.now).bound self.old) }
-        ensures falls { OnOk result (weight self.new < 8 * parameter_size parameter.now + weight self.old) }
+    #[cycle(outside)]
+    fn parameter(&mut self, parameter: &Parameter) -> Result<(), AllocError>
+        ensures { OnOk result (self.new ≡ meets ((parameter_found parameter.now).pairs true) self.old) }
     {
         match parameter {
-            Parameter::SingleParameter(part) => {
-                self.two(Work::Bound(&part.pattern), Work::Optional(&part.default))
-            }
-            Parameter::RestParameter { pattern, .. } => self.one(Work::Bound(pattern)),
+            Parameter::SingleParameter(part) => self.part(part, true),
+            Parameter::RestParameter { pattern, .. } => self.targets(pattern, true),
         }
     }
 
     /// A class: its name is declared in its heritage and its members (14.5.14).
-    pub(crate) fn class(&mut self, class: &'a Class) -> Result<(), AllocError>
-        ensures outcome { OnOk result (outcome self.new ≡ met (class_found class.now).pairs self.old) }
-        ensures falls { OnOk result (weight self.new < 8 * class_size class.now + weight self.old) }
+    #[cycle(outside)]
+    #[tactic(auto, using(crate::proofs::Walking::walked, crate::proofs::Layers::class_out))]
+    pub(crate) fn class(&mut self, class: &Class) -> Result<(), AllocError>
+        ensures { OnOk result (self.new ≡ meets (class_found class.now).pairs self.old) }
     {
         self.optional_name(&class.name);
-        self.enter_class(class)?;
-        self.two(
-            Work::Heritage(&class.heritage),
-            Work::Members(Rest::of(&class.members)),
-        )
+        let mark = self.enter_class(&class.name)?;
+        self.heritage(&class.heritage)?;
+        self.members(class.members.as_slice())?;
+        self.leave(mark);
+        Ok(())
     }
 
-    pub(crate) fn heritage(
-        &mut self,
-        heritage: &'a Option<Boxed<Expression>>,
-    ) -> Result<(), AllocError>
-        ensures outcome { OnOk result (outcome self.new ≡ done (Work.Heritage heritage.entry) self.old) }
-        ensures falls { OnOk result (weight self.new < weight_of (Work.Heritage heritage.entry) + weight self.old) }
+    #[cycle(outside)]
+    fn heritage(&mut self, heritage: &Option<Boxed<Expression>>) -> Result<(), AllocError>
+        ensures { OnOk result (self.new ≡ meets (λ scope. maybe (λ h. heritage_pairs h scope ++ h.pairs scope) (option_map expression_found heritage.now)) self.old) }
     {
         match heritage {
             None => Ok(()),
             Some(heritage) => {
                 self.extended(heritage.get());
-                self.one(Work::Whole(heritage.get()))
+                self.expression(heritage.get())
             }
         }
     }
 
-    pub(crate) fn members(&mut self, members: Rest<'a, ClassMember>) -> Result<(), AllocError>
-        ensures outcome { OnOk result (outcome self.new ≡ done (Work.Members members.entry) self.old) }
-        ensures falls { OnOk result (weight self.new < weight_of (Work.Members members.entry) + weight self.old) }
+    #[cycle(outside)]
+    #[tactic(auto, using(crate::proofs::Walking::walked, crate::proofs::Layers::class_member_out))]
+    fn members(&mut self, members: &[ClassMember]) -> Result<(), AllocError>
+        ensures { OnOk result (self.new ≡ meets (λ scope. joined (λ x. x scope) (map class_member_found members.now)) self.old) }
     {
-        let Some((first, rest)) = members.split_first() else {
-            return Ok(());
-        };
-        self.one(Work::Members(rest))?;
-        self.method(&first.method, false)
+        for member in members {
+            self.method(&member.method, false)?;
+        }
+        Ok(())
     }
 }

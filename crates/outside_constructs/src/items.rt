@@ -1,24 +1,18 @@
 //! The items of a module: imports, exports and statements (ECMA-262, 6th edition, 15.2).
 
-ghost use Rattle.std.specs.Prelude.{◌≡◌, ◌+◌, ◌*◌, ◌<◌, OnOk};
-ghost use Rattle.outside_constructs.specs.Left.{done, met, outcome, weight};
-ghost use Rattle.outside_constructs.specs.Works.{weight_of};
-ghost use Rattle.std.specs.Prelude.{[], ◌∷◌, ◌++◌, ◌&&◌, not};
+ghost use Rattle.std.specs.Prelude.{◌≡◌, [], ◌∷◌, ◌++◌, ◌&&◌, not, OnOk};
 ghost use Rattle.es6_static_semantics.specs.Findings.{joined, when};
 ghost use Rattle.es6_static_semantics.specs.Outside.{all_named, default_found, export_pairs, host_pairs, imported_names, is_bare_or_list, is_host, item_found, more_names, named, some_name};
-ghost use Rattle.outside_constructs.specs.Left.{meets};
-ghost use Rattle.outside_constructs.specs.Works.{default_size, item_size};
+ghost use Rattle.outside_constructs.specs.Walked.{meets};
 
 use crate::walk::Walk;
-use crate::work::Work;
 use es6_ast::{DefaultExport, ExportName, Identifier, ImportName, ImportedNames, Item, Specifier};
 use module_scopes::is_host;
 use std::alloc::AllocError;
 
-impl<'a> Walk<'a> {
-    pub(crate) fn item(&mut self, item: &'a Item) -> Result<(), AllocError>
-        ensures outcome { OnOk result (outcome self.new ≡ met (item_found item.now).pairs self.old) }
-        ensures falls { OnOk result (weight self.new < 8 * item_size item.now + weight self.old) }
+impl Walk {
+    pub(crate) fn item(&mut self, item: &Item) -> Result<(), AllocError>
+        ensures { OnOk result (self.new ≡ meets (item_found item.now).pairs self.old) }
     {
         match item {
             Item::Import {
@@ -44,17 +38,13 @@ impl<'a> Walk<'a> {
         }
     }
 
-    fn exported_default(&mut self, value: &'a DefaultExport) -> Result<(), AllocError>
-        ensures outcome { OnOk result (outcome self.new ≡ met (default_found value.now).pairs self.old) }
-        ensures falls { OnOk result (weight self.new < 8 * (default_size value.now + 1) + weight self.old) }
+    fn exported_default(&mut self, value: &DefaultExport) -> Result<(), AllocError>
+        ensures { OnOk result (self.new ≡ meets (default_found value.now).pairs self.old) }
     {
         match value {
-            DefaultExport::DefaultFunction(function) => self.one(Work::Function {
-                function: function.get(),
-                in_object: false,
-            }),
+            DefaultExport::DefaultFunction(function) => self.function(function.get(), false),
             DefaultExport::DefaultClass(class) => self.class(class.get()),
-            DefaultExport::DefaultValue(value) => self.one(Work::Whole(value)),
+            DefaultExport::DefaultValue(value) => self.expression(value),
         }
     }
 

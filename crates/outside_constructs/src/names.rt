@@ -2,14 +2,14 @@
 
 ghost use Rattle.std.specs.Prelude.{◌≡◌, ◌++◌};
 ghost use Rattle.es6_static_semantics.specs.Outside.{all_named, deleted, expression_found, global_pairs, heritage_pairs, host_pairs, in_object_pairs, name_found, named, reference_pairs, some_name, super_pairs};
-ghost use Rattle.outside_constructs.specs.Left.{meets};
+ghost use Rattle.outside_constructs.specs.Walked.{meets};
 
 use crate::globals::{is_kept_global, is_known_global};
 use crate::walk::Walk;
 use es_text::Span;
 use es6_ast::{Expression, Identifier, Literal, UnaryOperator};
 
-impl<'a> Walk<'a> {
+impl Walk {
     /// U10 at an identifier or a property name.
     pub(crate) fn named(&mut self, name: &Identifier)
         ensures { self.new ≡ meets (λ _. named name.now) self.old }

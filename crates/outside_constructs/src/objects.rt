@@ -1,17 +1,12 @@
 //! Property names, properties and methods (ECMA-262, 6th edition, 12.2.6 and 14.3).
 
-ghost use Rattle.std.specs.Prelude.{◌≡◌, ◌+◌, ◌*◌, ◌<◌, OnOk};
-ghost use Rattle.outside_constructs.specs.Left.{done, met, outcome, weight};
-ghost use Rattle.outside_constructs.specs.Works.{weight_of};
-ghost use Rattle.std.specs.Prelude.{◌||◌, codes, nat_eq};
+ghost use Rattle.std.specs.Prelude.{◌≡◌, ◌||◌, codes, map, nat_eq, OnOk};
 ghost use Rattle.std.specs.List.{starts_with};
-ghost use Rattle.es6_static_semantics.specs.Outside.{is_proto};
-ghost use Rattle.es6_sizes.specs.Sizes.{method_size, property_size};
-ghost use Rattle.module_scopes.specs.Parts.{method_found, property_found};
+ghost use Rattle.es6_static_semantics.specs.Findings.{joined};
+ghost use Rattle.es6_static_semantics.specs.Outside.{is_proto, key_found, method_found, property_found};
+ghost use Rattle.outside_constructs.specs.Walked.{meets};
 
 use crate::walk::Walk;
-use crate::work::Work;
-use borrowed_parts::Rest;
 use es6_ast::{Key, Method, Property};
 use shared_text::Units;
 use std::alloc::AllocError;
@@ -29,11 +24,11 @@ const PROTO: [u16; 9] = [
     b'_' as u16,
 ];
 
-impl<'a> Walk<'a> {
+impl Walk {
     /// U10 at a literal name, and U9 in what is computed.
-    pub(crate) fn key(&mut self, key: &'a Key) -> Result<(), AllocError>
-        ensures outcome { OnOk result (outcome self.new ≡ done (Work.Key key.entry) self.old) }
-        ensures falls { OnOk result (weight self.new < weight_of (Work.Key key.entry) + weight self.old) }
+    #[cycle(outside)]
+    pub(crate) fn key(&mut self, key: &Key) -> Result<(), AllocError>
+        ensures { OnOk result (self.new ≡ meets (key_found key.now) self.old) }
     {
         match key {
             Key::WordKey { span, name } => {
@@ -46,51 +41,49 @@ impl<'a> Walk<'a> {
                 Ok(())
             }
             Key::IntegerKey { .. } => Ok(()),
-            Key::ComputedKey { value, .. } => self.one(Work::AsKey(value.get())),
+            Key::ComputedKey { value, .. } => self.as_key(value.get()),
         }
     }
 
-    pub(crate) fn properties(&mut self, properties: Rest<'a, Property>) -> Result<(), AllocError>
-        ensures outcome { OnOk result (outcome self.new ≡ done (Work.Properties properties.entry) self.old) }
-        ensures falls { OnOk result (weight self.new < weight_of (Work.Properties properties.entry) + weight self.old) }
+    #[cycle(outside)]
+    pub(crate) fn properties(&mut self, properties: &[Property]) -> Result<(), AllocError>
+        ensures { OnOk result (self.new ≡ meets (λ scope. joined (λ x. x scope) (map property_found properties.now)) self.old) }
     {
-        let Some((first, rest)) = properties.split_first() else {
-            return Ok(());
-        };
-        self.one(Work::Properties(rest))?;
-        self.property(first)
+        for property in properties {
+            self.property(property)?;
+        }
+        Ok(())
     }
 
-    fn property(&mut self, property: &'a Property) -> Result<(), AllocError>
-        ensures outcome { OnOk result (outcome self.new ≡ met (property_found property.now) self.old) }
-        ensures falls { OnOk result (weight self.new < 8 * property_size property.now + weight self.old) }
+    #[cycle(outside)]
+    fn property(&mut self, property: &Property) -> Result<(), AllocError>
+        ensures { OnOk result (self.new ≡ meets (property_found property.now) self.old) }
     {
         match property {
-            Property::Plain { key, value, .. } => self.two(Work::Key(key), Work::Whole(value)),
+            Property::Plain { key, value, .. } => {
+                self.key(key)?;
+                self.expression(value)
+            }
             Property::Shorthand { span, name } => {
                 self.name(*span, name.bytes());
                 Ok(())
             }
             Property::Initialized { name, value, .. } => {
                 self.name(name.span, name.name.bytes());
-                self.one(Work::Whole(value))
+                self.expression(value)
             }
             Property::Defined(method) => self.method(method, true),
         }
     }
 
     /// A method of an object literal or of a class.
-    pub(crate) fn method(&mut self, method: &'a Method, in_object: bool) -> Result<(), AllocError>
-        ensures outcome { OnOk result (outcome self.new ≡ met ((method_found method.now).pairs in_object) self.old) }
-        ensures falls { OnOk result (weight self.new < 8 * method_size method.now + weight self.old) }
+    #[cycle(outside)]
+    #[tactic(auto, using(crate::proofs::Walking::walked, crate::proofs::Layers::method_out))]
+    pub(crate) fn method(&mut self, method: &Method, in_object: bool) -> Result<(), AllocError>
+        ensures { OnOk result (self.new ≡ meets ((method_found method.now).pairs in_object) self.old) }
     {
-        self.two(
-            Work::Key(&method.key),
-            Work::Function {
-                function: method.function.get(),
-                in_object,
-            },
-        )
+        self.key(&method.key)?;
+        self.function(method.function.get(), in_object)
     }
 }
 

@@ -6,7 +6,6 @@ ghost use Rattle.early_findings.specs.Pairs.{pair_of};
 ghost use Rattle.es6_static_semantics.specs.Findings.{IsFirst, least_pair};
 ghost use Rattle.es6_static_semantics.specs.Outside.{outside_pairs};
 
-use crate::stack::Stack;
 use crate::walk::Walk;
 use early_findings::{Finder, Finding};
 use es6_ast::Module;
@@ -34,11 +33,9 @@ fn least_outside(alloc: Global, tree: &Module) -> Result<Option<Finding>, AllocE
     let mut walk = Walk {
         finder: Finder::new(alloc),
         environment,
-        stack: Stack::new(alloc),
     };
     for item in items {
         walk.item(item)?;
-        walk.run()?;
     }
     Ok(walk.finder.least())
 }

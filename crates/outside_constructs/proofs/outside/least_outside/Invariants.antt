@@ -10,5 +10,4 @@ invariant-loop-item l =
     record {
       least : least_with l.walk.finder (joined (λ x. x.pairs scope) (map item_found (drop l.item-index l.items))) ≡ least_with None (joined (λ x. x.pairs scope) (map item_found l.items));
       environment : l.walk.environment ≡ scope;
-      stack : l.walk.stack ≡ [];
     }

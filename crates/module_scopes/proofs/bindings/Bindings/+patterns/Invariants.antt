@@ -1,6 +1,6 @@
 use Rattle.std.proofs.Common.{◌≡◌, ◌++◌, false, map, drop}
 use Rattle.es6_static_semantics.specs.Outside.{knows, parts_names}
-use Rattle.module_scopes.specs.Parts.{array_part_found, object_part_found}
+use Rattle.es6_static_semantics.specs.Outside.{array_part_found, object_part_found}
 use Rattle.module_scopes.proofs.bindings.Bindings.+patterns.Given as goal
 
 abbrev pub invariant-array_parts-loop-part : goal.invariant-array_parts-loop-part

@@ -1,7 +1,7 @@
 use Rattle.std.proofs.Common.{◌≡◌, ◌++◌, false, map, drop}
 use Rattle.es6_static_semantics.specs.Findings.{joined}
 use Rattle.es6_static_semantics.specs.Outside.{block_names, knows}
-use Rattle.module_scopes.specs.Parts.{case_found}
+use Rattle.es6_static_semantics.specs.Outside.{case_found}
 use Rattle.module_scopes.proofs.bindings.Bindings.cases.Given as goal
 
 abbrev pub invariant-loop-case : goal.invariant-loop-case

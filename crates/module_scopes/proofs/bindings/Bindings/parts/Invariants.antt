@@ -1,6 +1,6 @@
 use Rattle.std.proofs.Common.{◌≡◌, ◌++◌, false, map, drop}
 use Rattle.es6_static_semantics.specs.Outside.{knows, parts_names}
-use Rattle.module_scopes.specs.Parts.{part_found}
+use Rattle.es6_static_semantics.specs.Outside.{part_found}
 use Rattle.module_scopes.proofs.bindings.Bindings.parts.Given as goal
 
 abbrev pub invariant-loop-part : goal.invariant-loop-part

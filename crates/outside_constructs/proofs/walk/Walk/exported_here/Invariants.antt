@@ -10,5 +10,4 @@ invariant-loop-name l =
     record {
       least : least_with l.self.finder (joined (λ n. named n.local ++ named n.exported ++ host_pairs n.local.name n.local.span.begin scope) (drop l.name-index l.names)) ≡ least_with l.initial.self.finder (joined (λ n. named n.local ++ named n.exported ++ host_pairs n.local.name n.local.span.begin scope) l.names);
       environment : l.self.environment ≡ scope;
-      stack : l.self.stack ≡ l.initial.self.stack;
     }

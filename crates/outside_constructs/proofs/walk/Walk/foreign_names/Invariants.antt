@@ -10,5 +10,4 @@ invariant-loop-name l =
     record {
       least : least_with l.self.finder (all_named (joined (λ n. n.imported ∷ []) (drop l.name-index l.names))) ≡ least_with l.initial.self.finder (all_named (joined (λ n. n.imported ∷ []) l.names));
       environment : l.self.environment ≡ scope;
-      stack : l.self.stack ≡ l.initial.self.stack;
     }

@@ -19,4 +19,4 @@ drop_back xs ys =
     let n : length (xs ++ ys) - length ys ≡ length xs = omega (arith, length-append xs ys) in
     ap (λ k. drop k (xs ++ ys)) n ∙ drop_past xs ys
 
-pub ruleset outcomes = (fold_append, joined_append, drop_back)
+pub ruleset walked = (fold_append, joined_append, drop_back)
