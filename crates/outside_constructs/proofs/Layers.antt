@@ -1,5 +1,5 @@
 -- What the nodes that are structs give, by their fields.
-use Rattle.std.proofs.Common.{◌≡◌, ◌∙◌, Bool, List, ap, [], ◌∷◌, ◌++◌, map, true, false, refl, rules}
+use Rattle.std.proofs.Common.{◌≡◌, ◌∙◌, Bool, List, ap, ◌∷◌, ◌++◌, map, true, false, refl, rules}
 use Rattle.std.proofs.lemmas.List.{append-nil}
 use Rattle.std.specs.Option.{option_map}
 use Rattle.es6_ast.specs.declared.tree.Argument.TheFolds.{the_lemmas}
@@ -7,13 +7,13 @@ use Rattle.es6_ast.specs.declared.tree.Arrow.{Arrow, out-Arrow, fold_out-Arrow}
 use Rattle.es6_ast.specs.declared.tree.Block.{Block, out-Block, fold_out-Block}
 use Rattle.es6_ast.specs.declared.tree.Case.{Case, out-Case, fold_out-Case}
 use Rattle.es6_ast.specs.declared.tree.Catch.{Catch, out-Catch, fold_out-Catch}
-use Rattle.es6_ast.specs.declared.tree.Class.{Class, out-Class, fold_out-Class}
+use Rattle.es6_ast.specs.declared.tree.Class.{Class, out-Class}
 use Rattle.es6_ast.specs.declared.tree.ClassMember.{ClassMember, out-ClassMember, fold_out-ClassMember}
 use Rattle.es6_ast.specs.declared.tree.Condition.{Condition, out-Condition, fold_out-Condition}
 use Rattle.es6_ast.specs.declared.tree.Function.{Function, out-Function, fold_out-Function}
 use Rattle.es6_ast.specs.declared.tree.Method.{Method, out-Method, fold_out-Method}
 use Rattle.es6_ast.specs.declared.tree.Operand.{Operand, out-Operand, fold_out-Operand}
-use Rattle.es6_ast.specs.declared.tree.Part.{Part, out-Part, fold_out-Part}
+use Rattle.es6_ast.specs.declared.tree.Part.{Part, out-Part}
 use Rattle.es6_ast.specs.declared.tree.Template.{Template, out-Template, fold_out-Template}
 use Rattle.es6_ast.specs.declared.tree.TemplatePart.{TemplatePart, out-TemplatePart, fold_out-TemplatePart}
 use Rattle.es6_ast.specs.declared.tree.Argument.{Argument}

@@ -1,4 +1,4 @@
-use Rattle.std.proofs.Common.{◌≡◌, [], None, false, map, drop}
+use Rattle.std.proofs.Common.{◌≡◌, None, false, map, drop}
 use Rattle.early_findings.specs.Pairs.{least_with}
 use Rattle.es6_static_semantics.specs.Findings.{joined}
 use Rattle.es6_static_semantics.specs.Outside.{Scope, item_found}

@@ -1,4 +1,4 @@
-use Rattle.std.proofs.Common.{◌≡◌, drop, map, true}
+use Rattle.std.proofs.Common.{drop, map, true}
 use Rattle.es6_static_semantics.specs.Findings.{joined}
 use Rattle.es6_static_semantics.specs.Outside.{argument_found, array_part_found, case_found, class_member_found, condition_found, element_found, expression_found, link_found, object_part_found, operand_found, parameter_found, part_found, parts_pairs, property_found, statement_found, statements_pairs, template_part_found}
 use Rattle.outside_constructs.specs.Walked.{Meeting}
