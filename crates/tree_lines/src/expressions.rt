@@ -1,270 +1,191 @@
 //! Expressions and their parts.
 
-use crate::operators;
-use crate::show::{Show, Stack, leave, leave_two, node, node_named, node_of_units, node_with};
-use borrowed_parts::Rest;
-use es_text::Span;
-use es6_ast::{
-    Argument, Element, Expression, Key, Link, Literal, Property, Template, TemplatePart,
-};
-use std::io::{self, Write};
+use crate::nodes::Nodes;
+use crate::words::ending_word;
+use es6_ast::{Argument, Element, Expression, Key, Link, Property, Template};
+use sqlite_items::Boxed;
 
-fn literal<W: Write>(out: &mut W, span: Span, literal: &Literal) -> io::Result<()> {
-    match literal {
-        Literal::Null => node_with(out, "Literal", span, "null"),
-        Literal::Truth(true) => node_with(out, "Literal", span, "true"),
-        Literal::Truth(false) => node_with(out, "Literal", span, "false"),
-        Literal::Integer(value) => {
-            let begin = span.begin;
-            let end = span.end;
-            writeln!(out, "Literal {begin} {end} {value}")
-        }
-        Literal::Text(text) => {
-            let begin = span.begin;
-            let end = span.end;
-            write!(out, "Literal {begin} {end} text ")?;
-            crate::show::write_units(out, text.units())?;
-            writeln!(out, "")
+impl<'a> Nodes<'a> {
+    /// An expression, whose parts are left.
+    pub(crate) fn show_expression(&mut self, expression: &'a Expression) {
+        match expression {
+            Expression::This { span } => self.text.node("This", *span),
+            Expression::Name { span, name } => self.text.node_named("Name", *span, name.bytes()),
+            Expression::Literal { span, literal } => self.text.literal(*span, literal),
+            Expression::NewTarget { span } => self.text.node("NewTarget", *span),
+            Expression::Template(template) => self.template(template),
+            Expression::ArrayList {
+                span,
+                elements,
+                ends_in_comma,
+            } => {
+                self.text
+                    .node_with("ArrayList", *span, ending_word(*ends_in_comma));
+                self.elements(elements.as_slice());
+            }
+            Expression::ObjectList { span, properties } => {
+                self.text.node("ObjectList", *span);
+                self.properties(properties.as_slice());
+            }
+            Expression::Function(function) => self.function(function.get()),
+            Expression::Class(class) => self.class(class.get()),
+            Expression::Group { span, held } => {
+                self.text.node("Group", *span);
+                self.expression(held.get());
+            }
+            Expression::Cover { span, .. } => self.text.node("Cover", *span),
+            other => self.left_hand_side(other),
         }
     }
-}
 
-/// An expression.
-pub fn expression<'a, W: Write>(
-    out: &mut W,
-    stack: &mut Stack<'a>,
-    expression: &'a Expression,
-) -> io::Result<()> {
-    match expression {
-        Expression::This { span } => node(out, "This", *span),
-        Expression::Name { span, name } => node_named(out, "Name", *span, name.bytes()),
-        Expression::Literal {
-            span,
-            literal: value,
-        } => literal(out, *span, value),
-        Expression::NewTarget { span } => node(out, "NewTarget", *span),
-        Expression::Template(whole) => template(out, stack, whole),
-        Expression::ArrayList {
-            span,
-            elements,
-            ends_in_comma,
-        } => {
-            let word = if *ends_in_comma { "comma" } else { "plain" };
-            node_with(out, "ArrayList", *span, word)?;
-            leave(stack, Show::Elements(Rest::of(&elements)))
-        }
-        Expression::ObjectList { span, properties } => {
-            node(out, "ObjectList", *span)?;
-            leave(stack, Show::Properties(Rest::of(&properties)))
-        }
-        Expression::Function(function) => leave(stack, Show::Function(function.get())),
-        Expression::Class(class) => leave(stack, Show::Class(class.get())),
-        Expression::Group { span, held } => {
-            node(out, "Group", *span)?;
-            leave(stack, Show::Expression(held.get()))
-        }
-        Expression::Cover { span, .. } => node(out, "Cover", *span),
-        other => left_hand_side(out, stack, other),
-    }
-}
-
-/// Accesses and calls (ECMA-262, 6th edition, 12.3).
-fn left_hand_side<'a, W: Write>(
-    out: &mut W,
-    stack: &mut Stack<'a>,
-    expression: &'a Expression,
-) -> io::Result<()> {
-    match expression {
-        Expression::Chain { span, head, links } => {
-            node(out, "Chain", *span)?;
-            leave_two(
-                stack,
-                Show::Expression(head.get()),
-                Show::Links(Rest::of(&links)),
-            )
-        }
-        Expression::SuperMember { span, name } => {
-            node(out, "SuperMember", *span)?;
-            leave(stack, Show::Identifier(name))
-        }
-        Expression::SuperIndex { span, index } => {
-            node(out, "SuperIndex", *span)?;
-            leave(stack, Show::Expression(index.get()))
-        }
-        Expression::SuperCall { span, arguments } => {
-            node(out, "SuperCall", *span)?;
-            leave(stack, Show::Arguments(Rest::of(&arguments)))
-        }
-        Expression::New {
-            span,
-            callee,
-            arguments,
-        } => {
-            node(out, "New", *span)?;
-            leave_two(
-                stack,
-                Show::Expression(callee.get()),
-                Show::Arguments(Rest::of(&arguments)),
-            )
-        }
-        other => operators::with_operators(out, stack, other),
-    }
-}
-
-/// A template.
-pub fn template<'a, W: Write>(
-    out: &mut W,
-    stack: &mut Stack<'a>,
-    template: &'a Template,
-) -> io::Result<()> {
-    node(out, "Template", template.span)?;
-    leave_two(
-        stack,
-        Show::Stretch(&template.first),
-        Show::TemplateParts(Rest::of(&template.rest)),
-    )
-}
-
-/// The first of a template's values with the stretch behind it, and the others.
-pub fn template_parts<'a>(stack: &mut Stack<'a>, list: Rest<'a, TemplatePart>) -> io::Result<()> {
-    if let Some((first, rest)) = list.split_first() {
-        stack.push(Show::TemplateParts(rest))?;
-        leave_two(
-            stack,
-            Show::Expression(&first.value),
-            Show::Stretch(&first.after),
-        )?;
-    }
-    Ok(())
-}
-
-fn argument<'a, W: Write>(
-    out: &mut W,
-    stack: &mut Stack<'a>,
-    argument: &'a Argument,
-) -> io::Result<()> {
-    match argument {
-        Argument::Single(value) => leave(stack, Show::Expression(value)),
-        Argument::Spread { span, value } => {
-            node(out, "Spread", *span)?;
-            leave(stack, Show::Expression(value))
+    /// Accesses and calls (ECMA-262, 6th edition, 12.3), or else an expression with an operator.
+    fn left_hand_side(&mut self, expression: &'a Expression) {
+        match expression {
+            Expression::Chain { span, head, links } => {
+                self.text.node("Chain", *span);
+                self.expression(head.get());
+                self.links(links.as_slice());
+            }
+            Expression::SuperMember { span, name } => {
+                self.text.node("SuperMember", *span);
+                self.text.identifier(name);
+            }
+            Expression::SuperIndex { span, index } => {
+                self.text.node("SuperIndex", *span);
+                self.expression(index.get());
+            }
+            Expression::SuperCall { span, arguments } => {
+                self.text.node("SuperCall", *span);
+                self.arguments(arguments.as_slice());
+            }
+            Expression::New {
+                span,
+                callee,
+                arguments,
+            } => {
+                self.text.node("New", *span);
+                self.expression(callee.get());
+                self.arguments(arguments.as_slice());
+            }
+            other => self.with_operators(other),
         }
     }
-}
 
-/// The first argument, and the others.
-pub fn arguments<'a, W: Write>(
-    out: &mut W,
-    stack: &mut Stack<'a>,
-    list: Rest<'a, Argument>,
-) -> io::Result<()> {
-    if let Some((first, rest)) = list.split_first() {
-        stack.push(Show::Arguments(rest))?;
-        argument(out, stack, first)?;
-    }
-    Ok(())
-}
-
-/// The first element, and the others.
-pub fn elements<'a, W: Write>(
-    out: &mut W,
-    stack: &mut Stack<'a>,
-    list: Rest<'a, Element>,
-) -> io::Result<()> {
-    if let Some((first, rest)) = list.split_first() {
-        stack.push(Show::Elements(rest))?;
-        match first {
-            Element::Hole => writeln!(out, "Hole")?,
-            Element::Present(present) => argument(out, stack, present)?,
+    /// An expression, if there is one.
+    pub(crate) fn held(&mut self, expression: &'a Option<Boxed<Expression>>) {
+        match expression {
+            None => (),
+            Some(expression) => self.expression(expression.get()),
         }
     }
-    Ok(())
-}
 
-fn property<'a, W: Write>(
-    out: &mut W,
-    stack: &mut Stack<'a>,
-    property: &'a Property,
-) -> io::Result<()> {
-    match property {
-        Property::Plain { span, key, value } => {
-            node(out, "Plain", *span)?;
-            leave_two(stack, Show::Key(key), Show::Expression(value))
-        }
-        Property::Shorthand { span, name } => node_named(out, "Shorthand", *span, name.bytes()),
-        Property::Initialized {
-            span,
-            name,
-            value,
-            ..
-        } => {
-            node(out, "Initialized", *span)?;
-            leave_two(stack, Show::Identifier(name), Show::Expression(value))
-        }
-        Property::Defined(method) => leave(stack, Show::Method(method)),
-    }
-}
-
-/// The first property, and the others.
-pub fn properties<'a, W: Write>(
-    out: &mut W,
-    stack: &mut Stack<'a>,
-    list: Rest<'a, Property>,
-) -> io::Result<()> {
-    if let Some((first, rest)) = list.split_first() {
-        stack.push(Show::Properties(rest))?;
-        property(out, stack, first)?;
-    }
-    Ok(())
-}
-
-fn link<'a, W: Write>(out: &mut W, stack: &mut Stack<'a>, link: &'a Link) -> io::Result<()> {
-    match link {
-        Link::Member { span, name } => {
-            node(out, "Member", *span)?;
-            leave(stack, Show::Identifier(name))
-        }
-        Link::Index { span, index } => {
-            node(out, "Index", *span)?;
-            leave(stack, Show::Expression(index))
-        }
-        Link::Call { span, arguments } => {
-            node(out, "Call", *span)?;
-            leave(stack, Show::Arguments(Rest::of(&arguments)))
-        }
-        Link::Tagged(template) => {
-            node(out, "Tagged", template.span)?;
-            leave(stack, Show::Template(template))
+    /// A template: its stretches, with a value between each two.
+    fn template(&mut self, template: &'a Template) {
+        self.text.node("Template", template.span);
+        self.text.stretch(&template.first);
+        for part in template.rest.as_slice() {
+            self.expression(&part.value);
+            self.text.stretch(&part.after);
         }
     }
-}
 
-/// The first access or call, and the others.
-pub fn links<'a, W: Write>(
-    out: &mut W,
-    stack: &mut Stack<'a>,
-    list: Rest<'a, Link>,
-) -> io::Result<()> {
-    if let Some((first, rest)) = list.split_first() {
-        stack.push(Show::Links(rest))?;
-        link(out, stack, first)?;
-    }
-    Ok(())
-}
-
-/// A property name.
-pub fn key<'a, W: Write>(out: &mut W, stack: &mut Stack<'a>, key: &'a Key) -> io::Result<()> {
-    match key {
-        Key::WordKey { span, name } => node_named(out, "WordKey", *span, name.bytes()),
-        Key::TextKey { span, units } => node_of_units(out, "TextKey", *span, units.units()),
-        Key::IntegerKey { span, value } => {
-            let begin = span.begin;
-            let end = span.end;
-            writeln!(out, "IntegerKey {begin} {end} {value}")
+    fn argument(&mut self, argument: &'a Argument) {
+        match argument {
+            Argument::Single(value) => self.expression(value),
+            Argument::Spread { span, value } => {
+                self.text.node("Spread", *span);
+                self.expression(value);
+            }
         }
-        Key::ComputedKey { span, value } => {
-            node(out, "ComputedKey", *span)?;
-            leave(stack, Show::Expression(value.get()))
+    }
+
+    fn arguments(&mut self, arguments: &'a [Argument]) {
+        for argument in arguments {
+            self.argument(argument);
+        }
+    }
+
+    fn elements(&mut self, elements: &'a [Element]) {
+        for element in elements {
+            match element {
+                Element::Hole => self.text.word("Hole"),
+                Element::Present(argument) => self.argument(argument),
+            }
+        }
+    }
+
+    fn properties(&mut self, properties: &'a [Property]) {
+        for property in properties {
+            self.property(property);
+        }
+    }
+
+    fn property(&mut self, property: &'a Property) {
+        match property {
+            Property::Plain { span, key, value } => {
+                self.text.node("Plain", *span);
+                self.key(key);
+                self.expression(value);
+            }
+            Property::Shorthand { span, name } => {
+                self.text.node_named("Shorthand", *span, name.bytes());
+            }
+            Property::Initialized {
+                span,
+                name,
+                value,
+                ..
+            } => {
+                self.text.node("Initialized", *span);
+                self.text.identifier(name);
+                self.expression(value);
+            }
+            Property::Defined(method) => self.method(method),
+        }
+    }
+
+    fn links(&mut self, links: &'a [Link]) {
+        for link in links {
+            self.link(link);
+        }
+    }
+
+    /// An access or a call.
+    fn link(&mut self, link: &'a Link) {
+        match link {
+            Link::Member { span, name } => {
+                self.text.node("Member", *span);
+                self.text.identifier(name);
+            }
+            Link::Index { span, index } => {
+                self.text.node("Index", *span);
+                self.expression(index);
+            }
+            Link::Call { span, arguments } => {
+                self.text.node("Call", *span);
+                self.arguments(arguments.as_slice());
+            }
+            Link::Tagged(template) => {
+                self.text.node("Tagged", template.span);
+                self.template(template);
+            }
+        }
+    }
+
+    /// A property name.
+    pub(crate) fn key(&mut self, key: &'a Key) {
+        match key {
+            Key::WordKey { span, name } => self.text.node_named("WordKey", *span, name.bytes()),
+            Key::TextKey { span, units } => self
+                .text
+                .node_of_units("TextKey", *span, units.units()),
+            Key::IntegerKey { span, value } => self
+                .text
+                .node_of_number("IntegerKey", *span, *value),
+            Key::ComputedKey { span, value } => {
+                self.text.node("ComputedKey", *span);
+                self.expression(value.get());
+            }
         }
     }
 }

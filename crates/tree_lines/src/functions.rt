@@ -1,79 +1,43 @@
 //! Functions, methods and classes.
 
-use crate::show::{Show, Stack, leave, leave_two, node, node_with};
-use borrowed_parts::Rest;
-use es6_ast::{Class, ClassMember, Function, Method, MethodKind};
-use std::io::{self, Write};
+use crate::nodes::Nodes;
+use crate::words::{function_word, member_word, method_word};
+use es6_ast::{Class, ClassMember, Function, Method};
 
-/// A function.
-pub fn function<'a, W: Write>(
-    out: &mut W,
-    stack: &mut Stack<'a>,
-    function: &'a Function,
-) -> io::Result<()> {
-    let word = if function.is_generator {
-        "generator"
-    } else {
-        "plain"
-    };
-    node_with(out, "Function", function.span, word)?;
-    leave_two(
-        stack,
-        Show::Parameters(Rest::of(&function.parameters)),
-        Show::Statements(Rest::of(&function.body)),
-    )?;
-    match &function.name {
-        None => Ok(()),
-        Some(name) => leave(stack, Show::Identifier(name)),
+impl<'a> Nodes<'a> {
+    /// A function.
+    pub(crate) fn function(&mut self, function: &'a Function) {
+        self.text.node_with(
+            "Function",
+            function.span,
+            function_word(function.is_generator),
+        );
+        self.text.name(&function.name);
+        self.parameters(function.parameters.as_slice());
+        self.statements(function.body.as_slice());
     }
-}
 
-fn method_word(kind: MethodKind) -> &'static str {
-    match kind {
-        MethodKind::PlainMethod => "method",
-        MethodKind::GetterMethod => "get",
-        MethodKind::SetterMethod => "set",
-        MethodKind::GeneratorMethod => "generator",
+    /// A method.
+    pub(crate) fn method(&mut self, method: &'a Method) {
+        self.text
+            .node_with("Method", method.span, method_word(method.kind));
+        self.key(&method.key);
+        self.function(method.function.get());
     }
-}
 
-/// A method.
-pub fn method<'a, W: Write>(
-    out: &mut W,
-    stack: &mut Stack<'a>,
-    method: &'a Method,
-) -> io::Result<()> {
-    node_with(out, "Method", method.span, method_word(method.kind))?;
-    leave_two(
-        stack,
-        Show::Key(&method.key),
-        Show::Function(method.function.get()),
-    )
-}
+    /// A class.
+    pub(crate) fn class(&mut self, class: &'a Class) {
+        self.text.node("Class", class.span);
+        self.text.name(&class.name);
+        self.held(&class.heritage);
+        self.members(class.members.as_slice());
+    }
 
-/// A class.
-pub fn class<'a, W: Write>(out: &mut W, stack: &mut Stack<'a>, class: &'a Class) -> io::Result<()> {
-    node(out, "Class", class.span)?;
-    leave(stack, Show::Members(Rest::of(&class.members)))?;
-    if let Some(heritage) = &class.heritage {
-        leave(stack, Show::Expression(heritage.get()))?;
+    fn members(&mut self, members: &'a [ClassMember]) {
+        for member in members {
+            self.text
+                .node_with("ClassMember", member.span, member_word(member.is_static));
+            self.method(&member.method);
+        }
     }
-    match &class.name {
-        None => Ok(()),
-        Some(name) => leave(stack, Show::Identifier(name)),
-    }
-}
-
-/// The first member of a class, and the others.
-pub fn members<'a, W: Write>(
-    out: &mut W,
-    stack: &mut Stack<'a>,
-    list: Rest<'a, ClassMember>,
-) -> io::Result<()> {
-    if let Some((first, rest)) = list.split_first() {
-        let word = if first.is_static { "static" } else { "plain" };
-        node_with(out, "ClassMember", first.span, word)?;
-        leave_two(stack, Show::Method(&first.method), Show::Members(rest))?;
-    }
-    Ok(())
 }

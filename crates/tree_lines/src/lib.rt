@@ -1,13 +1,16 @@
 //! The trees of modules as lines, for comparisons: a node a line, with its begin and end in bytes, before the nodes of its parts.
 #![tactic(auto)]
 
-mod assignments;
 mod expressions;
 mod functions;
 mod items;
+mod lines;
+mod names;
+mod nodes;
 mod operators;
 mod patterns;
-mod show;
 mod statements;
+mod text;
+mod words;
 
-pub use show::{Show, node, write_nodes};
+pub use lines::Lines;

@@ -1,117 +1,108 @@
-//! Expressions with operators (ECMA-262, 6th edition, 12.4 to 12.13).
+//! Expressions with operators, arrow functions, `yield` and sequences (ECMA-262, 6th edition, 12.4 to 12.15, 14.2, 14.4).
 
-use crate::assignments;
-use crate::show::{Show, Stack, leave, leave_two, node, node_with};
-use borrowed_parts::Rest;
-use es6_ast::{BinaryOperator, Expression, Operand, UnaryOperator, UpdateOperator};
-use std::io::{self, Write};
+use crate::nodes::Nodes;
+use crate::words::{assign_word, binary_word, unary_word, update_word};
+use es6_ast::{Arrow, ArrowBody, Expression, Operand};
 
-fn unary_word(operator: UnaryOperator) -> &'static str {
-    match operator {
-        UnaryOperator::Delete => "delete",
-        UnaryOperator::Void => "void",
-        UnaryOperator::Typeof => "typeof",
-        UnaryOperator::Plus => "+",
-        UnaryOperator::Minus => "-",
-        UnaryOperator::BitNot => "~",
-        UnaryOperator::Not => "!",
-    }
-}
-
-fn update_word(operator: UpdateOperator) -> &'static str {
-    match operator {
-        UpdateOperator::IncrementBefore => "++x",
-        UpdateOperator::DecrementBefore => "--x",
-        UpdateOperator::IncrementAfter => "x++",
-        UpdateOperator::DecrementAfter => "x--",
-    }
-}
-
-fn binary_word(operator: BinaryOperator) -> &'static str {
-    match operator {
-        BinaryOperator::Or => "||",
-        BinaryOperator::And => "&&",
-        BinaryOperator::BitOr => "|",
-        BinaryOperator::BitXor => "^",
-        BinaryOperator::BitAnd => "&",
-        BinaryOperator::Equal => "==",
-        BinaryOperator::NotEqual => "!=",
-        BinaryOperator::Same => "===",
-        BinaryOperator::NotSame => "!==",
-        BinaryOperator::Less => "<",
-        BinaryOperator::Greater => ">",
-        BinaryOperator::AtMost => "<=",
-        BinaryOperator::AtLeast => ">=",
-        BinaryOperator::InstanceOf => "instanceof",
-        BinaryOperator::In => "in",
-        BinaryOperator::ShiftLeft => "<<",
-        BinaryOperator::ShiftRight => ">>",
-        BinaryOperator::ShiftRightUnsigned => ">>>",
-        BinaryOperator::Add => "+",
-        BinaryOperator::Subtract => "-",
-        BinaryOperator::Multiply => "*",
-        BinaryOperator::Divide => "/",
-        BinaryOperator::Remainder => "%",
-    }
-}
-
-/// Expressions with an operator that assigns nothing, or else the others.
-pub fn with_operators<'a, W: Write>(
-    out: &mut W,
-    stack: &mut Stack<'a>,
-    expression: &'a Expression,
-) -> io::Result<()> {
-    match expression {
-        Expression::Update {
-            span,
-            operator,
-            target,
-        } => {
-            node_with(out, "Update", *span, update_word(*operator))?;
-            leave(stack, Show::Expression(target.get()))
+impl<'a> Nodes<'a> {
+    /// Expressions with an operator that assigns nothing (12.4 to 12.12), or else those of the levels below them.
+    pub(crate) fn with_operators(&mut self, expression: &'a Expression) {
+        match expression {
+            Expression::Update {
+                span,
+                operator,
+                target,
+            } => {
+                self.text.node_with("Update", *span, update_word(*operator));
+                self.expression(target.get());
+            }
+            Expression::Unary {
+                span,
+                operator,
+                operand,
+            } => {
+                self.text.node_with("Unary", *span, unary_word(*operator));
+                self.expression(operand.get());
+            }
+            Expression::Power {
+                span,
+                base,
+                exponent,
+            } => {
+                self.text.node("Power", *span);
+                self.expression(base.get());
+                self.expression(exponent.get());
+            }
+            Expression::Binary { span, first, rest } => {
+                self.text.node("Binary", *span);
+                self.expression(first.get());
+                self.operands(rest.as_slice());
+            }
+            other => self.assignment(other),
         }
-        Expression::Unary {
-            span,
-            operator,
-            operand,
-        } => {
-            node_with(out, "Unary", *span, unary_word(*operator))?;
-            leave(stack, Show::Expression(operand.get()))
-        }
-        Expression::Power {
-            span,
-            base,
-            exponent,
-        } => {
-            node(out, "Power", *span)?;
-            leave_two(
-                stack,
-                Show::Expression(base.get()),
-                Show::Expression(exponent.get()),
-            )
-        }
-        Expression::Binary { span, first, rest } => {
-            node(out, "Binary", *span)?;
-            leave_two(
-                stack,
-                Show::Expression(first.get()),
-                Show::Operands(Rest::of(&rest)),
-            )
-        }
-        other => assignments::assignment(out, stack, other),
     }
-}
 
-/// The first operator with what follows it, and the others.
-pub fn operands<'a, W: Write>(
-    out: &mut W,
-    stack: &mut Stack<'a>,
-    list: Rest<'a, Operand>,
-) -> io::Result<()> {
-    if let Some((first, rest)) = list.split_first() {
-        let word = binary_word(first.operator);
-        writeln!(out, "Operand {word}")?;
-        leave_two(stack, Show::Expression(&first.value), Show::Operands(rest))?;
+    fn operands(&mut self, operands: &'a [Operand]) {
+        for operand in operands {
+            self.text.operator(binary_word(operand.operator));
+            self.expression(&operand.value);
+        }
     }
-    Ok(())
+
+    /// Conditional expressions, arrow functions, assignments, `yield` and sequences.
+    fn assignment(&mut self, expression: &'a Expression) {
+        match expression {
+            Expression::Conditional {
+                span,
+                test,
+                yes,
+                no,
+            } => {
+                self.text.node("Conditional", *span);
+                self.expression(test.get());
+                self.expression(yes.get());
+                self.expression(no.get());
+            }
+            Expression::Arrow(arrow) => self.arrow(arrow.get()),
+            Expression::Assign {
+                span,
+                operator,
+                target,
+                value,
+            } => {
+                self.text.node_with("Assign", *span, assign_word(*operator));
+                self.pattern(target);
+                self.expression(value.get());
+            }
+            Expression::Yield { span, value } => {
+                self.text.node("Yield", *span);
+                self.held(value);
+            }
+            Expression::Delegate { span, value } => {
+                self.text.node("Delegate", *span);
+                self.expression(value.get());
+            }
+            Expression::Sequence { span, first, rest } => {
+                self.text.node("Sequence", *span);
+                self.expression(first.get());
+                self.expressions(rest.as_slice());
+            }
+            _ => (),
+        }
+    }
+
+    fn expressions(&mut self, expressions: &'a [Expression]) {
+        for expression in expressions {
+            self.expression(expression);
+        }
+    }
+
+    fn arrow(&mut self, arrow: &'a Arrow) {
+        self.text.node("Arrow", arrow.span);
+        self.parameters(arrow.parameters.as_slice());
+        match &arrow.body {
+            ArrowBody::ValueBody(value) => self.expression(value.get()),
+            ArrowBody::BlockBody(block) => self.block(block),
+        }
+    }
 }

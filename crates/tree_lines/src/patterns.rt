@@ -1,92 +1,73 @@
 //! Patterns, their parts, and parameters.
 
-use crate::show::{Show, Stack, leave, leave_two, node};
-use borrowed_parts::Rest;
+use crate::nodes::Nodes;
 use es6_ast::{ArrayPart, ObjectPart, Parameter, Part, Pattern};
-use std::io::{self, Write};
 
-/// A pattern. A target by itself is its expression.
-pub fn pattern<'a, W: Write>(
-    out: &mut W,
-    stack: &mut Stack<'a>,
-    pattern: &'a Pattern,
-) -> io::Result<()> {
-    match pattern {
-        Pattern::Target(target) => leave(stack, Show::Expression(target.get())),
-        Pattern::ArrayPattern { span, parts } => {
-            node(out, "ArrayPattern", *span)?;
-            leave(stack, Show::ArrayParts(Rest::of(&parts)))
-        }
-        Pattern::ObjectPattern { span, parts } => {
-            node(out, "ObjectPattern", *span)?;
-            leave(stack, Show::ObjectParts(Rest::of(&parts)))
-        }
-    }
-}
-
-/// A pattern with its default.
-pub fn part<'a, W: Write>(out: &mut W, stack: &mut Stack<'a>, part: &'a Part) -> io::Result<()> {
-    node(out, "Part", part.span)?;
-    if let Some(value) = &part.default {
-        stack.push(Show::Expression(value))?;
-    }
-    leave(stack, Show::Pattern(&part.pattern))
-}
-
-/// The first part of an array pattern, and the others.
-pub fn array_parts<'a, W: Write>(
-    out: &mut W,
-    stack: &mut Stack<'a>,
-    list: Rest<'a, ArrayPart>,
-) -> io::Result<()> {
-    if let Some((first, rest)) = list.split_first() {
-        stack.push(Show::ArrayParts(rest))?;
-        match first {
-            ArrayPart::SkippedPart => writeln!(out, "SkippedPart")?,
-            ArrayPart::SinglePart(part) => leave(stack, Show::Part(part))?,
-            ArrayPart::RestPart { span, pattern } => {
-                node(out, "RestPart", *span)?;
-                leave(stack, Show::Pattern(pattern))?;
+impl<'a> Nodes<'a> {
+    /// A pattern, whose parts are left. A target by itself is its expression.
+    pub(crate) fn show_pattern(&mut self, pattern: &'a Pattern) {
+        match pattern {
+            Pattern::Target(target) => self.expression(target.get()),
+            Pattern::ArrayPattern { span, parts } => {
+                self.text.node("ArrayPattern", *span);
+                self.array_parts(parts.as_slice());
+            }
+            Pattern::ObjectPattern { span, parts } => {
+                self.text.node("ObjectPattern", *span);
+                self.object_parts(parts.as_slice());
             }
         }
     }
-    Ok(())
-}
 
-/// The first property of an object pattern, and the others.
-pub fn object_parts<'a, W: Write>(
-    out: &mut W,
-    stack: &mut Stack<'a>,
-    list: Rest<'a, ObjectPart>,
-) -> io::Result<()> {
-    if let Some((first, rest)) = list.split_first() {
-        stack.push(Show::ObjectParts(rest))?;
-        match first {
-            ObjectPart::NamedPart(part) => leave(stack, Show::Part(part))?,
-            ObjectPart::KeyedPart { span, key, part } => {
-                node(out, "KeyedPart", *span)?;
-                leave_two(stack, Show::Key(key), Show::Part(part))?;
+    /// A pattern with its default.
+    fn part(&mut self, part: &'a Part) {
+        self.text.node("Part", part.span);
+        self.pattern(&part.pattern);
+        self.value(&part.default);
+    }
+
+    pub(crate) fn parts(&mut self, parts: &'a [Part]) {
+        for part in parts {
+            self.part(part);
+        }
+    }
+
+    fn array_parts(&mut self, parts: &'a [ArrayPart]) {
+        for part in parts {
+            match part {
+                ArrayPart::SkippedPart => self.text.word("SkippedPart"),
+                ArrayPart::SinglePart(part) => self.part(part),
+                ArrayPart::RestPart { span, pattern } => {
+                    self.text.node("RestPart", *span);
+                    self.pattern(pattern);
+                }
             }
         }
     }
-    Ok(())
-}
 
-/// The first parameter, and the others.
-pub fn parameters<'a, W: Write>(
-    out: &mut W,
-    stack: &mut Stack<'a>,
-    list: Rest<'a, Parameter>,
-) -> io::Result<()> {
-    if let Some((first, rest)) = list.split_first() {
-        stack.push(Show::Parameters(rest))?;
-        match first {
-            Parameter::SingleParameter(part) => leave(stack, Show::Part(part))?,
-            Parameter::RestParameter { span, pattern } => {
-                node(out, "RestParameter", *span)?;
-                leave(stack, Show::Pattern(pattern))?;
+    fn object_parts(&mut self, parts: &'a [ObjectPart]) {
+        for part in parts {
+            match part {
+                ObjectPart::NamedPart(part) => self.part(part),
+                ObjectPart::KeyedPart { span, key, part } => {
+                    self.text.node("KeyedPart", *span);
+                    self.key(key);
+                    self.part(part);
+                }
             }
         }
     }
-    Ok(())
+
+    /// The parameters of a function.
+    pub(crate) fn parameters(&mut self, parameters: &'a [Parameter]) {
+        for parameter in parameters {
+            match parameter {
+                Parameter::SingleParameter(part) => self.part(part),
+                Parameter::RestParameter { span, pattern } => {
+                    self.text.node("RestParameter", *span);
+                    self.pattern(pattern);
+                }
+            }
+        }
+    }
 }

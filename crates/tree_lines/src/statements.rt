@@ -1,299 +1,240 @@
 //! Statements.
 
-use crate::show::{Show, Stack, leave, leave_two, node, node_with};
-use borrowed_parts::Rest;
-use es6_ast::{
-    Block, Case, Catch, Condition, Expression, ForFirst, ForTarget, Identifier, Statement,
-    VariableKind,
-};
-use std::io::{self, Write};
+use crate::nodes::Nodes;
+use crate::words::kind_word;
+use es6_ast::{Block, Case, Catch, Condition, Expression, ForFirst, ForTarget, Statement};
+use sqlite_items::Boxed;
 
-fn kind_word(kind: VariableKind) -> &'static str {
-    match kind {
-        VariableKind::Var => "var",
-        VariableKind::Let => "let",
-        VariableKind::Const => "const",
-    }
-}
-
-/// A block.
-pub fn block<'a, W: Write>(out: &mut W, stack: &mut Stack<'a>, block: &'a Block) -> io::Result<()> {
-    node(out, "Block", block.span)?;
-    leave(stack, Show::Statements(Rest::of(&block.statements)))
-}
-
-/// The first statement of a list, and the others.
-pub fn statements<'a, W: Write>(
-    out: &mut W,
-    stack: &mut Stack<'a>,
-    list: Rest<'a, Statement>,
-) -> io::Result<()> {
-    if let Some((first, rest)) = list.split_first() {
-        stack.push(Show::Statements(rest))?;
-        statement(out, stack, first)?;
-    }
-    Ok(())
-}
-
-/// A statement.
-pub fn statement<'a, W: Write>(
-    out: &mut W,
-    stack: &mut Stack<'a>,
-    statement: &'a Statement,
-) -> io::Result<()> {
-    match statement {
-        Statement::Block(inner) => block(out, stack, inner),
-        Statement::Variables { span, kind, parts } => {
-            node_with(out, "Variables", *span, kind_word(*kind))?;
-            leave(stack, Show::Parts(Rest::of(&parts)))
-        }
-        Statement::Empty { span } => node(out, "Empty", *span),
-        Statement::Debugger { span } => node(out, "Debugger", *span),
-        Statement::Expression { span, expression } => {
-            node(out, "Expression", *span)?;
-            leave(stack, Show::Expression(expression))
-        }
-        Statement::Continue { span, label } => {
-            node(out, "Continue", *span)?;
-            leave_label(stack, label)
-        }
-        Statement::Break { span, label } => {
-            node(out, "Break", *span)?;
-            leave_label(stack, label)
-        }
-        Statement::Return { span, value } => {
-            node(out, "Return", *span)?;
-            leave_value(stack, value)
-        }
-        Statement::Throw { span, value } => {
-            node(out, "Throw", *span)?;
-            leave(stack, Show::Expression(value))
-        }
-        Statement::Switch {
-            span,
-            subject,
-            cases,
-        } => {
-            node(out, "Switch", *span)?;
-            leave_two(
-                stack,
-                Show::Expression(subject),
-                Show::Cases(Rest::of(&cases)),
-            )
-        }
-        Statement::FunctionDeclaration(function) => leave(stack, Show::Function(function.get())),
-        Statement::ClassDeclaration(class) => leave(stack, Show::Class(class.get())),
-        other => with_statements(out, stack, other),
-    }
-}
-
-/// A statement with statements inside.
-fn with_statements<'a, W: Write>(
-    out: &mut W,
-    stack: &mut Stack<'a>,
-    statement: &'a Statement,
-) -> io::Result<()> {
-    match statement {
-        Statement::If {
-            span,
-            first,
-            more,
-            otherwise,
-        } => {
-            node(out, "If", *span)?;
-            if let Some(otherwise) = otherwise {
-                leave_two(stack, Show::Word("Else"), Show::Under(otherwise))?;
+impl<'a> Nodes<'a> {
+    /// A statement, whose parts are left.
+    pub(crate) fn show_statement(&mut self, statement: &'a Statement) {
+        match statement {
+            Statement::Block(block) => self.block(block),
+            Statement::Variables { span, kind, parts } => {
+                self.text.node_with("Variables", *span, kind_word(*kind));
+                self.parts(parts.as_slice());
             }
-            leave(stack, Show::Conditions(Rest::of(&more)))?;
-            condition(out, stack, first)
-        }
-        Statement::Labelled { span, label, body } => {
-            node(out, "Labelled", *span)?;
-            leave_two(stack, Show::Identifier(label), Show::Under(body))
-        }
-        Statement::Try {
-            span,
-            block,
-            catch,
-            finally,
-        } => {
-            node(out, "Try", *span)?;
-            if let Some(finally) = finally {
-                leave_two(stack, Show::Word("Finally"), Show::Block(finally))?;
+            Statement::Empty { span } => self.text.node("Empty", *span),
+            Statement::Debugger { span } => self.text.node("Debugger", *span),
+            Statement::Expression { span, expression } => {
+                self.text.node("Expression", *span);
+                self.expression(expression);
             }
-            handled(out, stack, block, catch)
-        }
-        other => loops(out, stack, other),
-    }
-}
-
-/// A loop (ECMA-262, 6th edition, 13.7).
-fn loops<'a, W: Write>(
-    out: &mut W,
-    stack: &mut Stack<'a>,
-    statement: &'a Statement,
-) -> io::Result<()> {
-    match statement {
-        Statement::DoWhile { span, body, test } => {
-            node(out, "DoWhile", *span)?;
-            leave_two(stack, Show::Under(body), Show::Expression(test))
-        }
-        Statement::While { span, test, body } => {
-            node(out, "While", *span)?;
-            leave_two(stack, Show::Expression(test), Show::Under(body))
-        }
-        Statement::For {
-            span,
-            first,
-            test,
-            update,
-            body,
-        } => {
-            node(out, "For", *span)?;
-            leave(stack, Show::Under(body))?;
-            leave_marked(stack, "Step", update)?;
-            leave_marked(stack, "Test", test)?;
-            for_first(out, stack, first)
-        }
-        Statement::ForOf {
-            span,
-            target,
-            subject,
-            body,
-        } => {
-            node(out, "ForOf", *span)?;
-            leave_two(stack, Show::Expression(subject), Show::Under(body))?;
-            for_target(out, stack, target)
-        }
-        _ => Ok(()),
-    }
-}
-
-fn leave_label<'a>(stack: &mut Stack<'a>, label: &'a Option<Identifier>) -> io::Result<()> {
-    match label {
-        None => Ok(()),
-        Some(label) => leave(stack, Show::Identifier(label)),
-    }
-}
-
-fn leave_value<'a>(stack: &mut Stack<'a>, value: &'a Option<Expression>) -> io::Result<()> {
-    match value {
-        None => Ok(()),
-        Some(value) => leave(stack, Show::Expression(value)),
-    }
-}
-
-/// Leaves an expression behind a word that says what it is.
-fn leave_marked<'a>(
-    stack: &mut Stack<'a>,
-    word: &'static str,
-    value: &'a Option<Expression>,
-) -> io::Result<()> {
-    match value {
-        None => Ok(()),
-        Some(value) => leave_two(stack, Show::Word(word), Show::Expression(value)),
-    }
-}
-
-fn condition<'a, W: Write>(
-    out: &mut W,
-    stack: &mut Stack<'a>,
-    condition: &'a Condition,
-) -> io::Result<()> {
-    node(out, "Condition", condition.span)?;
-    leave_two(
-        stack,
-        Show::Expression(&condition.test),
-        Show::Under(&condition.body),
-    )
-}
-
-/// The first test with its statement, and the others.
-pub fn conditions<'a, W: Write>(
-    out: &mut W,
-    stack: &mut Stack<'a>,
-    list: Rest<'a, Condition>,
-) -> io::Result<()> {
-    if let Some((first, rest)) = list.split_first() {
-        stack.push(Show::Conditions(rest))?;
-        condition(out, stack, first)?;
-    }
-    Ok(())
-}
-
-fn for_first<'a, W: Write>(
-    out: &mut W,
-    stack: &mut Stack<'a>,
-    first: &'a ForFirst,
-) -> io::Result<()> {
-    match first {
-        ForFirst::NoFirst => Ok(()),
-        ForFirst::FirstVariables { span, kind, parts } => {
-            node_with(out, "FirstVariables", *span, kind_word(*kind))?;
-            leave(stack, Show::Parts(Rest::of(&parts)))
-        }
-        ForFirst::FirstExpression(value) => {
-            writeln!(out, "FirstExpression")?;
-            leave(stack, Show::Expression(value))
+            Statement::Continue { span, label } => {
+                self.text.node("Continue", *span);
+                self.text.name(label);
+            }
+            Statement::Break { span, label } => {
+                self.text.node("Break", *span);
+                self.text.name(label);
+            }
+            Statement::Return { span, value } => {
+                self.text.node("Return", *span);
+                self.value(value);
+            }
+            Statement::Throw { span, value } => {
+                self.text.node("Throw", *span);
+                self.expression(value);
+            }
+            Statement::FunctionDeclaration(function) => self.function(function.get()),
+            Statement::ClassDeclaration(class) => self.class(class.get()),
+            other => self.with_statements(other),
         }
     }
-}
 
-fn for_target<'a, W: Write>(
-    out: &mut W,
-    stack: &mut Stack<'a>,
-    target: &'a ForTarget,
-) -> io::Result<()> {
-    match target {
-        ForTarget::Declared {
-            span,
-            kind,
-            pattern,
-        } => {
-            node_with(out, "Declared", *span, kind_word(*kind))?;
-            leave(stack, Show::Pattern(pattern))
+    /// A statement with statements inside.
+    fn with_statements(&mut self, statement: &'a Statement) {
+        match statement {
+            Statement::If {
+                span,
+                first,
+                more,
+                otherwise,
+            } => {
+                self.text.node("If", *span);
+                self.condition(first);
+                self.conditions(more.as_slice());
+                self.otherwise(otherwise);
+            }
+            Statement::Switch {
+                span,
+                subject,
+                cases,
+            } => {
+                self.text.node("Switch", *span);
+                self.expression(subject);
+                self.cases(cases.as_slice());
+            }
+            Statement::Labelled { span, label, body } => {
+                self.text.node("Labelled", *span);
+                self.text.identifier(label);
+                self.statement(body.get());
+            }
+            Statement::Try {
+                span,
+                block,
+                catch,
+                finally,
+            } => {
+                self.text.node("Try", *span);
+                self.block(block);
+                self.catch(catch);
+                self.finally(finally);
+            }
+            other => self.loops(other),
         }
-        ForTarget::Assigned(pattern) => leave(stack, Show::Pattern(pattern)),
     }
-}
 
-/// The first clause of a switch statement, and the others.
-pub fn cases<'a, W: Write>(
-    out: &mut W,
-    stack: &mut Stack<'a>,
-    list: Rest<'a, Case>,
-) -> io::Result<()> {
-    if let Some((first, rest)) = list.split_first() {
-        node(out, "Case", first.span)?;
-        leave_two(
-            stack,
-            Show::Statements(Rest::of(&first.body)),
-            Show::Cases(rest),
-        )?;
-        leave_marked(stack, "Test", &first.test)?;
+    /// A loop (ECMA-262, 6th edition, 13.7).
+    fn loops(&mut self, statement: &'a Statement) {
+        match statement {
+            Statement::DoWhile { span, body, test } => {
+                self.text.node("DoWhile", *span);
+                self.statement(body.get());
+                self.expression(test);
+            }
+            Statement::While { span, test, body } => {
+                self.text.node("While", *span);
+                self.expression(test);
+                self.statement(body.get());
+            }
+            Statement::For {
+                span,
+                first,
+                test,
+                update,
+                body,
+            } => {
+                self.text.node("For", *span);
+                self.for_first(first);
+                self.marked("Test", test);
+                self.marked("Step", update);
+                self.statement(body.get());
+            }
+            Statement::ForOf {
+                span,
+                target,
+                subject,
+                body,
+            } => {
+                self.text.node("ForOf", *span);
+                self.for_target(target);
+                self.expression(subject);
+                self.statement(body.get());
+            }
+            _ => (),
+        }
     }
-    Ok(())
-}
 
-/// The block of a try statement, and its catch.
-fn handled<'a, W: Write>(
-    out: &mut W,
-    stack: &mut Stack<'a>,
-    tried: &'a Block,
-    catch: &'a Option<Catch>,
-) -> io::Result<()> {
-    if let Some(catch) = catch {
-        leave(stack, Show::Catch(catch))?;
+    pub(crate) fn statements(&mut self, statements: &'a [Statement]) {
+        for statement in statements {
+            self.statement(statement);
+        }
     }
-    block(out, stack, tried)
-}
 
-/// A catch clause.
-pub fn catch<'a, W: Write>(out: &mut W, stack: &mut Stack<'a>, catch: &'a Catch) -> io::Result<()> {
-    node(out, "Catch", catch.span)?;
-    leave_two(
-        stack,
-        Show::Pattern(&catch.parameter),
-        Show::Block(&catch.body),
-    )
+    /// A block.
+    pub(crate) fn block(&mut self, block: &'a Block) {
+        self.text.node("Block", block.span);
+        self.statements(block.statements.as_slice());
+    }
+
+    /// An expression, if there is one.
+    pub(crate) fn value(&mut self, value: &'a Option<Expression>) {
+        match value {
+            None => (),
+            Some(value) => self.expression(value),
+        }
+    }
+
+    /// An expression, if there is one, behind a word that says what it is.
+    fn marked(&mut self, word: &str, value: &'a Option<Expression>) {
+        match value {
+            None => (),
+            Some(value) => {
+                self.text.word(word);
+                self.expression(value);
+            }
+        }
+    }
+
+    /// A test with its statement.
+    fn condition(&mut self, condition: &'a Condition) {
+        self.text.node("Condition", condition.span);
+        self.expression(&condition.test);
+        self.statement(condition.body.get());
+    }
+
+    fn conditions(&mut self, conditions: &'a [Condition]) {
+        for condition in conditions {
+            self.condition(condition);
+        }
+    }
+
+    fn otherwise(&mut self, otherwise: &'a Option<Boxed<Statement>>) {
+        match otherwise {
+            None => (),
+            Some(statement) => {
+                self.text.word("Else");
+                self.statement(statement.get());
+            }
+        }
+    }
+
+    fn for_first(&mut self, first: &'a ForFirst) {
+        match first {
+            ForFirst::NoFirst => (),
+            ForFirst::FirstVariables { span, kind, parts } => {
+                self.text
+                    .node_with("FirstVariables", *span, kind_word(*kind));
+                self.parts(parts.as_slice());
+            }
+            ForFirst::FirstExpression(value) => {
+                self.text.word("FirstExpression");
+                self.expression(value);
+            }
+        }
+    }
+
+    fn for_target(&mut self, target: &'a ForTarget) {
+        match target {
+            ForTarget::Declared {
+                span,
+                kind,
+                pattern,
+            } => {
+                self.text.node_with("Declared", *span, kind_word(*kind));
+                self.pattern(pattern);
+            }
+            ForTarget::Assigned(pattern) => self.pattern(pattern),
+        }
+    }
+
+    fn cases(&mut self, cases: &'a [Case]) {
+        for case in cases {
+            self.text.node("Case", case.span);
+            self.marked("Test", &case.test);
+            self.statements(case.body.as_slice());
+        }
+    }
+
+    fn catch(&mut self, catch: &'a Option<Catch>) {
+        match catch {
+            None => (),
+            Some(catch) => {
+                self.text.node("Catch", catch.span);
+                self.pattern(&catch.parameter);
+                self.block(&catch.body);
+            }
+        }
+    }
+
+    fn finally(&mut self, finally: &'a Option<Block>) {
+        match finally {
+            None => (),
+            Some(block) => {
+                self.text.word("Finally");
+                self.block(block);
+            }
+        }
+    }
 }
