@@ -1,13 +1,42 @@
 -- The suffix makes names that no host and no global has.
-use Rattle.std.proofs.Common.{◌≡◌, ℕ, zero, suc, ◌+◌, ◌≤◌, ◌<◌, Bool, true, false, ◌||◌, ◌&&◌, not, cond, List, [], ◌∷◌, ◌++◌, refl, sym, ◌∙◌, ap, subst, ◌⊎◌, inl, inr, arith, max, add-one}
+use Rattle.std.proofs.Common.{◌≡◌, ℕ, zero, suc, ◌+◌, ◌≤◌, Bool, true, false, ◌||◌, ◌&&◌, not, List, [], ◌∷◌, ◌++◌, refl, sym, ◌∙◌, ap, subst, ◌⊎◌, inl, inr, arith, max, add-one}
 use Rattle.std.specs.Prelude.{replicate, ◌==◌, if◌then◌else◌}
 use Rattle.std.specs.Str.{bytes_eq}
 use Rattle.std.specs.List.{list_any, list_all}
-use Rattle.first_target.specs.Names.{is_identifier_name, is_identifier_part, is_identifier_start, unusable_names, known_globals, kept_globals, left_out_globals, IsUsable}
+use Rattle.std.specs.Prelude.{codes}
+use Rattle.first_target.specs.Names.{known_globals, kept_globals, left_out_globals}
+use Rattle.es5_ast.specs.Lexical.{is_identifier_name, is_identifier_part, is_identifier_start, reserved_words}
+use Rattle.es5_ast.specs.Grammar.{is_identifier}
+use Rattle.es5_ast.specs.Early.{is_restricted}
 use Rattle.first_forms.specs.Names.{is_one_of, unbindable_names, IsBindable}
 use Rattle.first_script.specs.Suffix.{trailing_dollars, most_dollars, suffix_for}
-use Rattle.first_script.proofs.Names.{same_names, bytes_eq-refl, bool_cases, true_not_false, or_cases, or_left, or_right}
+use Rattle.first_script.proofs.Names.{same_names, bool_cases, true_not_false, or_cases, or_right}
 use Rattle.first_script.proofs.Started.{IsFresh}
+
+-- a name that a script may bind and refer to
+pub record IsUsable (name : List ℕ) : Type 0 where
+  pub identifier : is_identifier_name name ≡ true
+  pub free : is_identifier name ≡ true
+  pub unrestricted : is_restricted name ≡ false
+
+function_is_reserved : is_identifier (codes "function") ≡ false
+unfolding reserved_words
+function_is_reserved = refl
+
+-- it is not this reserved word, and not `eval`
+pub usable_not_function : (name : List ℕ) → IsUsable name → bytes_eq name (codes "function") ≡ false
+usable_not_function name u = by_name (bool_cases (bytes_eq name (codes "function")))
+  where
+    by_name : (bytes_eq name (codes "function") ≡ true) ⊎ (bytes_eq name (codes "function") ≡ false) → bytes_eq name (codes "function") ≡ false
+    by_name (inl e) = absurd (true_not_false (is_identifier name) u.free (ap is_identifier (same_names name (codes "function") e) ∙ function_is_reserved))
+    by_name (inr e) = e
+
+pub usable_not_eval : (name : List ℕ) → IsUsable name → bytes_eq name (codes "eval") ≡ false
+usable_not_eval name u = first (bytes_eq name (codes "eval")) (bytes_eq name (codes "arguments") || false) u.unrestricted
+  where
+    first : (a b : Bool) → (a || b) ≡ false → a ≡ false
+    first true b e = e
+    first false b e = refl
 
 trailing-replicate : (k n : ℕ) → trailing_dollars n (replicate k 36) ≡ n + k
 trailing-replicate zero n = omega arith
@@ -58,9 +87,9 @@ globals_without : list_all (λ n. not (has_dollar n)) known_globals ≡ true
 unfolding known_globals kept_globals left_out_globals
 globals_without = refl
 
-unusable_without : list_all (λ n. not (has_dollar n)) unusable_names ≡ true
-unfolding unusable_names
-unusable_without = refl
+reserved_without : list_all (λ n. not (has_dollar n)) reserved_words ≡ true
+unfolding reserved_words
+reserved_without = refl
 
 pub suffix_is_fresh : (hosts : List (List ℕ)) → IsFresh (suffix_for hosts) hosts
 suffix_is_fresh hosts = record {
@@ -92,13 +121,18 @@ identifier_after hosts (b ∷ bs) h = by_head (is_identifier_start b) (list_all 
 pub usable_with_suffix : (hosts : List (List ℕ)) (x : List ℕ) → IsBindable x → IsUsable (x ++ suffix_for hosts)
 usable_with_suffix hosts x b = record {
   identifier = identifier_after hosts x b.identifier;
-  free = not_among (x ++ suffix_for hosts) unusable_names unusable_without (has_dollar-suffix hosts x);
+  free = ap not (not_among (x ++ suffix_for hosts) reserved_words reserved_without (has_dollar-suffix hosts x));
+  unrestricted = not_among (x ++ suffix_for hosts) (codes "eval" ∷ codes "arguments" ∷ []) refl (has_dollar-suffix hosts x);
 }
 
--- every unusable name is unbindable in a module
-all_unbindable : list_all (λ n. is_one_of n unbindable_names) unusable_names ≡ true
-unfolding unusable_names unbindable_names
+-- every reserved word is unbindable in a module, and so are `eval` and `arguments`
+all_unbindable : list_all (λ n. is_one_of n unbindable_names) reserved_words ≡ true
+unfolding reserved_words unbindable_names
 all_unbindable = refl
+
+restricted_unbindable : list_all (λ n. is_one_of n unbindable_names) (codes "eval" ∷ codes "arguments" ∷ []) ≡ true
+unfolding unbindable_names
+restricted_unbindable = refl
 
 among_all : (y : List ℕ) (names others : List (List ℕ)) → list_all (λ n. is_one_of n others) names ≡ true → is_one_of y others ≡ false → is_one_of y names ≡ false
 among_all y [] others all f = refl
@@ -114,4 +148,8 @@ among_all y (n ∷ names) others all f = by_case (bool_cases (bytes_eq y n)) (λ
 
 -- a bindable name of a module is an identifier of the script
 pub usable : (x : List ℕ) → IsBindable x → IsUsable x
-usable x b = record { identifier = b.identifier; free = among_all x unusable_names unbindable_names all_unbindable b.free }
+usable x b = record {
+  identifier = b.identifier;
+  free = ap not (among_all x reserved_words unbindable_names all_unbindable b.free);
+  unrestricted = among_all x (codes "eval" ∷ codes "arguments" ∷ []) unbindable_names restricted_unbindable b.free;
+}

@@ -4,6 +4,8 @@ pub mod Scopes
 pub mod Related
 pub mod Started
 pub mod Fresh
+pub mod Chars
+pub mod Clean
 pub mod Spelled
 pub mod Plain
 pub mod Whole

@@ -1,5 +1,5 @@
 -- The texts of a well-formed module are written as they are.
-use Rattle.std.proofs.Common.{◌≡◌, ℕ, Bool, true, false, ◌&&◌, List, [], ◌∷◌, refl, sym, ◌∙◌, ap}
+use Rattle.std.proofs.Common.{◌≡◌, ℕ, Bool, true, ◌&&◌, List, [], ◌∷◌, refl, ◌∙◌, ap}
 use Rattle.std.specs.List.{list_all}
 use Rattle.first_trees.specs.declared.Module.{Module}
 use Rattle.first_trees.specs.declared.Item.{Item}

@@ -1,17 +1,15 @@
 -- Which states of the module's run and of the script's belong together, and that each step keeps it so.
-use Rattle.std.proofs.Common.{◌≡◌, ℕ, zero, suc, ◌+◌, ◌<◌, Bool, true, false, List, [], ◌∷◌, ◌++◌, Option, Some, None, refl, sym, ◌∙◌, ap, subst, ◌⊎◌, inl, inr, arith}
-use Rattle.runs.specs.Run.{Step, Goes, Asks, Ends, Leaves}
-use Rattle.runs.specs.Simulation.{Reaches, Rank, IsMatched, Simulates}
+use Rattle.std.proofs.Common.{◌≡◌, ℕ, ◌<◌, List, [], ◌∷◌, ◌++◌, Option, Some, None, refl, sym, ap, subst, arith}
+use Rattle.runs.specs.Run.{Goes}
+use Rattle.runs.specs.Simulation.{Rank, IsMatched, Simulates}
 use Rattle.shared_meaning.specs.Addition.{added}
-use Rattle.shared_meaning.specs.Ending.{Finish, Ended, Threw, Exit, SameCall}
+use Rattle.shared_meaning.specs.Ending.{SameCall}
 use Rattle.es_outside.specs.declared.primitive.Primitive.{Primitive}
 use Rattle.es_outside.specs.declared.primitive.Primitive.TheVariants as prim
 use Rattle.std.specs.Prelude.{codes}
 use Rattle.es_outside.specs.declared.events.Seen.{Seen}
-use Rattle.es_outside.specs.declared.events.Event.{Event}
 use Rattle.es_outside.specs.declared.host.Reply.{Reply}
 use Rattle.es_outside.specs.declared.host.Reply.TheVariants as reply
-use Rattle.first_trees.specs.declared.Module.{Module}
 use Rattle.first_trees.specs.declared.Item.{Item}
 use Rattle.first_trees.specs.declared.Item.TheVariants as item
 use Rattle.first_trees.specs.declared.DeclarationKind.{DeclarationKind}
@@ -21,7 +19,6 @@ use Rattle.first_trees.specs.declared.Call.{Call}
 use Rattle.first_trees.specs.declared.Sum.{Sum}
 use Rattle.first_trees.specs.declared.Term.{Term}
 use Rattle.first_trees.specs.declared.Term.TheVariants as term
-use Rattle.first_target.specs.declared.Script.{Script}
 use Rattle.first_target.specs.declared.Stat5.{Stat5}
 use Rattle.first_target.specs.declared.Stat5.TheVariants as stat
 use Rattle.first_target.specs.declared.Expr5.{Expr5}
@@ -35,9 +32,8 @@ use Rattle.meaning6.specs.State as six
 use Rattle.meaning6.specs.Step as step6
 use Rattle.first_target.specs.State as five
 use Rattle.first_target.specs.Step as step5
-use Rattle.first_script.proofs.Names.{true_not_false}
 use Rattle.first_script.proofs.Lowered.{LowersTerm, low_integer, low_text, low_name, LowersTerms, no_terms, more_terms, LowersSum, LowersSums, no_sums, more_sums, LowersCall, low_call, LowersExpression, low_sum, low_called, LowersItems, no_items, low_declaration, low_statement}
-use Rattle.first_script.proofs.Scopes.{HasValue, HasHost, IsApart, Agrees, agrees_after}
+use Rattle.first_script.proofs.Scopes.{HasValue, HasHost, Agrees, agrees_after}
 
 -- a state of the source with one record and one context
 abbrev pub source_state : List six.Entry → List six.Frame → six.Control → six.State

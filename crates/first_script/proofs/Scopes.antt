@@ -1,12 +1,12 @@
 -- What both environment records hold for the names in scope.
-use Rattle.std.proofs.Common.{◌≡◌, ℕ, Bool, true, false, List, [], ◌∷◌, ◌++◌, Option, Some, None, cond, refl, sym, ◌∙◌, ap, subst, ◌⊎◌, inl, inr}
+use Rattle.std.proofs.Common.{◌≡◌, ℕ, Bool, true, false, List, [], ◌∷◌, ◌++◌, Some, cond, sym, ◌∙◌, ap, ◌⊎◌, inl, inr}
 use Rattle.std.specs.Str.{bytes_eq}
 use Rattle.es_outside.specs.declared.primitive.Primitive.{Primitive}
 use Rattle.first_forms.specs.Names.{is_one_of}
 use Rattle.first_forms.specs.WellFormed.{Scope, with_declared}
-use Rattle.meaning6.specs.State.{Binding, Initialized, HostFunction, Entry, binding_in}
-use Rattle.first_target.specs.State.{Value5, PrimitiveValue, HostFunction as HostFunction5, Entry5, value_in}
-use Rattle.first_script.proofs.Names.{same_names, bytes_eq-refl, bytes_eq-false, name_cases, is_one_of-more, true_not_false}
+use Rattle.meaning6.specs.State.{Initialized, HostFunction, Entry, binding_in}
+use Rattle.first_target.specs.State.{PrimitiveValue, HostFunction as HostFunction5, Entry5, value_in}
+use Rattle.first_script.proofs.Names.{bytes_eq-refl, bytes_eq-false, name_cases, is_one_of-more, true_not_false}
 use Rattle.std.proofs.lemmas.List.{append_cancel_right}
 
 -- a declared name's value, on both sides

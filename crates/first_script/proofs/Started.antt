@@ -1,18 +1,16 @@
 -- The module instantiated and the script entered are states that belong together.
-use Rattle.std.proofs.Common.{◌≡◌, ℕ, zero, suc, ◌+◌, Bool, true, false, ◌||◌, List, [], ◌∷◌, ◌++◌, Option, Some, None, is_some, cond, map, refl, sym, ◌∙◌, ap, subst, ◌⊎◌, inl, inr, append_assoc}
+use Rattle.std.proofs.Common.{◌≡◌, ℕ, ◌+◌, Bool, true, false, ◌||◌, List, [], ◌∷◌, ◌++◌, Option, Some, None, cond, map, refl, sym, ◌∙◌, ap, subst, ◌⊎◌, inl, inr}
 use Rattle.std.specs.Str.{bytes_eq}
-use Rattle.std.specs.List.{list_any, position_from}
+use Rattle.std.specs.List.{position_from}
 use Rattle.shared_meaning.specs.Ending.{DoesTheSame, SameCall}
 use Rattle.es_outside.specs.declared.primitive.Primitive.TheVariants as prim
 use Rattle.first_trees.specs.declared.Module.{Module}
 use Rattle.first_trees.specs.declared.Item.{Item}
 use Rattle.first_trees.specs.declared.Item.TheVariants as item
-use Rattle.first_target.specs.declared.Script.{Script}
 use Rattle.first_target.specs.declared.Stat5.{Stat5}
-use Rattle.first_target.specs.declared.Stat5.TheVariants as stat
 use Rattle.first_target.specs.Names.{known_globals}
 use Rattle.first_forms.specs.Names.{is_one_of}
-use Rattle.first_forms.specs.WellFormed.{Scope, CanImport, AreImports, AreItems, AreModuleItems, IsWellFormed}
+use Rattle.first_forms.specs.WellFormed.{AreImports, AreItems, AreModuleItems, IsWellFormed}
 use Rattle.meaning6.specs.State as six
 use Rattle.meaning6.specs.Step as step6
 use Rattle.first_target.specs.State as five
@@ -20,8 +18,8 @@ use Rattle.first_target.specs.Step as step5
 use Rattle.runs.proofs.Simulated.{simulated}
 use Rattle.first_script.proofs.Names.{same_names, bytes_eq-refl, bytes_eq-false, name_cases, bool_cases, true_not_false, or_cases}
 use Rattle.first_script.proofs.Lowered.{LowersItems, no_items, low_declaration, low_statement, LowersModule, low_import, low_plain}
-use Rattle.first_script.proofs.Scopes.{HasValue, HasHost, IsApart, Agrees}
-use Rattle.first_script.proofs.Related.{source_state, target_state, directive, Related, directive_done, import_next, starts, rank, simulates}
+use Rattle.first_script.proofs.Scopes.{HasHost, Agrees}
+use Rattle.first_script.proofs.Related.{directive, Related, directive_done, import_next, starts, rank, simulates}
 
 -- no declared name becomes a host's name or a known global
 pub record IsFresh (suffix : List ℕ) (hosts : List (List ℕ)) : Type 0 where

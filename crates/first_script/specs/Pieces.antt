@@ -1,7 +1,8 @@
 -- What is written for each node of a module: the tokens, and the white space between them. Each definition says what
 -- is written for its node and then what follows it.
-use Rattle.std.specs.Prelude.{◌≡◌, ℕ, Bool, true, ◌&&◌, List, [], ◌∷◌, ◌++◌, codes}
+use Rattle.std.specs.Prelude.{ℕ, Bool, true, ◌&&◌, not, ◌==◌, nat_le, List, [], ◌∷◌, ◌++◌, codes}
 use Rattle.std.specs.List.{list_all}
+use Rattle.std.specs.Fmt.{decimal}
 use Rattle.first_trees.specs.declared.Module.{Module}
 use Rattle.first_trees.specs.declared.Item.{Item}
 use Rattle.first_trees.specs.declared.Item.TheVariants as item
@@ -11,29 +12,56 @@ use Rattle.first_trees.specs.declared.Call.{Call}
 use Rattle.first_trees.specs.declared.Sum.{Sum}
 use Rattle.first_trees.specs.declared.Term.{Term}
 use Rattle.first_trees.specs.declared.Term.TheVariants as term
-use Rattle.first_target.specs.Grammar.{Kind5, Name, Integer, Text, LeftParen, RightParen, Comma, Semicolon, Plus, Equals, spelling, is_plain_unit}
+
+-- A token that is written: a name, a decimal integer, a string, or a punctuator.
+pub data Token : Type 0 where
+  Name : List ℕ → Token
+  Integer : ℕ → Token
+  Text : List ℕ → Token
+  LeftParen : Token
+  RightParen : Token
+  Comma : Token
+  Semicolon : Token
+  Plus : Token
+  Equals : Token
+
+-- what a token is written as
+abbrev pub spelling : Token → List ℕ
+spelling (Name name) = name
+spelling (Integer value) = decimal value
+spelling (Text units) = 34 ∷ units ++ 34 ∷ []
+spelling LeftParen = 40 ∷ []
+spelling RightParen = 41 ∷ []
+spelling Comma = 44 ∷ []
+spelling Semicolon = 59 ∷ []
+spelling Plus = 43 ∷ []
+spelling Equals = 61 ∷ []
+
+-- a character that stands for itself in a string (7.8.4): printable ASCII but `"` and `\\`
+abbrev pub is_plain_unit : ℕ → Bool
+is_plain_unit u = nat_le 32 u && nat_le u 126 && not (u == 34) && not (u == 92)
 
 -- a token, or a space or line feed
 pub data Piece : Type 0 where
-  Lexeme : Kind5 → Piece
+  Lexeme : Token → Piece
   Gap : ℕ → Piece
 
 abbrev pub text_of : List Piece → List ℕ
 text_of [] = []
-text_of (Lexeme kind ∷ pieces) = spelling kind ++ text_of pieces
+text_of (Lexeme token ∷ pieces) = spelling token ++ text_of pieces
 text_of (Gap b ∷ pieces) = b ∷ text_of pieces
 
-abbrev pub term_kind : List ℕ → Term → Kind5
-term_kind suffix (term.Integer at value) = Integer value
-term_kind suffix (term.Text at units) = Text units
-term_kind suffix (term.Name at name) = Name (name ++ suffix)
+abbrev pub term_token : List ℕ → Term → Token
+term_token suffix (term.Integer at value) = Integer value
+term_token suffix (term.Text at units) = Text units
+term_token suffix (term.Name at name) = Name (name ++ suffix)
 
 abbrev pub added_pieces : List ℕ → List Term → List Piece → List Piece
 added_pieces suffix [] rest = rest
-added_pieces suffix (x ∷ xs) rest = Gap 32 ∷ Lexeme Plus ∷ Gap 32 ∷ Lexeme (term_kind suffix x) ∷ added_pieces suffix xs rest
+added_pieces suffix (x ∷ xs) rest = Gap 32 ∷ Lexeme Plus ∷ Gap 32 ∷ Lexeme (term_token suffix x) ∷ added_pieces suffix xs rest
 
 abbrev pub sum_pieces : List ℕ → Sum → List Piece → List Piece
-sum_pieces suffix x rest = Lexeme (term_kind suffix x.first) ∷ added_pieces suffix x.rest rest
+sum_pieces suffix x rest = Lexeme (term_token suffix x.first) ∷ added_pieces suffix x.rest rest
 
 -- the arguments after the first
 abbrev pub more_pieces : List ℕ → List Sum → List Piece → List Piece

@@ -1,5 +1,5 @@
 -- What is put after each declared name, so that no name of the script is a host's.
-use Rattle.std.specs.Prelude.{ℕ, suc, ◌+◌, ◌==◌, if◌then◌else◌, max, replicate, List, [], ◌∷◌}
+use Rattle.std.specs.Prelude.{ℕ, ◌+◌, ◌==◌, if◌then◌else◌, max, replicate, List, [], ◌∷◌}
 
 -- how many `$` a name ends with, where as many stand before it
 abbrev pub trailing_dollars : ℕ → List ℕ → ℕ

@@ -3,8 +3,7 @@
 ghost use Rattle.std.specs.Prelude.{◌≡◌, ◌∷◌, ◌++◌, [], List, true, OnOk, IfOk};
 ghost use Rattle.std.specs.List.{list_all};
 ghost use Rattle.std.specs.Fmt.{decimal};
-ghost use Rattle.first_target.specs.Grammar.{is_plain_unit, spelling};
-ghost use Rattle.first_script.specs.Pieces.{Piece, text_of, term_kind, added_pieces, sum_pieces, more_pieces, argument_pieces, call_pieces, expression_pieces, declaration_pieces, item_pieces, items_pieces, script_pieces, is_plain_term, is_plain_sum, is_plain_call, is_plain_expression, is_plain_item};
+ghost use Rattle.first_script.specs.Pieces.{Piece, spelling, is_plain_unit, text_of, term_token, added_pieces, sum_pieces, more_pieces, argument_pieces, call_pieces, expression_pieces, declaration_pieces, item_pieces, items_pieces, script_pieces, is_plain_term, is_plain_sum, is_plain_call, is_plain_expression, is_plain_item};
 
 use first_trees::{Call, Expression, Item, Module, Sum, Term};
 use shared_text::{Name, Units};
@@ -163,7 +162,7 @@ fn print_term(
     suffix: &[u8],
 ) -> Result<(), AllocError>
     requires { is_plain_term term.now ≡ true }
-    ensures { OnOk result (out.new.items ≡ out.old.items ++ spelling (term_kind suffix.now term.now)) }
+    ensures { OnOk result (out.new.items ≡ out.old.items ++ spelling (term_token suffix.now term.now)) }
 {
     match term {
         Term::Integer { value, .. } => print_integer(alloc, out, *value),

@@ -1,4 +1,4 @@
 pub mod Names
-pub mod Grammar
+pub mod Parts
 pub mod State
 pub mod Step

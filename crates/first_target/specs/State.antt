@@ -1,11 +1,10 @@
 -- The state of a script's run: the environment records, whose bindings all have values, and the stack of execution
 -- contexts (ECMA-262, 5.1 edition, 10.2 and 10.3). The events so far and the answers left belong to the run itself.
-use Rattle.std.specs.Prelude.{ℕ, zero, suc, Bool, true, false, if◌then◌else◌, List, [], ◌∷◌, Option, Some, None}
+use Rattle.std.specs.Prelude.{ℕ, zero, suc, if◌then◌else◌, List, [], ◌∷◌, Option, Some, None}
 use Rattle.std.specs.Str.{bytes_eq}
 use Rattle.es_outside.specs.declared.primitive.Primitive.{Primitive}
 use Rattle.es_outside.specs.declared.events.Seen.{Seen}
 use Rattle.first_target.specs.declared.Stat5.{Stat5}
-use Rattle.first_target.specs.declared.Expr5.{Expr5}
 use Rattle.first_target.specs.declared.Call5.{Call5}
 use Rattle.first_target.specs.declared.Sum5.{Sum5}
 use Rattle.first_target.specs.declared.Term5.{Term5}

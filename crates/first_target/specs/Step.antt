@@ -6,7 +6,6 @@ use Rattle.shared_meaning.specs.Addition.{added}
 use Rattle.shared_meaning.specs.Ending.{Finish, Ended, Threw, Exit, ProgramBehaviour}
 use Rattle.es_outside.specs.declared.primitive.Primitive.{Primitive}
 use Rattle.es_outside.specs.declared.primitive.Primitive.TheVariants as prim
-use Rattle.es_outside.specs.declared.events.Seen.{Seen}
 use Rattle.es_outside.specs.declared.events.Seen.TheVariants as seen
 use Rattle.es_outside.specs.declared.events.Event.{Event}
 use Rattle.es_outside.specs.declared.events.Site.{Site}

@@ -1,5 +1,5 @@
-//! Scripts of ECMAScript 5.1, as far as the program writes them today: their trees, and in `specs/` their grammar and
-//! their meaning. They stand in until whole modules are lowered.
+//! Scripts of ECMAScript 5.1, as far as the program writes them today: their trees, and in `specs/` which scripts of the
+//! whole grammar these are, and their meaning. They stand in until whole modules are lowered.
 //!
 //! Each node says where its first token begins, as an offset in bytes from 0.
 #![tactic(auto)]

@@ -1,7 +1,5 @@
-use Rattle.std.proofs.Common.{◌≡◌, ◌++◌, [], arith}
+use Rattle.std.proofs.Common.{[], arith}
 use Rattle.std.proofs.lemmas.Grind.{common_steps}
-use Rattle.std.proofs.lemmas.List.{at_drop_all}
-use Rattle.first_script.specs.Pieces.{text_of, items_pieces}
 use Rattle.first_script.proofs.print.print_script.Goals as goal
 
 pub returns : goal.returns

@@ -1,4 +1,4 @@
-use Rattle.std.proofs.Common.{◌≡◌, ◌≤◌, ◌<◌, ◌^◌, drop, max}
+use Rattle.std.proofs.Common.{◌≡◌, ◌<◌, ◌^◌, drop, max}
 use Rattle.first_script.specs.Suffix.{most_dollars}
 use Rattle.first_script.proofs.suffix.suffix_of.Given as goal
 
