@@ -26,4 +26,5 @@ pub mod Completeness
 pub mod Filled
 pub mod Scripts
 pub mod Places
+pub mod Stays
 pub mod Examples

@@ -1,5 +1,5 @@
 -- What is proved of the model, in the grammar's terms.
-use Rattle.std.specs.Prelude.{◌≡◌, ℕ, ◌≤◌, true, false, List, [], ◌++◌}
+use Rattle.std.specs.Prelude.{◌≡◌, ℕ, ◌+◌, ◌≤◌, Bool, true, false, List, [], ◌++◌}
 use Rattle.es5_ast.specs.declared.tree.Stat5.{Stat5}
 use Rattle.es5_ast.specs.Lexical.{Token5}
 use Rattle.es5_ast.specs.Grammar.{Mode5, Exact, IsProgram}
@@ -33,6 +33,24 @@ abbrev pub IsComplete : Type 0
 IsComplete = (mode : Mode5) (tokens : List Token5) (statements : List Stat5) → IsProgram mode tokens statements
     → (bound : ℕ) × ((fuel room last : ℕ) → bound ≤ fuel → bound ≤ room
     → (read : List Stat5) × (end : ℕ) × (program (readers false fuel room) fuel (record { tokens = tokens; last = last }) ≡ Took read (record { tokens = []; last = end })))
+
+-- What is read is read so where more constructs may open and loops have more turns.
+abbrev pub ReadingsStay : Type 0
+ReadingsStay = (inserting : Bool) (fuel room more : ℕ) (tokens : List Token5) (last : ℕ) (statements : List Stat5) (after : Input5)
+    → program (readers inserting fuel room) fuel (record { tokens = tokens; last = last }) ≡ Took statements after
+    → program (readers inserting (fuel + more) (room + more)) (fuel + more) (record { tokens = tokens; last = last }) ≡ Took statements after
+
+-- What is read without inserting semicolons is read so by the reader that inserts them.
+abbrev pub ReadingsStayInserting : Type 0
+ReadingsStayInserting = (fuel room : ℕ) (tokens : List Token5) (last : ℕ) (statements : List Stat5) (after : Input5)
+    → program (readers false fuel room) fuel (record { tokens = tokens; last = last }) ≡ Took statements after
+    → program (readers true fuel room) fuel (record { tokens = tokens; last = last }) ≡ Took statements after
+
+-- With inserted semicolons: whatever the grammar derives, with every semicolon among the tokens, is read to its end.
+abbrev pub IsReadInFull : Type 0
+IsReadInFull = (mode : Mode5) (tokens : List Token5) (statements : List Stat5) → IsProgram mode tokens statements
+    → (bound : ℕ) × ((fuel room last : ℕ) → bound ≤ fuel → bound ≤ room
+    → (read : List Stat5) × (end : ℕ) × (program (readers true fuel room) fuel (record { tokens = tokens; last = last }) ≡ Took read (record { tokens = []; last = end })))
 
 -- A script that is read: its tokens, with the semicolons put in, begin with the directive of strict code and are its statements,
 -- and no construct opens beyond those that may.

@@ -5,7 +5,7 @@
 #![tactic(auto)]
 
 ghost use Rattle.es5_reading.specs.Examples.{AreRead};
-ghost use Rattle.es5_reading.specs.Laws.{FaultsAreInside, IsComplete, IsFilled, IsScript, IsSound};
+ghost use Rattle.es5_reading.specs.Laws.{FaultsAreInside, IsComplete, IsFilled, IsReadInFull, IsScript, IsSound, ReadingsStay, ReadingsStayInserting};
 
 /// What is read without inserted semicolons is derived, with exact spans and with no more constructs open than may open.
 pub fn what_is_read_is_derived()
@@ -15,6 +15,22 @@ pub fn what_is_read_is_derived()
 /// What the grammar derives is read to its end, if constructs enough may open.
 pub fn what_is_derived_is_read()
     ensures { IsComplete }
+{}
+
+/// What is read is read so where more constructs may open and loops have more turns.
+pub fn readings_stay_with_more_room()
+    ensures { ReadingsStay }
+{}
+
+/// What is read without inserted semicolons is read so where semicolons are inserted.
+pub fn readings_stay_where_semicolons_are_inserted()
+    ensures { ReadingsStayInserting }
+{}
+
+/// What the grammar derives from tokens among which every semicolon stands is read to its end where semicolons are inserted, if
+/// constructs enough may open.
+pub fn what_is_spelled_in_full_is_read()
+    ensures { IsReadInFull }
 {}
 
 /// A semicolon is inserted only where no program goes on, and what is read so is derived from the filled tokens.
