@@ -30,7 +30,7 @@ use Rattle.es5_ast.specs.declared.tree.Expr5.{Expr5}
 use Rattle.es5_ast.specs.declared.tree.Expr5.TheVariants as expr
 use Rattle.es5_ast.specs.declared.tree.Link5.{Link5}
 use Rattle.es5_ast.specs.declared.tree.Operand5.{Operand5}
-use Rattle.es5_ast.specs.Lexical.{Kind5, Word, Integer, Text, Punctuator, Inserted, Token5, is_single_escape, units_of, hex_value, StringCharacters, none, itself, single, non_escape, null_unit, hexadecimal, unicode, continuation, SpellsToken, word, decimal_integer, hexadecimal_integer, double_quoted, single_quoted, punctuator, Tokens5, finished, white_space, line_terminator, single_line_comment, multi_line_comment, token}
+use Rattle.es5_ast.specs.Lexical.{Kind5, Word, Text, Punctuator, Inserted, Token5, is_single_escape, units_of, hex_value, StringCharacters, none, itself, single, non_escape, null_unit, hexadecimal, unicode, continuation, SpellsToken, word, decimal_integer, hexadecimal_integer, double_quoted, single_quoted, punctuator, Tokens5, finished, white_space, line_terminator, single_line_comment, multi_line_comment, token}
 use Rattle.es5_ast.specs.Grammar as g
 use Rattle.es5_ast.specs.Grammar.{Aside, is_word, begins, ends, literal_kind, update_kind, unary_kind, binary_kind, assign_kind, IsIdentifier, IsExpr, IsNode, AreLinks, AreOperands, AreParts, IsFunction, IsStat, IsBlock, IsIf}
 use Rattle.es5_ast.specs.Script.{Fills, at_end, keeps, inserts, inserts_at_end}

@@ -1,6 +1,6 @@
 -- What is printed for a script that is the tree of some text.
 use Rattle.std.proofs.Common.{◌≡◌, ℕ, ◌+◌, Bool, true, false, List, [], ◌∷◌, ◌++◌, map, refl, sym, ap, subst, ◌∙◌}
-use Rattle.std.specs.Prelude.{codes}
+use Rattle.std.specs.Prelude.{codes, Result, Ok, Err, IfOk}
 use Rattle.std.specs.Str.{chars, IsAscii}
 use Rattle.std.proofs.lemmas.Bool.{false≢true}
 use Rattle.std.proofs.lemmas.Str.{chars-IsAscii, IsUtf8-from_ascii}
@@ -16,7 +16,7 @@ use Rattle.es5_ast.specs.Grammar.{Aside, ends, IsProgram}
 use Rattle.es5_ast.specs.Script.{Fills, keeps, at_end, IsStrict, IsTree}
 use Rattle.es5_printer.specs.declared.mark.Mark.{Mark}
 use Rattle.es5_printer.specs.Pieces.{Piece, Lexeme, all, end_of, opened_of, stat_shown, stats_pieces}
-use Rattle.es5_printer.specs.Layout.{Written, written, blank}
+use Rattle.es5_printer.specs.Layout.{Written, written, blank, text_of}
 use Rattle.es5_printer.specs.Printed.{Call, AreMarksOf, IsRising, IsPrinted}
 use Rattle.es5_printer.proofs.Shown as s
 use Rattle.es5_printer.proofs.Tokens.{Spots, tokens, AreKnown, AreSpelled}
@@ -105,10 +105,16 @@ printed script tree =
       ended = ends_line_by false blank ps (λ e. absurd (false≢true e)) (not_empty ps start q);
     }
 
--- what the code has written is that
-pub printed_as : (script : Script) → IsTree script → (stats : List Stat5) (start out : Written) (bytes : List ℕ) (marks : List Mark) → stats ≡ script.statements → start ≡ blank → ((rest : List Piece) → written out rest ≡ written start (all (map stat_shown stats) rest)) → bytes ≡ out.bytes → marks ≡ out.marks → IsPrinted script bytes marks
+-- what the code has written
+pub written_as : (statements stats : List Stat5) (start out : Written) → stats ≡ statements → start ≡ blank → ((rest : List Piece) → written out rest ≡ written start (all (map stat_shown stats) rest)) → out ≡ text_of statements
 unfolding written
-printed_as script tree stats start out bytes marks es eb h ebytes emarks =
-    let same : out ≡ written blank (stats_pieces script.statements) = h [] ∙ ap (λ z. written z (all (map stat_shown stats) [])) eb ∙ ap (λ xs. written blank (all (map stat_shown xs) [])) es in
-    let whole_ = printed script tree in
-    subst (λ z. IsPrinted script z marks) (sym (ebytes ∙ ap (λ w. w.bytes) same)) (subst (λ z. IsPrinted script (written blank (stats_pieces script.statements)).bytes z) (sym (emarks ∙ ap (λ w. w.marks) same)) whole_)
+written_as statements stats start out es eb h = h [] ∙ ap (λ z. written z (all (map stat_shown stats) [])) eb ∙ ap (λ xs. written blank (all (map stat_shown xs) [])) es
+
+pub printed_as : (script : Script) → IsTree script → (bytes : List ℕ) (marks : List Mark) → bytes ≡ (text_of script.statements).bytes → marks ≡ (text_of script.statements).marks → IsPrinted script bytes marks
+printed_as script tree bytes marks ebytes emarks =
+    subst (λ z. IsPrinted script z marks) (sym ebytes) (subst (λ z. IsPrinted script (text_of script.statements).bytes z) (sym emarks) (printed script tree))
+
+pub printed_result : {A E : Type 0} (script : Script) → IsTree script → (result : Result A E) (bytes : A → List ℕ) (marks : A → List Mark)
+    → IfOk result (λ out. bytes out ≡ (text_of script.statements).bytes) → IfOk result (λ out. marks out ≡ (text_of script.statements).marks) → IfOk result (λ out. IsPrinted script (bytes out) (marks out))
+printed_result script tree (Ok out) bytes marks b m = printed_as script tree (bytes out) (marks out) b m
+printed_result script tree (Err e) bytes marks b m = tt

@@ -7,7 +7,8 @@ use Rattle.es5_ast.specs.Lexical.{Kind5, Word, Integer, Text, Punctuator, Insert
 use Rattle.es5_printer.specs.declared.mark.Mark.{Mark}
 use Rattle.es5_printer.specs.declared.mark.Last.{Last}
 use Rattle.es5_printer.specs.declared.mark.Last.TheVariants as last
-use Rattle.es5_printer.specs.Pieces.{Piece, Lexeme, Begins, LineEnd}
+use Rattle.es5_ast.specs.declared.tree.Stat5.{Stat5}
+use Rattle.es5_printer.specs.Pieces.{Piece, Lexeme, Begins, LineEnd, stats_pieces}
 
 -- a hexadecimal digit
 abbrev pub hex_digit : ℕ → ℕ
@@ -116,3 +117,7 @@ written s (p ∷ ps) = written (with_piece s p) ps
 -- nothing
 abbrev pub blank : Written
 blank = record { bytes = []; line = 0; start = 0; last = last.Space; marks = [] }
+
+-- the text of a script's statements
+abbrev pub text_of : List Stat5 → Written
+text_of statements = written blank (stats_pieces statements)
