@@ -1,5 +1,5 @@
 -- What is answered for the tokens of a text is a fault of it, or its script.
-use Rattle.std.proofs.Common.{◌≡◌, ◌⊎◌, inl, inr, ℕ, Bool, true, false, List, [], ◌∷◌, ◌++◌, map, Option, Some, None, refl, sym, ap, subst, append-nil}
+use Rattle.std.proofs.Common.{◌≡◌, inl, inr, ℕ, Bool, true, false, List, [], ◌∷◌, ◌++◌, map, Option, Some, None, refl, sym, ap, subst, append-nil}
 use Rattle.std.specs.Prelude.{Result, Ok, Err, cond}
 use Rattle.std.specs.Str.{chars, IsUtf8}
 use Rattle.es_text.specs.declared.Span.{Span}
@@ -18,6 +18,7 @@ use Rattle.es5_early.specs.Pairs.{rule_of, pair_of}
 use Rattle.es5_tokens.specs.declared.token.Token.{Token}
 use Rattle.es5_tokens.specs.declared.token.TokenFault.{TokenFault}
 use Rattle.es5_tokens.specs.declared.token.TokenFault.TheVariants.{Lexical, Number}
+use Rattle.es5_tokens.specs.Lexes.{LexesFrom}
 use Rattle.es5_tokens.specs.Tokens.{token5, Reads}
 use Rattle.es5_reading.specs.Parser as p
 use Rattle.es5_reading.specs.Parser.{Input5, Stop5, Outcome5}
@@ -25,9 +26,11 @@ use Rattle.es5_reading.specs.Programs.{script}
 use Rattle.es5_reading.proofs.Places.{places}
 use Rattle.es5_text.specs.declared.fault.Fault5.{Fault5}
 use Rattle.es5_text.specs.declared.fault.Fault5.TheVariants.{Lexical5, Syntax5, Early5, Outside5, Depth5, OutOfMemory}
-use Rattle.es5_text.specs.Parsed.{IsDerived, IsParsed}
-use Rattle.es5_text.specs.Faults.{Answers, IsFault, IsReached, IsFirstPair, Lexed5, answer_of, at_end, by_rule, of_pair, of_stop, of_text, is_missing, place_of, stopped}
-use Rattle.es5_text.proofs.Parsed.{derived_of, parsed_of}
+use Rattle.es5_text.specs.Parsed.{IsDerived}
+use Rattle.es5_text.specs.Answer.{Answers, answer_of, at_end, by_rule, of_pair, of_stop, of_text, is_missing, stopped}
+use Rattle.es5_text.specs.Faults.{IsFault, IsReached, Lexed5, place_of}
+use Rattle.es5_text.specs.Read.{IsRefused, out_of_memory, not_utf8, unread, statements_of}
+use Rattle.es5_text.proofs.Parsed.{derived_of}
 
 abbrev pub IsAnswer : List ℕ → Result (List Stat5) Fault5 → Type 0
 IsAnswer bytes (Ok xs) = Unit {0}
@@ -109,3 +112,27 @@ pair_is bytes tree pair d h = at pair.rule refl
     at : (rule : Rule) → pair.rule ≡ rule → IsFault bytes (by_rule rule pair.at)
     at (Early n) e = record { script = tree; derived = d; first = subst (λ r. IsFirst (record { rule = rule_of r; at = pair.at }) (script_pairs tree.statements)) e h }
     at (Outside n) e = inl (record { script = tree; derived = d; first = subst (λ r. IsFirst (record { rule = rule_of r; at = pair.at }) (script_pairs tree.statements)) e h })
+
+-- the tokens that are read of a text's characters
+abbrev pub lexed_of : (bytes text : List ℕ) (tokens : List Token) (end : ℕ) (fault : Option TokenFault) → IsUtf8 bytes → text ≡ chars bytes
+    → LexesFrom false 0 text tokens end fault → Reads text tokens end fault → Lexed5 bytes
+lexed_of bytes text tokens end fault utf8 same lexes reads = record {
+  utf8 = utf8;
+  tokens = tokens;
+  end = end;
+  fault = fault;
+  lexes = subst (λ cs. LexesFrom false 0 cs tokens end fault) same lexes;
+  reads = subst (λ cs. Reads cs tokens end fault) same reads;
+}
+
+pub refused : (bytes : List ℕ) (l : Lexed5 bytes) (fault : Fault5) → Answers (Err fault) (statements_of l) → IsRefused bytes fault
+refused bytes l (Lexical5 at) e = unread l e
+refused bytes l (Syntax5 at) e = unread l e
+refused bytes l (Early5 rule at) e = unread l e
+refused bytes l (Outside5 rule at) e = unread l e
+refused bytes l (Depth5 at) e = unread l e
+refused bytes l OutOfMemory e = out_of_memory refl
+
+pub not_text : (bytes : List ℕ) (fault : TextFault) → IsTextFault bytes fault → IsRefused bytes (of_text fault)
+not_text bytes (text_fault.NotUtf8 at) h = not_utf8 at h refl
+not_text bytes text_fault.OutOfMemory h = out_of_memory refl

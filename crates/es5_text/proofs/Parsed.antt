@@ -1,5 +1,5 @@
 -- A script that the model reads is one of the text's.
-use Rattle.std.proofs.Common.{◌≡◌, ℕ, List, [], map, sym, subst}
+use Rattle.std.proofs.Common.{◌≡◌, ℕ, List, [], map}
 use Rattle.std.specs.Prelude.{None}
 use Rattle.std.specs.Str.{chars, IsUtf8}
 use Rattle.es_text.specs.declared.Span.{Span}

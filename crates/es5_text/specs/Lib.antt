@@ -5,3 +5,5 @@ pub mod Groups
 pub mod Levels
 pub mod Parsed
 pub mod Readers
+pub mod Answer
+pub mod Read

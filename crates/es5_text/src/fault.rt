@@ -1,7 +1,7 @@
 //! Why a text is no script.
 
 ghost use Rattle.std.specs.Prelude.{◌≡◌};
-ghost use Rattle.es5_text.specs.Faults.{of_pair, of_text};
+ghost use Rattle.es5_text.specs.Answer.{of_pair, of_text};
 
 use es_text::TextFault;
 use es5_early::{Pair, Rule};
@@ -42,7 +42,7 @@ impl From<AllocError> for Fault5 {
 }
 
 impl From<TextFault> for Fault5 {
-    ghost use Rattle.es5_text.specs.Faults.{of_text};
+    ghost use Rattle.es5_text.specs.Answer.{of_text};
 
     ghost from_gives = { λ fault5 fault. fault ≡ of_text fault5 };
 
@@ -55,7 +55,7 @@ impl From<TextFault> for Fault5 {
 }
 
 impl From<Pair> for Fault5 {
-    ghost use Rattle.es5_text.specs.Faults.{of_pair};
+    ghost use Rattle.es5_text.specs.Answer.{of_pair};
 
     ghost from_gives = { λ pair fault. fault ≡ of_pair pair };
 

@@ -4,7 +4,9 @@ ghost use Rattle.std.specs.Prelude.{◌≡◌, ◌≤◌, [], map, length, IfOk,
 ghost use Rattle.es5_ast.specs.Grammar.{across};
 ghost use Rattle.es5_cursor.specs.Reads.{stop5};
 ghost use Rattle.es5_reading.specs.Programs.{script};
-ghost use Rattle.es5_text.specs.Faults.{Answers, IsFault, answer_of, at_end, of_stop, of_token, stopped};
+ghost use Rattle.es5_text.specs.Answer.{Answers, answer_of, at_end, of_stop, of_token, stopped};
+ghost use Rattle.es5_text.specs.Faults.{IsFault};
+ghost use Rattle.es5_text.specs.Read.{IsRead};
 ghost use Rattle.es5_text.specs.Parsed.{IsParsed};
 ghost use Rattle.es5_text.specs.Readers.{turns};
 ghost use Rattle.es5_tokens.specs.Tokens.{token5};
@@ -29,6 +31,8 @@ pub fn parse5(alloc: Global, bytes: &[u8]) -> Result<Script, Fault5>
     ensures parsed { IfOk result (λ script. IsParsed bytes.now script) }
     // A fault says where the text is none.
     ensures fault { IfErr result (λ fault. IsFault bytes.now fault) }
+    // What is answered is what the laws of `es5_reading` speak of.
+    ensures read { IsRead bytes.now result }
 {
     let text = chars_of(alloc, bytes)?;
     let tokens = tokens5(alloc, text.as_slice())?;
