@@ -1,0 +1,4 @@
+pub mod Gets
+pub mod Joins
+pub mod Spread
+pub mod Kept
