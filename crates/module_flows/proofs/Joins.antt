@@ -1,10 +1,10 @@
 -- What is found, and more of it.
-use Rattle.std.proofs.Common.{◌≡◌, ℕ, ◌+◌, ◌≤◌, ◌==◌, List, Bool, true, false, Option, Some, None, unwrap_or, cond, refl, sym, ap, ◌∙◌, subst, inl, inr, ⊎_elim, arith, ◌⊎◌}
+use Rattle.std.proofs.Common.{◌≡◌, ℕ, ◌+◌, ◌≤◌, ◌==◌, List, true, false, Some, None, unwrap_or, cond, refl, sym, ap, ◌∙◌, subst, inl, inr, arith, ◌⊎◌}
 use Rattle.std.proofs.lemmas.Bool.{cases_eq, cases_Bool, eq-eqb, eqb-true}
 use Rattle.module_flows.specs.declared.found.Found.{Found}
 use Rattle.module_flows.specs.declared.found.Found.TheVariants.{Nothing, One, Several}
 use Rattle.module_flows.specs.Flows.{Reaches}
-use Rattle.module_flows.specs.Steps.{raised, raised_by_one, joined, Covers, Below, room, IsSound}
+use Rattle.module_flows.specs.Steps.{raised, joined, Covers, Below, room, IsSound}
 
 eq_test : (x y : ℕ) → x ≡ y → (x == y) ≡ true
 eq_test x y e = eq-eqb x y e

@@ -1,5 +1,5 @@
 -- What holds while what is found flows on, and what it says at the end.
-use Rattle.std.proofs.Common.{◌≡◌, ℕ, zero, suc, ◌<◌, List, [], ◌∷◌, ◌++◌, length, map, refl, sym, ap, ◌∙◌, subst, inl, inr, ⊎_elim, arith, ◌⊎◌}
+use Rattle.std.proofs.Common.{◌≡◌, ℕ, zero, suc, ◌<◌, List, [], ◌∷◌, ◌++◌, length, map, refl, sym, ap, ◌∙◌, subst, inl, inr, ◌⊎◌}
 use Rattle.std.specs.List.{All, Contains}
 use Rattle.std.proofs.lemmas.Bool.{cases_lt}
 use Rattle.std.proofs.lemmas.List.{get_or_past, length-map}
@@ -8,7 +8,7 @@ use Rattle.module_flows.specs.declared.found.Found.{Found}
 use Rattle.module_flows.specs.declared.found.Found.TheVariants.{Nothing, One, Several}
 use Rattle.module_flows.specs.declared.flow.Flow.{Flow}
 use Rattle.module_flows.specs.Flows.{Reaches, itself, by_use, IsRight, AreRight, found_at, users_of}
-use Rattle.module_flows.specs.Steps.{joined, Covers, Below, Spreads, IsSound, Holds}
+use Rattle.module_flows.specs.Steps.{Covers, Below, Spreads, IsSound, Holds}
 use Rattle.module_flows.proofs.Joins.{Below-covers, Below-trans, IsSound-joined}
 use Rattle.module_flows.proofs.Spread.{grows, none-contained, one-contained}
 

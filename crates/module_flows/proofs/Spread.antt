@@ -1,5 +1,5 @@
 -- A value is added at one node, and then at more.
-use Rattle.std.proofs.Common.{◌≡◌, ℕ, ◌+◌, ◌*◌, ◌<◌, ◌≤◌, ◌≢◌, List, [], ◌∷◌, ◌++◌, length, get_or, set, Option, Some, None, refl, sym, ap, ◌∙◌, subst, inl, inr, ⊎_elim, arith, ◌⊎◌, length-append}
+use Rattle.std.proofs.Common.{◌≡◌, ℕ, ◌+◌, ◌<◌, ◌≤◌, List, [], ◌∷◌, ◌++◌, length, Some, None, refl, sym, ap, ◌∙◌, subst, inl, inr, arith, ◌⊎◌, length-append}
 use Rattle.std.specs.Prelude.{sum_by, slice_set}
 use Rattle.std.specs.List.{Contains}
 use Rattle.std.proofs.lemmas.Bool.{cases_eq}
@@ -7,7 +7,7 @@ use Rattle.std.proofs.lemmas.List.{length-set, get_or-set_same, get_or-set_other
 use Rattle.std.proofs.lemmas.List.Elements.{Contains-push, Contains-push_cases, Contains-append_left, Contains-append_right, Contains-append_cases}
 use Rattle.std.proofs.lemmas.List.Sums.{sum_by-set}
 use Rattle.module_flows.specs.declared.found.Found.{Found}
-use Rattle.module_flows.specs.declared.found.Found.TheVariants.{Nothing, One, Several}
+use Rattle.module_flows.specs.declared.found.Found.TheVariants.{Nothing}
 use Rattle.module_flows.specs.declared.flow.Flow.{Flow}
 use Rattle.module_flows.specs.Flows.{found_at}
 use Rattle.module_flows.specs.Steps.{raised, joined, Below, room, work, Spreads}

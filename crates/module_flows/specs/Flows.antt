@@ -1,5 +1,5 @@
 -- The ends that are reached from the nodes of a graph.
-use Rattle.std.specs.Prelude.{◌≡◌, ℕ, ◌<◌, List, [], length, slice_index_or}
+use Rattle.std.specs.Prelude.{◌≡◌, ℕ, List, [], length, slice_index_or}
 use Rattle.std.specs.List.{Contains}
 use Rattle.module_flows.specs.declared.found.Found.{Found}
 use Rattle.module_flows.specs.declared.found.Found.TheVariants.{Nothing, One, Several}

@@ -1,6 +1,5 @@
-use Rattle.std.proofs.Common.{List, ℕ, ◌<◌, sym, subst, length}
-use Rattle.std.specs.List.{Contains}
-use Rattle.std.proofs.lemmas.List.Elements.{All-contains, Contains-push}
+use Rattle.std.proofs.Common.{List, ℕ, ◌<◌, length}
+use Rattle.std.proofs.lemmas.List.Elements.{All-contains}
 use Rattle.module_flows.specs.Flows.{users_of}
 use Rattle.module_flows.proofs.Gets.{empty-stack}
 use Rattle.module_flows.proofs.Kept.{all-users, holds-step, right-at_end}

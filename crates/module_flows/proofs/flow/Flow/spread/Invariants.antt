@@ -1,4 +1,4 @@
-use Rattle.std.proofs.Common.{take, length, ◌≡◌}
+use Rattle.std.proofs.Common.{take}
 use Rattle.module_flows.specs.Steps.{Spreads}
 use Rattle.module_flows.proofs.flow.Flow.spread.Given as goal
 
