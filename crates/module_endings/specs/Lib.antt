@@ -1,0 +1,4 @@
+pub mod Ends
+pub mod Indexes
+pub mod Places
+pub mod Webs
