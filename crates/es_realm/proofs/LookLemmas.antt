@@ -1,5 +1,5 @@
 -- One step of the walk up a chain.
-use Rattle.std.proofs.Common.{◌≡◌, ◌<◌, ◌-◌, ℕ, zero, suc, Bool, ◌||◌, refl, sym, ap, ◌∙◌, arith}
+use Rattle.std.proofs.Common.{◌≡◌, ◌<◌, ◌-◌, ℕ, zero, suc, Bool, ◌||◌, sym, ap, ◌∙◌, arith}
 use Rattle.es_value.specs.declared.value.ObjId.{ObjId}
 use Rattle.es_heap.specs.declared.key.Key.{Key}
 use Rattle.es_heap.specs.Heaps.{Heap}

@@ -1,6 +1,6 @@
 -- Reading, writing and deleting of properties (ECMA-262, 6th edition, 9.1.8 to 9.1.10), up to the function that is to be called,
 -- the namespace that is to be read, or the exit at which the run leaves.
-use Rattle.std.specs.Prelude.{ℕ, ℤ, pos, Bool, true, false, ◌&&◌, ◌||◌, not, if◌then◌else◌, List, [], ◌∷◌, length, slice_get, Option, None, Some, is_some, Result, Ok, Err, codes}
+use Rattle.std.specs.Prelude.{ℕ, ℤ, pos, Bool, ◌&&◌, ◌||◌, not, if◌then◌else◌, List, [], ◌∷◌, length, slice_get, Option, None, Some, Result, Ok, Err, codes}
 use Rattle.std.specs.Ordering.{int_eq}
 use Rattle.es_value.specs.declared.arithmetic.Exit.{Exit}
 use Rattle.es_value.specs.Arithmetic.{exit_number}
@@ -21,7 +21,6 @@ use Rattle.es_heap.specs.Heaps.{Heap, object_at, with_object, define_own, set_le
 use Rattle.es_access.specs.declared.access.PutAnswer.{PutAnswer}
 use Rattle.es_access.specs.declared.access.PutAnswer.TheVariants as put_answer
 use Rattle.es_access.specs.Access.{put, answer_of}
-use Rattle.es_access.specs.Access as access
 use Rattle.es_realm.specs.declared.edition.Edition.{Edition}
 use Rattle.es_realm.specs.declared.look.Look.{Look}
 use Rattle.es_realm.specs.declared.look.Look.TheVariants as look

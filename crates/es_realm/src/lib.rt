@@ -21,4 +21,4 @@ pub use errors::{ErrorKind, make_error};
 pub use globals::{Global, global_of};
 pub use left_out::{is_builtin, is_left_out};
 pub use look::{Look, is_closure, is_function, is_named, is_reserved_key, look_own, look_up};
-pub use realm::{Realm5, Realm6, RealmOf};
+pub use realm::{Library, Realm5, Realm6, RealmOf};

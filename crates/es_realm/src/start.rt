@@ -1,21 +1,22 @@
 //! How a realm's heap is made.
 ghost use Rattle.std.specs.Prelude.{◌≡◌, ◌+◌, ◌<◌, ◌^◌, [], length, fold, map, IfOk, OnOk};
-ghost use Rattle.es_realm.specs.Tables.{class_of, with_row, with_function, with_entry, function_proto};
-ghost use Rattle.es_realm.specs.Entries.{key_of, value_of, entry_of};
-ghost use Rattle.es_realm.specs.Realms.{fresh6, fresh5, library5, with_hosts};
+ghost use Rattle.es_realm.specs.Tables.{constructor_entries, object_entries, array_entries, primitive_entries, error_entries, iterable_entries6, generator_entries6, iterator_entries6, object_entries5, own_class, class_of, with_row, with_function, with_entry, function_proto};
+ghost use Rattle.es_realm.specs.Entries.{entry_of};
+ghost use Rattle.es_realm.specs.Realms.{fresh6, fresh5, library5, library_objects, with_entries, with_library_entries, with_entries6, with_hosts};
 
 use crate::edition::Edition;
 use crate::names::{ERROR, FUNCTION_PROTOTYPE};
 use crate::table::{
-    Content, ENTRIES, ENTRIES5, ENTRIES6, FUNCTIONS, FUNCTIONS5, FUNCTIONS6, ITERATOR_PROTOTYPES,
-    Kept, KeyName, Kind, PROTOTYPES5, PROTOTYPES6, Row,
+    ARRAY_ENTRIES, CONSTRUCTOR_ENTRIES, ERROR_ENTRIES, FUNCTIONS, FUNCTIONS5, FUNCTIONS6,
+    GENERATOR_ENTRIES6, ITERABLE_ENTRIES6, ITERATOR_ENTRIES6, ITERATOR_PROTOTYPES, Kept, Kind,
+    OBJECT_ENTRIES, OBJECT_ENTRIES5, PRIMITIVE_ENTRIES, PROTOTYPES, Row,
 };
 use es_heap::{Class, Heap, HeapFault, Key, Prop};
 use es_value::{ObjId, Str, Value};
 use std::alloc::{AllocError, Global};
 
-fn class_of(kind: Kind) -> Class
-    ensures { result ≡ class_of kind }
+fn own_class(kind: Kind) -> Class
+    ensures { result ≡ own_class kind }
 {
     match kind {
         Kind::Ordinary => Class::Object,
@@ -28,19 +29,36 @@ fn class_of(kind: Kind) -> Class
     }
 }
 
-#[tactic(auto, unfolding(crate::specs::Tables::with_row))]
-fn add_row(heap: &mut Heap, alloc: Global, row: Row) -> Result<(), AllocError>
-    ensures { OnOk result (heap.new ≡ with_row heap.old row) }
+fn class_of(edition: Edition, kind: Kind) -> Class
+    ensures { result ≡ class_of edition kind }
 {
-    heap.make(alloc, row.proto, class_of(row.kind))?;
+    match (edition, kind) {
+        (Edition::Fifth, _) | (Edition::Sixth, Kind::List | Kind::Function) => own_class(kind),
+        (Edition::Sixth, _) => Class::Object,
+    }
+}
+
+#[tactic(auto, unfolding(crate::specs::Tables::with_row))]
+fn add_row(heap: &mut Heap, alloc: Global, edition: Edition, row: Row) -> Result<(), AllocError>
+    ensures { OnOk result (heap.new ≡ with_row edition heap.old row) }
+{
+    match row {
+        Row::Root => heap.make(alloc, None, Class::Object)?,
+        Row::Below(proto, kind) => heap.make(alloc, Some(proto), class_of(edition, kind))?,
+    };
     Ok(())
 }
 
-fn add_rows(heap: &mut Heap, alloc: Global, rows: &[Row]) -> Result<(), AllocError>
-    ensures { OnOk result (heap.new ≡ fold with_row heap.old rows.now) }
+fn add_rows(
+    heap: &mut Heap,
+    alloc: Global,
+    edition: Edition,
+    rows: &[Row],
+) -> Result<(), AllocError>
+    ensures { OnOk result (heap.new ≡ fold (with_row edition) heap.old rows.now) }
 {
     for row in rows {
-        add_row(heap, alloc, *row)?;
+        add_row(heap, alloc, edition, *row)?;
     }
     Ok(())
 }
@@ -82,22 +100,49 @@ fn add_functions(
     Ok(())
 }
 
-fn key_of(alloc: Global, name: KeyName) -> Result<Key, AllocError>
-    ensures { IfOk result (λ key. key ≡ key_of name) }
+fn text_of(alloc: Global, word: &str) -> Result<Str, AllocError>
+    ensures { IfOk result (λ text. text ≡ word.now) }
 {
-    match name {
-        KeyName::Word(word) => Ok(Key::Text(Str::of_bytes(alloc, word.as_bytes())?)),
-        KeyName::Iterator => Ok(Key::Iterator),
+    Str::of_bytes(alloc, word.as_bytes())
+}
+
+fn holder_of(kept: Kept) -> ObjId
+    ensures { result ≡ (entry_of kept).holder }
+{
+    match kept {
+        Kept::Method(holder, _, _)
+        | Kept::Iteration(holder, _)
+        | Kept::Constant(holder, _, _)
+        | Kept::Text(holder, _, _) => holder,
     }
 }
 
-fn value_of(alloc: Global, content: Content) -> Result<Value, AllocError>
-    ensures { IfOk result (λ value. value ≡ value_of content) }
+fn key_of(alloc: Global, kept: Kept) -> Result<Key, AllocError>
+    ensures { IfOk result (λ key. key ≡ (entry_of kept).key) }
 {
-    match content {
-        Content::Object(id) => Ok(Value::Object(id)),
-        Content::Text(text) => Ok(Value::Text(Str::of_bytes(alloc, text.as_bytes())?)),
+    match kept {
+        Kept::Method(_, name, _) | Kept::Constant(_, name, _) | Kept::Text(_, name, _) => {
+            Ok(Key::Text(text_of(alloc, name)?))
+        }
+        Kept::Iteration(_, _) => Ok(Key::Iterator),
     }
+}
+
+fn value_of(alloc: Global, kept: Kept) -> Result<Value, AllocError>
+    ensures { IfOk result (λ value. value ≡ (entry_of kept).value) }
+{
+    match kept {
+        Kept::Method(_, _, object) | Kept::Iteration(_, object) | Kept::Constant(_, _, object) => {
+            Ok(Value::Object(object))
+        }
+        Kept::Text(_, _, text) => Ok(Value::Text(text_of(alloc, text)?)),
+    }
+}
+
+fn is_fixed(kept: Kept) -> bool
+    ensures { result ≡ (entry_of kept).fixed }
+{
+    matches!(kept, Kept::Constant(_, _, _))
 }
 
 #[tactic(auto, unfolding(crate::specs::Tables::with_entry))]
@@ -105,11 +150,11 @@ fn add_entry(heap: &mut Heap, alloc: Global, kept: Kept) -> Result<(), AllocErro
     ensures { OnOk result (heap.new ≡ with_entry heap.old (entry_of kept)) }
 {
     let property = Prop::Plain {
-        value: value_of(alloc, kept.content)?,
-        writable: !kept.fixed,
-        configurable: !kept.fixed,
+        value: value_of(alloc, kept)?,
+        writable: !is_fixed(kept),
+        configurable: !is_fixed(kept),
     };
-    match heap.define_own(alloc, kept.holder, key_of(alloc, kept.name)?, property) {
+    match heap.define_own(alloc, holder_of(kept), key_of(alloc, kept)?, property) {
         Err(HeapFault::OutOfMemory) => Err(AllocError),
         Ok(()) | Err(_) => Ok(()),
     }
@@ -124,41 +169,138 @@ fn add_entries(heap: &mut Heap, alloc: Global, entries: &[Kept]) -> Result<(), A
     Ok(())
 }
 
+#[tactic(auto, unfolding(crate::specs::Tables::constructor_entries))]
+fn add_constructor_entries(heap: &mut Heap, alloc: Global) -> Result<(), AllocError>
+    ensures { OnOk result (heap.new ≡ with_entries constructor_entries heap.old) }
+{
+    let entries = CONSTRUCTOR_ENTRIES;
+    add_entries(heap, alloc, &entries)
+}
+
+#[tactic(auto, unfolding(crate::specs::Tables::object_entries))]
+fn add_object_entries(heap: &mut Heap, alloc: Global) -> Result<(), AllocError>
+    ensures { OnOk result (heap.new ≡ with_entries object_entries heap.old) }
+{
+    let entries = OBJECT_ENTRIES;
+    add_entries(heap, alloc, &entries)
+}
+
+#[tactic(auto, unfolding(crate::specs::Tables::array_entries))]
+fn add_array_entries(heap: &mut Heap, alloc: Global) -> Result<(), AllocError>
+    ensures { OnOk result (heap.new ≡ with_entries array_entries heap.old) }
+{
+    let entries = ARRAY_ENTRIES;
+    add_entries(heap, alloc, &entries)
+}
+
+#[tactic(auto, unfolding(crate::specs::Tables::primitive_entries))]
+fn add_primitive_entries(heap: &mut Heap, alloc: Global) -> Result<(), AllocError>
+    ensures { OnOk result (heap.new ≡ with_entries primitive_entries heap.old) }
+{
+    let entries = PRIMITIVE_ENTRIES;
+    add_entries(heap, alloc, &entries)
+}
+
+#[tactic(auto, unfolding(crate::specs::Tables::error_entries))]
+fn add_error_entries(heap: &mut Heap, alloc: Global) -> Result<(), AllocError>
+    ensures { OnOk result (heap.new ≡ with_entries error_entries heap.old) }
+{
+    let entries = ERROR_ENTRIES;
+    add_entries(heap, alloc, &entries)
+}
+
+#[tactic(auto, unfolding(crate::specs::Tables::iterable_entries6))]
+fn add_iterable_entries6(heap: &mut Heap, alloc: Global) -> Result<(), AllocError>
+    ensures { OnOk result (heap.new ≡ with_entries iterable_entries6 heap.old) }
+{
+    let entries = ITERABLE_ENTRIES6;
+    add_entries(heap, alloc, &entries)
+}
+
+#[tactic(auto, unfolding(crate::specs::Tables::generator_entries6))]
+fn add_generator_entries6(heap: &mut Heap, alloc: Global) -> Result<(), AllocError>
+    ensures { OnOk result (heap.new ≡ with_entries generator_entries6 heap.old) }
+{
+    let entries = GENERATOR_ENTRIES6;
+    add_entries(heap, alloc, &entries)
+}
+
+#[tactic(auto, unfolding(crate::specs::Tables::iterator_entries6))]
+fn add_iterator_entries6(heap: &mut Heap, alloc: Global) -> Result<(), AllocError>
+    ensures { OnOk result (heap.new ≡ with_entries iterator_entries6 heap.old) }
+{
+    let entries = ITERATOR_ENTRIES6;
+    add_entries(heap, alloc, &entries)
+}
+
+#[tactic(auto, unfolding(crate::specs::Tables::object_entries5))]
+fn add_object_entries5(heap: &mut Heap, alloc: Global) -> Result<(), AllocError>
+    ensures { OnOk result (heap.new ≡ with_entries object_entries5 heap.old) }
+{
+    let entries = OBJECT_ENTRIES5;
+    add_entries(heap, alloc, &entries)
+}
+
+/// Adds the properties that both realms have.
+#[tactic(auto, unfolding(crate::specs::Realms::with_library_entries))]
+fn add_library_entries(heap: &mut Heap, alloc: Global) -> Result<(), AllocError>
+    ensures { OnOk result (heap.new ≡ with_library_entries heap.old) }
+{
+    add_constructor_entries(heap, alloc)?;
+    add_object_entries(heap, alloc)?;
+    add_array_entries(heap, alloc)?;
+    add_primitive_entries(heap, alloc)?;
+    add_error_entries(heap, alloc)
+}
+
+/// Adds those that the realm of the 6th edition has besides.
+#[tactic(auto, unfolding(crate::specs::Realms::with_entries6))]
+fn add_entries6(heap: &mut Heap, alloc: Global) -> Result<(), AllocError>
+    ensures { OnOk result (heap.new ≡ with_entries6 heap.old) }
+{
+    add_iterable_entries6(heap, alloc)?;
+    add_generator_entries6(heap, alloc)?;
+    add_iterator_entries6(heap, alloc)
+}
+
+/// The objects that both realms have.
+#[tactic(auto, unfolding(crate::specs::Realms::library_objects))]
+fn library_objects(alloc: Global, edition: Edition) -> Result<Heap, AllocError>
+    ensures { IfOk result (λ heap. heap ≡ library_objects edition) }
+{
+    let mut heap = Heap::new(alloc);
+    let prototypes = PROTOTYPES;
+    let functions = FUNCTIONS;
+    add_rows(&mut heap, alloc, edition, &prototypes)?;
+    add_functions(&mut heap, alloc, edition, &functions)?;
+    Ok(heap)
+}
+
 /// The heap of a fresh realm of the 6th edition.
+#[tactic(auto, unfolding(crate::specs::Realms::fresh6))]
 pub(crate) fn fresh6(alloc: Global) -> Result<Heap, AllocError>
     ensures { IfOk result (λ heap. heap ≡ fresh6) }
 {
-    let mut heap = Heap::new(alloc);
-    let prototypes = PROTOTYPES6;
-    let functions = FUNCTIONS;
+    let mut heap = library_objects(alloc, Edition::Sixth)?;
     let iterator_prototypes = ITERATOR_PROTOTYPES;
-    let functions6 = FUNCTIONS6;
-    add_rows(&mut heap, alloc, &prototypes)?;
+    let functions = FUNCTIONS6;
+    add_rows(&mut heap, alloc, Edition::Sixth, &iterator_prototypes)?;
     add_functions(&mut heap, alloc, Edition::Sixth, &functions)?;
-    add_rows(&mut heap, alloc, &iterator_prototypes)?;
-    add_functions(&mut heap, alloc, Edition::Sixth, &functions6)?;
-    let entries = ENTRIES;
-    let entries6 = ENTRIES6;
-    add_entries(&mut heap, alloc, &entries)?;
-    add_entries(&mut heap, alloc, &entries6)?;
+    add_library_entries(&mut heap, alloc)?;
+    add_entries6(&mut heap, alloc)?;
     Ok(heap)
 }
 
 /// The heap of a fresh realm of the 5.1 edition, without hosts.
+#[tactic(auto, unfolding(crate::specs::Realms::library5))]
 fn library5(alloc: Global) -> Result<Heap, AllocError>
     ensures { IfOk result (λ heap. heap ≡ library5) }
 {
-    let mut heap = Heap::new(alloc);
-    let prototypes = PROTOTYPES5;
-    let functions = FUNCTIONS;
-    let functions5 = FUNCTIONS5;
-    add_rows(&mut heap, alloc, &prototypes)?;
+    let mut heap = library_objects(alloc, Edition::Fifth)?;
+    let functions = FUNCTIONS5;
     add_functions(&mut heap, alloc, Edition::Fifth, &functions)?;
-    add_functions(&mut heap, alloc, Edition::Fifth, &functions5)?;
-    let entries = ENTRIES;
-    let entries5 = ENTRIES5;
-    add_entries(&mut heap, alloc, &entries)?;
-    add_entries(&mut heap, alloc, &entries5)?;
+    add_library_entries(&mut heap, alloc)?;
+    add_object_entries5(&mut heap, alloc)?;
     Ok(heap)
 }
 

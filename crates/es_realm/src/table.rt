@@ -1,9 +1,9 @@
 //! The library as data: which objects a realm has, and which properties they have (ECMA-262, 6th edition, 19 to 22 and 25;
-//! 5.1 edition, 15).
+//! 5.1 edition, 15). The tables are cut so that a function adds a few rows each.
 use crate::names::*;
 use es_value::ObjId;
 
-/// What kind of object a prototype is.
+/// What kind of object a prototype is. Those of texts, numbers, truth values and errors are such objects in the 5.1 edition alone.
 #[derive(Clone, Copy)]
 pub(crate) enum Kind {
     Ordinary,
@@ -15,141 +15,46 @@ pub(crate) enum Kind {
     Function,
 }
 
-/// An object as it is made.
+/// A prototype as it is made: the root of the chains, or one below that object.
 #[derive(Clone, Copy)]
-pub(crate) struct Row {
-    pub proto: Option<ObjId>,
-    pub kind: Kind,
+pub(crate) enum Row {
+    Root,
+    Below(ObjId, Kind),
 }
 
-/// The key of a property.
+/// A property, with its holder first. A constant is neither writable nor configurable, and others are both (17).
 #[derive(Clone, Copy)]
-pub(crate) enum KeyName {
-    Word(&'static str),
-    Iterator,
+pub(crate) enum Kept {
+    Method(ObjId, &'static str, ObjId),
+    /// What the iterator key gives.
+    Iteration(ObjId, ObjId),
+    Constant(ObjId, &'static str, ObjId),
+    Text(ObjId, &'static str, &'static str),
 }
 
-/// The value of a property.
-#[derive(Clone, Copy)]
-pub(crate) enum Content {
-    Object(ObjId),
-    Text(&'static str),
-}
-
-/// A property. One that is fixed is neither writable nor configurable, and others are both.
-#[derive(Clone, Copy)]
-pub(crate) struct Kept {
-    pub holder: ObjId,
-    pub name: KeyName,
-    pub content: Content,
-    pub fixed: bool,
-}
-
-pub(crate) const PROTOTYPES6: [Row; 10] = [
-    Row {
-        proto: None,
-        kind: Kind::Ordinary,
-    },
-    Row {
-        proto: Some(OBJECT_PROTOTYPE),
-        kind: Kind::Function,
-    },
-    Row {
-        proto: Some(OBJECT_PROTOTYPE),
-        kind: Kind::List,
-    },
-    Row {
-        proto: Some(OBJECT_PROTOTYPE),
-        kind: Kind::Ordinary,
-    },
-    Row {
-        proto: Some(OBJECT_PROTOTYPE),
-        kind: Kind::Ordinary,
-    },
-    Row {
-        proto: Some(OBJECT_PROTOTYPE),
-        kind: Kind::Ordinary,
-    },
-    Row {
-        proto: Some(OBJECT_PROTOTYPE),
-        kind: Kind::Ordinary,
-    },
-    Row {
-        proto: Some(ERROR_PROTOTYPE),
-        kind: Kind::Ordinary,
-    },
-    Row {
-        proto: Some(ERROR_PROTOTYPE),
-        kind: Kind::Ordinary,
-    },
-    Row {
-        proto: Some(ERROR_PROTOTYPE),
-        kind: Kind::Ordinary,
-    },
+/// The prototypes that both realms have.
+pub(crate) const PROTOTYPES: [Row; 10] = [
+    Row::Root,
+    Row::Below(OBJECT_PROTOTYPE, Kind::Function),
+    Row::Below(OBJECT_PROTOTYPE, Kind::List),
+    Row::Below(OBJECT_PROTOTYPE, Kind::Text),
+    Row::Below(OBJECT_PROTOTYPE, Kind::Number),
+    Row::Below(OBJECT_PROTOTYPE, Kind::Truth),
+    Row::Below(OBJECT_PROTOTYPE, Kind::Error),
+    Row::Below(ERROR_PROTOTYPE, Kind::Error),
+    Row::Below(ERROR_PROTOTYPE, Kind::Error),
+    Row::Below(ERROR_PROTOTYPE, Kind::Error),
 ];
 
-pub(crate) const PROTOTYPES5: [Row; 10] = [
-    Row {
-        proto: None,
-        kind: Kind::Ordinary,
-    },
-    Row {
-        proto: Some(OBJECT_PROTOTYPE),
-        kind: Kind::Function,
-    },
-    Row {
-        proto: Some(OBJECT_PROTOTYPE),
-        kind: Kind::List,
-    },
-    Row {
-        proto: Some(OBJECT_PROTOTYPE),
-        kind: Kind::Text,
-    },
-    Row {
-        proto: Some(OBJECT_PROTOTYPE),
-        kind: Kind::Number,
-    },
-    Row {
-        proto: Some(OBJECT_PROTOTYPE),
-        kind: Kind::Truth,
-    },
-    Row {
-        proto: Some(OBJECT_PROTOTYPE),
-        kind: Kind::Error,
-    },
-    Row {
-        proto: Some(ERROR_PROTOTYPE),
-        kind: Kind::Error,
-    },
-    Row {
-        proto: Some(ERROR_PROTOTYPE),
-        kind: Kind::Error,
-    },
-    Row {
-        proto: Some(ERROR_PROTOTYPE),
-        kind: Kind::Error,
-    },
-];
-
+/// The prototypes of generator functions, generators, and array and text iterators.
 pub(crate) const ITERATOR_PROTOTYPES: [Row; 4] = [
-    Row {
-        proto: Some(FUNCTION_PROTOTYPE),
-        kind: Kind::Ordinary,
-    },
-    Row {
-        proto: Some(OBJECT_PROTOTYPE),
-        kind: Kind::Ordinary,
-    },
-    Row {
-        proto: Some(OBJECT_PROTOTYPE),
-        kind: Kind::Ordinary,
-    },
-    Row {
-        proto: Some(OBJECT_PROTOTYPE),
-        kind: Kind::Ordinary,
-    },
+    Row::Below(FUNCTION_PROTOTYPE, Kind::Ordinary),
+    Row::Below(OBJECT_PROTOTYPE, Kind::Ordinary),
+    Row::Below(OBJECT_PROTOTYPE, Kind::Ordinary),
+    Row::Below(OBJECT_PROTOTYPE, Kind::Ordinary),
 ];
 
+/// The numbers of the functions of both realms, and of those that one of them has besides.
 pub(crate) const FUNCTIONS: [u16; 29] = [
     0, 1, 2, 3, 4, 5, 6, 7, 8, 9, 10, 11, 12, 13, 14, 15, 16, 17, 18, 19, 20, 23, 24, 25, 26, 27,
     29, 30, 31,
@@ -159,323 +64,94 @@ pub(crate) const FUNCTIONS6: [u16; 9] = [21, 22, 28, 32, 33, 34, 35, 36, 37];
 
 pub(crate) const FUNCTIONS5: [u16; 4] = [38, 39, 40, 41];
 
-pub(crate) const ENTRIES: [Kept; 37] = [
-    Kept {
-        holder: OBJECT,
-        name: KeyName::Word("create"),
-        content: Content::Object(OBJECT_CREATE),
-        fixed: false,
-    },
-    Kept {
-        holder: OBJECT,
-        name: KeyName::Word("prototype"),
-        content: Content::Object(OBJECT_PROTOTYPE),
-        fixed: true,
-    },
-    Kept {
-        holder: ARRAY,
-        name: KeyName::Word("isArray"),
-        content: Content::Object(ARRAY_IS_ARRAY),
-        fixed: false,
-    },
-    Kept {
-        holder: ARRAY,
-        name: KeyName::Word("prototype"),
-        content: Content::Object(ARRAY_PROTOTYPE),
-        fixed: true,
-    },
-    Kept {
-        holder: STRING,
-        name: KeyName::Word("prototype"),
-        content: Content::Object(STRING_PROTOTYPE),
-        fixed: true,
-    },
-    Kept {
-        holder: ERROR,
-        name: KeyName::Word("prototype"),
-        content: Content::Object(ERROR_PROTOTYPE),
-        fixed: true,
-    },
-    Kept {
-        holder: TYPE_ERROR,
-        name: KeyName::Word("prototype"),
-        content: Content::Object(TYPE_ERROR_PROTOTYPE),
-        fixed: true,
-    },
-    Kept {
-        holder: REFERENCE_ERROR,
-        name: KeyName::Word("prototype"),
-        content: Content::Object(REFERENCE_ERROR_PROTOTYPE),
-        fixed: true,
-    },
-    Kept {
-        holder: RANGE_ERROR,
-        name: KeyName::Word("prototype"),
-        content: Content::Object(RANGE_ERROR_PROTOTYPE),
-        fixed: true,
-    },
-    Kept {
-        holder: OBJECT_PROTOTYPE,
-        name: KeyName::Word("hasOwnProperty"),
-        content: Content::Object(OBJECT_HAS_OWN_PROPERTY),
-        fixed: false,
-    },
-    Kept {
-        holder: OBJECT_PROTOTYPE,
-        name: KeyName::Word("toString"),
-        content: Content::Object(OBJECT_TO_STRING),
-        fixed: false,
-    },
-    Kept {
-        holder: OBJECT_PROTOTYPE,
-        name: KeyName::Word("valueOf"),
-        content: Content::Object(OBJECT_VALUE_OF),
-        fixed: false,
-    },
-    Kept {
-        holder: FUNCTION_PROTOTYPE,
-        name: KeyName::Word("call"),
-        content: Content::Object(FUNCTION_CALL),
-        fixed: false,
-    },
-    Kept {
-        holder: FUNCTION_PROTOTYPE,
-        name: KeyName::Word("apply"),
-        content: Content::Object(FUNCTION_APPLY),
-        fixed: false,
-    },
-    Kept {
-        holder: FUNCTION_PROTOTYPE,
-        name: KeyName::Word("toString"),
-        content: Content::Object(FUNCTION_TO_STRING),
-        fixed: false,
-    },
-    Kept {
-        holder: ARRAY_PROTOTYPE,
-        name: KeyName::Word("push"),
-        content: Content::Object(ARRAY_PUSH),
-        fixed: false,
-    },
-    Kept {
-        holder: ARRAY_PROTOTYPE,
-        name: KeyName::Word("pop"),
-        content: Content::Object(ARRAY_POP),
-        fixed: false,
-    },
-    Kept {
-        holder: ARRAY_PROTOTYPE,
-        name: KeyName::Word("indexOf"),
-        content: Content::Object(ARRAY_INDEX_OF),
-        fixed: false,
-    },
-    Kept {
-        holder: ARRAY_PROTOTYPE,
-        name: KeyName::Word("join"),
-        content: Content::Object(ARRAY_JOIN),
-        fixed: false,
-    },
-    Kept {
-        holder: ARRAY_PROTOTYPE,
-        name: KeyName::Word("forEach"),
-        content: Content::Object(ARRAY_FOR_EACH),
-        fixed: false,
-    },
-    Kept {
-        holder: ARRAY_PROTOTYPE,
-        name: KeyName::Word("toString"),
-        content: Content::Object(ARRAY_TO_STRING),
-        fixed: false,
-    },
-    Kept {
-        holder: STRING_PROTOTYPE,
-        name: KeyName::Word("charAt"),
-        content: Content::Object(STRING_CHAR_AT),
-        fixed: false,
-    },
-    Kept {
-        holder: STRING_PROTOTYPE,
-        name: KeyName::Word("charCodeAt"),
-        content: Content::Object(STRING_CHAR_CODE_AT),
-        fixed: false,
-    },
-    Kept {
-        holder: STRING_PROTOTYPE,
-        name: KeyName::Word("indexOf"),
-        content: Content::Object(STRING_INDEX_OF),
-        fixed: false,
-    },
-    Kept {
-        holder: STRING_PROTOTYPE,
-        name: KeyName::Word("substring"),
-        content: Content::Object(STRING_SUBSTRING),
-        fixed: false,
-    },
-    Kept {
-        holder: STRING_PROTOTYPE,
-        name: KeyName::Word("toString"),
-        content: Content::Object(STRING_TO_STRING),
-        fixed: false,
-    },
-    Kept {
-        holder: NUMBER_PROTOTYPE,
-        name: KeyName::Word("toString"),
-        content: Content::Object(NUMBER_TO_STRING),
-        fixed: false,
-    },
-    Kept {
-        holder: BOOLEAN_PROTOTYPE,
-        name: KeyName::Word("toString"),
-        content: Content::Object(BOOLEAN_TO_STRING),
-        fixed: false,
-    },
-    Kept {
-        holder: ERROR_PROTOTYPE,
-        name: KeyName::Word("name"),
-        content: Content::Text("Error"),
-        fixed: false,
-    },
-    Kept {
-        holder: ERROR_PROTOTYPE,
-        name: KeyName::Word("message"),
-        content: Content::Text(""),
-        fixed: false,
-    },
-    Kept {
-        holder: TYPE_ERROR_PROTOTYPE,
-        name: KeyName::Word("name"),
-        content: Content::Text("TypeError"),
-        fixed: false,
-    },
-    Kept {
-        holder: TYPE_ERROR_PROTOTYPE,
-        name: KeyName::Word("message"),
-        content: Content::Text(""),
-        fixed: false,
-    },
-    Kept {
-        holder: REFERENCE_ERROR_PROTOTYPE,
-        name: KeyName::Word("name"),
-        content: Content::Text("ReferenceError"),
-        fixed: false,
-    },
-    Kept {
-        holder: REFERENCE_ERROR_PROTOTYPE,
-        name: KeyName::Word("message"),
-        content: Content::Text(""),
-        fixed: false,
-    },
-    Kept {
-        holder: RANGE_ERROR_PROTOTYPE,
-        name: KeyName::Word("name"),
-        content: Content::Text("RangeError"),
-        fixed: false,
-    },
-    Kept {
-        holder: RANGE_ERROR_PROTOTYPE,
-        name: KeyName::Word("message"),
-        content: Content::Text(""),
-        fixed: false,
-    },
-    Kept {
-        holder: ERROR_PROTOTYPE,
-        name: KeyName::Word("toString"),
-        content: Content::Object(ERROR_TO_STRING),
-        fixed: false,
-    },
+/// Of the functions that make objects (19.1.2, 22.1.2, 21.1.2 and 19.5).
+pub(crate) const CONSTRUCTOR_ENTRIES: [Kept; 9] = [
+    Kept::Method(OBJECT, "create", OBJECT_CREATE),
+    Kept::Constant(OBJECT, "prototype", OBJECT_PROTOTYPE),
+    Kept::Method(ARRAY, "isArray", ARRAY_IS_ARRAY),
+    Kept::Constant(ARRAY, "prototype", ARRAY_PROTOTYPE),
+    Kept::Constant(STRING, "prototype", STRING_PROTOTYPE),
+    Kept::Constant(ERROR, "prototype", ERROR_PROTOTYPE),
+    Kept::Constant(TYPE_ERROR, "prototype", TYPE_ERROR_PROTOTYPE),
+    Kept::Constant(REFERENCE_ERROR, "prototype", REFERENCE_ERROR_PROTOTYPE),
+    Kept::Constant(RANGE_ERROR, "prototype", RANGE_ERROR_PROTOTYPE),
 ];
 
-pub(crate) const ENTRIES6: [Kept; 11] = [
-    Kept {
-        holder: ARRAY_PROTOTYPE,
-        name: KeyName::Iterator,
-        content: Content::Object(ARRAY_ITERATOR),
-        fixed: false,
-    },
-    Kept {
-        holder: ARRAY_PROTOTYPE,
-        name: KeyName::Word("includes"),
-        content: Content::Object(ARRAY_INCLUDES),
-        fixed: false,
-    },
-    Kept {
-        holder: STRING_PROTOTYPE,
-        name: KeyName::Iterator,
-        content: Content::Object(STRING_ITERATOR),
-        fixed: false,
-    },
-    Kept {
-        holder: GENERATOR_PROTOTYPE,
-        name: KeyName::Word("next"),
-        content: Content::Object(GENERATOR_NEXT),
-        fixed: false,
-    },
-    Kept {
-        holder: GENERATOR_PROTOTYPE,
-        name: KeyName::Word("return"),
-        content: Content::Object(GENERATOR_RETURN),
-        fixed: false,
-    },
-    Kept {
-        holder: GENERATOR_PROTOTYPE,
-        name: KeyName::Word("throw"),
-        content: Content::Object(GENERATOR_THROW),
-        fixed: false,
-    },
-    Kept {
-        holder: GENERATOR_PROTOTYPE,
-        name: KeyName::Iterator,
-        content: Content::Object(ITERATOR_SELF),
-        fixed: false,
-    },
-    Kept {
-        holder: ARRAY_ITERATOR_PROTOTYPE,
-        name: KeyName::Word("next"),
-        content: Content::Object(ARRAY_ITERATOR_NEXT),
-        fixed: false,
-    },
-    Kept {
-        holder: ARRAY_ITERATOR_PROTOTYPE,
-        name: KeyName::Iterator,
-        content: Content::Object(ITERATOR_SELF),
-        fixed: false,
-    },
-    Kept {
-        holder: STRING_ITERATOR_PROTOTYPE,
-        name: KeyName::Word("next"),
-        content: Content::Object(STRING_ITERATOR_NEXT),
-        fixed: false,
-    },
-    Kept {
-        holder: STRING_ITERATOR_PROTOTYPE,
-        name: KeyName::Iterator,
-        content: Content::Object(ITERATOR_SELF),
-        fixed: false,
-    },
+/// Of the prototypes of objects and functions (19.1.3 and 19.2.3).
+pub(crate) const OBJECT_ENTRIES: [Kept; 6] = [
+    Kept::Method(OBJECT_PROTOTYPE, "hasOwnProperty", OBJECT_HAS_OWN_PROPERTY),
+    Kept::Method(OBJECT_PROTOTYPE, "toString", OBJECT_TO_STRING),
+    Kept::Method(OBJECT_PROTOTYPE, "valueOf", OBJECT_VALUE_OF),
+    Kept::Method(FUNCTION_PROTOTYPE, "call", FUNCTION_CALL),
+    Kept::Method(FUNCTION_PROTOTYPE, "apply", FUNCTION_APPLY),
+    Kept::Method(FUNCTION_PROTOTYPE, "toString", FUNCTION_TO_STRING),
 ];
 
-pub(crate) const ENTRIES5: [Kept; 4] = [
-    Kept {
-        holder: OBJECT,
-        name: KeyName::Word("defineProperty"),
-        content: Content::Object(OBJECT_DEFINE_PROPERTY),
-        fixed: false,
-    },
-    Kept {
-        holder: OBJECT,
-        name: KeyName::Word("getOwnPropertyDescriptor"),
-        content: Content::Object(OBJECT_GET_OWN_PROPERTY_DESCRIPTOR),
-        fixed: false,
-    },
-    Kept {
-        holder: OBJECT,
-        name: KeyName::Word("getPrototypeOf"),
-        content: Content::Object(OBJECT_GET_PROTOTYPE_OF),
-        fixed: false,
-    },
-    Kept {
-        holder: OBJECT,
-        name: KeyName::Word("preventExtensions"),
-        content: Content::Object(OBJECT_PREVENT_EXTENSIONS),
-        fixed: false,
-    },
+/// Of the prototype of arrays (22.1.3).
+pub(crate) const ARRAY_ENTRIES: [Kept; 6] = [
+    Kept::Method(ARRAY_PROTOTYPE, "push", ARRAY_PUSH),
+    Kept::Method(ARRAY_PROTOTYPE, "pop", ARRAY_POP),
+    Kept::Method(ARRAY_PROTOTYPE, "indexOf", ARRAY_INDEX_OF),
+    Kept::Method(ARRAY_PROTOTYPE, "join", ARRAY_JOIN),
+    Kept::Method(ARRAY_PROTOTYPE, "forEach", ARRAY_FOR_EACH),
+    Kept::Method(ARRAY_PROTOTYPE, "toString", ARRAY_TO_STRING),
+];
+
+/// Of the prototypes of texts, numbers and truth values (21.1.3, 20.1.3 and 19.3.3).
+pub(crate) const PRIMITIVE_ENTRIES: [Kept; 7] = [
+    Kept::Method(STRING_PROTOTYPE, "charAt", STRING_CHAR_AT),
+    Kept::Method(STRING_PROTOTYPE, "charCodeAt", STRING_CHAR_CODE_AT),
+    Kept::Method(STRING_PROTOTYPE, "indexOf", STRING_INDEX_OF),
+    Kept::Method(STRING_PROTOTYPE, "substring", STRING_SUBSTRING),
+    Kept::Method(STRING_PROTOTYPE, "toString", STRING_TO_STRING),
+    Kept::Method(NUMBER_PROTOTYPE, "toString", NUMBER_TO_STRING),
+    Kept::Method(BOOLEAN_PROTOTYPE, "toString", BOOLEAN_TO_STRING),
+];
+
+/// Of the prototypes of errors (19.5.3 and 19.5.6.3).
+pub(crate) const ERROR_ENTRIES: [Kept; 9] = [
+    Kept::Text(ERROR_PROTOTYPE, "name", "Error"),
+    Kept::Text(ERROR_PROTOTYPE, "message", ""),
+    Kept::Text(TYPE_ERROR_PROTOTYPE, "name", "TypeError"),
+    Kept::Text(TYPE_ERROR_PROTOTYPE, "message", ""),
+    Kept::Text(REFERENCE_ERROR_PROTOTYPE, "name", "ReferenceError"),
+    Kept::Text(REFERENCE_ERROR_PROTOTYPE, "message", ""),
+    Kept::Text(RANGE_ERROR_PROTOTYPE, "name", "RangeError"),
+    Kept::Text(RANGE_ERROR_PROTOTYPE, "message", ""),
+    Kept::Method(ERROR_PROTOTYPE, "toString", ERROR_TO_STRING),
+];
+
+/// Of the prototypes of arrays and texts (22.1.3 and 21.1.3), in the 6th edition alone.
+pub(crate) const ITERABLE_ENTRIES6: [Kept; 3] = [
+    Kept::Iteration(ARRAY_PROTOTYPE, ARRAY_ITERATOR),
+    Kept::Method(ARRAY_PROTOTYPE, "includes", ARRAY_INCLUDES),
+    Kept::Iteration(STRING_PROTOTYPE, STRING_ITERATOR),
+];
+
+/// Of the prototype of generators (25.3.1).
+pub(crate) const GENERATOR_ENTRIES6: [Kept; 4] = [
+    Kept::Method(GENERATOR_PROTOTYPE, "next", GENERATOR_NEXT),
+    Kept::Method(GENERATOR_PROTOTYPE, "return", GENERATOR_RETURN),
+    Kept::Method(GENERATOR_PROTOTYPE, "throw", GENERATOR_THROW),
+    Kept::Iteration(GENERATOR_PROTOTYPE, ITERATOR_SELF),
+];
+
+/// Of the prototypes of array and text iterators (22.1.5.2 and 21.1.5.2).
+pub(crate) const ITERATOR_ENTRIES6: [Kept; 4] = [
+    Kept::Method(ARRAY_ITERATOR_PROTOTYPE, "next", ARRAY_ITERATOR_NEXT),
+    Kept::Iteration(ARRAY_ITERATOR_PROTOTYPE, ITERATOR_SELF),
+    Kept::Method(STRING_ITERATOR_PROTOTYPE, "next", STRING_ITERATOR_NEXT),
+    Kept::Iteration(STRING_ITERATOR_PROTOTYPE, ITERATOR_SELF),
+];
+
+/// Of Object, in the 5.1 edition alone (15.2.3).
+pub(crate) const OBJECT_ENTRIES5: [Kept; 4] = [
+    Kept::Method(OBJECT, "defineProperty", OBJECT_DEFINE_PROPERTY),
+    Kept::Method(
+        OBJECT,
+        "getOwnPropertyDescriptor",
+        OBJECT_GET_OWN_PROPERTY_DESCRIPTOR,
+    ),
+    Kept::Method(OBJECT, "getPrototypeOf", OBJECT_GET_PROTOTYPE_OF),
+    Kept::Method(OBJECT, "preventExtensions", OBJECT_PREVENT_EXTENSIONS),
 ];

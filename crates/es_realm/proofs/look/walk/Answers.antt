@@ -1,5 +1,5 @@
 use Rattle.std.proofs.Common.{◌≡◌, ◌<◌, ◌-◌, ◌+◌, ◌∙◌, ◌||◌, sym, ap, arith, length}
-use Rattle.es_realm.specs.Look.{walk_within, passes_unrecorded}
+use Rattle.es_realm.specs.Look.{walk_within}
 use Rattle.es_realm.proofs.LookLemmas.{walk_stops, walk_goes_up}
 use Rattle.es_realm.proofs.look.walk.Goals as goal
 
