@@ -3,18 +3,15 @@ ghost use Rattle.std.specs.Prelude.{◌≡◌, IfOk};
 ghost use Rattle.es_builtins.specs.Turns.{turn_of, settle_effect, step_of, edition_of, StepsTo};
 
 use crate::turn::turn_of;
-use es_calls::{BuiltinCall, BuiltinStep, Pending, receive_method, receive_result, settle};
+use es_calls::{
+    BuiltinCall, BuiltinStep, Pending, Stepped, receive_method, receive_result, settle,
+};
 use es_heap::Heap;
 use es_realm::{Edition, RealmOf};
 use std::alloc::{AllocError, Global};
 
 /// A turn of the function, and what it wants.
-fn step_turn(
-    call: &mut BuiltinCall,
-    alloc: Global,
-    edition: Edition,
-    heap: &mut Heap,
-) -> Result<BuiltinStep, AllocError>
+fn step_turn(call: &mut BuiltinCall, alloc: Global, edition: Edition, heap: &mut Heap) -> Stepped
     ensures { IfOk result (λ step. (step ≡ (settle_effect edition (turn_of edition heap.old call.old)).step) × (call.new ≡ (settle_effect edition (turn_of edition heap.old call.old)).call) × (heap.new ≡ (settle_effect edition (turn_of edition heap.old call.old)).heap)) }
 {
     let want = turn_of(call, alloc, edition, heap)?;
@@ -22,12 +19,7 @@ fn step_turn(
 }
 
 /// One step of a call, as `step_builtin` takes it, for a caller that keeps the edition of its realm.
-pub fn step_of(
-    call: &mut BuiltinCall,
-    alloc: Global,
-    edition: Edition,
-    heap: &mut Heap,
-) -> Result<BuiltinStep, AllocError>
+pub fn step_of(call: &mut BuiltinCall, alloc: Global, edition: Edition, heap: &mut Heap) -> Stepped
     ensures { IfOk result (λ step. (step ≡ (step_of edition heap.old call.old).step) × (call.new ≡ (step_of edition heap.old call.old).call) × (heap.new ≡ (step_of edition heap.old call.old).heap)) }
 {
     match call.pending {

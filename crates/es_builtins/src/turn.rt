@@ -2,20 +2,16 @@
 ghost use Rattle.std.specs.Prelude.{◌≡◌, IfOk};
 ghost use Rattle.es_builtins.specs.Turns.{constructor_turn, object_turn, array_turn, string_turn, prototype_turn, fifth_turn, turn_of};
 
-use es_calls::{BuiltinCall, Resumption, Want};
+use es_calls::{BuiltinCall, Resumption, Turned, Want};
 use es_heap::Heap;
 use es_object_functions::{error, fifth, object};
 use es_realm::Edition;
 use es_sequence_functions::{array, function, iterator, string};
 use es_value::Value;
-use std::alloc::{AllocError, Global};
+use std::alloc::Global;
 
 /// Object, Array, String, Error and its kinds.
-fn constructor_turn(
-    call: &mut BuiltinCall,
-    alloc: Global,
-    heap: &mut Heap,
-) -> Result<Want, AllocError>
+fn constructor_turn(call: &mut BuiltinCall, alloc: Global, heap: &mut Heap) -> Turned
     ensures { IfOk result (λ want. (want ≡ (constructor_turn heap.old call.old).want) × (call.new ≡ (constructor_turn heap.old call.old).call) × (heap.new ≡ (constructor_turn heap.old call.old).heap)) }
 {
     if call.builtin < 2 {
@@ -28,12 +24,7 @@ fn constructor_turn(
 }
 
 /// The functions of Object, Array, Object.prototype and Function.prototype.
-fn object_turn(
-    call: &mut BuiltinCall,
-    alloc: Global,
-    edition: Edition,
-    heap: &mut Heap,
-) -> Result<Want, AllocError>
+fn object_turn(call: &mut BuiltinCall, alloc: Global, edition: Edition, heap: &mut Heap) -> Turned
     ensures { IfOk result (λ want. (want ≡ (object_turn edition heap.old call.old).want) × (call.new ≡ (object_turn edition heap.old call.old).call) × (heap.new ≡ (object_turn edition heap.old call.old).heap)) }
 {
     match call.builtin {
@@ -49,12 +40,7 @@ fn object_turn(
 }
 
 /// The functions of Array.prototype.
-fn array_turn(
-    call: &mut BuiltinCall,
-    alloc: Global,
-    edition: Edition,
-    heap: &mut Heap,
-) -> Result<Want, AllocError>
+fn array_turn(call: &mut BuiltinCall, alloc: Global, edition: Edition, heap: &mut Heap) -> Turned
     ensures { IfOk result (λ want. (want ≡ (array_turn edition heap.old call.old).want) × (call.new ≡ (array_turn edition heap.old call.old).call) × (heap.new ≡ (array_turn edition heap.old call.old).heap)) }
 {
     match call.builtin {
@@ -70,12 +56,7 @@ fn array_turn(
 }
 
 /// The functions of String.prototype.
-fn string_turn(
-    call: &mut BuiltinCall,
-    alloc: Global,
-    edition: Edition,
-    heap: &mut Heap,
-) -> Result<Want, AllocError>
+fn string_turn(call: &mut BuiltinCall, alloc: Global, edition: Edition, heap: &mut Heap) -> Turned
     ensures { IfOk result (λ want. (want ≡ (string_turn edition heap.old call.old).want) × (call.new ≡ (string_turn edition heap.old call.old).call) × (heap.new ≡ (string_turn edition heap.old call.old).heap)) }
 {
     match call.builtin {
@@ -94,7 +75,7 @@ fn prototype_turn(
     alloc: Global,
     edition: Edition,
     heap: &mut Heap,
-) -> Result<Want, AllocError>
+) -> Turned
     ensures { IfOk result (λ want. (want ≡ (prototype_turn edition heap.old call.old).want) × (call.new ≡ (prototype_turn edition heap.old call.old).call) × (heap.new ≡ (prototype_turn edition heap.old call.old).heap)) }
 {
     match call.builtin {
@@ -111,7 +92,7 @@ fn prototype_turn(
 }
 
 /// The functions that the realm of the 5.1 edition has besides, and Function.prototype.
-fn fifth_turn(call: &mut BuiltinCall, alloc: Global, heap: &mut Heap) -> Result<Want, AllocError>
+fn fifth_turn(call: &mut BuiltinCall, alloc: Global, heap: &mut Heap) -> Turned
     ensures { IfOk result (λ want. (want ≡ (fifth_turn heap.old call.old).want) × (call.new ≡ (fifth_turn heap.old call.old).call) × (heap.new ≡ (fifth_turn heap.old call.old).heap)) }
 {
     match call.builtin {
@@ -130,7 +111,7 @@ pub(crate) fn turn_of(
     alloc: Global,
     edition: Edition,
     heap: &mut Heap,
-) -> Result<Want, AllocError>
+) -> Turned
     ensures { IfOk result (λ want. (want ≡ (turn_of edition heap.old call.old).want) × (call.new ≡ (turn_of edition heap.old call.old).call) × (heap.new ≡ (turn_of edition heap.old call.old).heap)) }
 {
     if call.builtin < 7 {

@@ -79,6 +79,12 @@ pub enum Pending {
     Result(Conversion),
 }
 
+/// What a turn of a function wants, if there is memory for it.
+pub type Turned = Result<Want, AllocError>;
+
+/// What a step of a call gives, if there is memory for it.
+pub type Stepped = Result<BuiltinStep, AllocError>;
+
 /// What one turn of a function wants.
 #[derive(Debug, Drop)]
 pub enum Want {

@@ -8,8 +8,8 @@ mod properties;
 mod settling;
 
 pub use call::{
-    BuiltinCall, BuiltinStep, Pending, Place, Resumption, Want, index_key, is_undefined, number_in,
-    object_in, plus, position, share_all, text_in,
+    BuiltinCall, BuiltinStep, Pending, Place, Resumption, Stepped, Turned, Want, index_key,
+    is_undefined, number_in, object_in, plus, position, share_all, text_in,
 };
 pub use es_realm::ErrorKind;
 pub use making::{iter_result, make_arguments, make_list};

@@ -3,21 +3,16 @@ ghost use Rattle.std.specs.Prelude.{◌≡◌, IfOk};
 ghost use Rattle.es_operators.specs.Conversions.{method_given};
 ghost use Rattle.es_calls.specs.Steps.{settle_need, settle_primitive, settle_conversion, settle_read, settle, settle_attempt, receive_result};
 
-use crate::call::{BuiltinCall, BuiltinStep, Pending, Want};
+use crate::call::{BuiltinCall, BuiltinStep, Pending, Stepped, Want};
 use es_heap::{Heap, Key};
 use es_operators::{Conversion, Hint, Need, is_object, key_of_word};
 use es_realm::{Edition, ErrorKind, Read, read_value};
 use es_value::{Value, to_number, to_text};
 use sqlite_items::Items;
-use std::alloc::{AllocError, Global};
+use std::alloc::Global;
 
 /// What a conversion asks for.
-fn settle_need(
-    call: &mut BuiltinCall,
-    alloc: Global,
-    conversion: Conversion,
-    need: Need,
-) -> Result<BuiltinStep, AllocError>
+fn settle_need(call: &mut BuiltinCall, alloc: Global, conversion: Conversion, need: Need) -> Stepped
     ensures { IfOk result (λ step. (step ≡ (settle_need call.old conversion need).step) × (call.new ≡ (settle_need call.old conversion need).call)) }
 {
     match need {
@@ -48,12 +43,7 @@ fn settle_need(
 }
 
 /// A primitive, converted as the hint says.
-fn settle_primitive(
-    call: &mut BuiltinCall,
-    alloc: Global,
-    hint: Hint,
-    value: &Value,
-) -> Result<BuiltinStep, AllocError>
+fn settle_primitive(call: &mut BuiltinCall, alloc: Global, hint: Hint, value: &Value) -> Stepped
     ensures { IfOk result (λ step. (step ≡ (settle_primitive call.old hint value.now).step) × (call.new ≡ (settle_primitive call.old hint value.now).call)) }
 {
     let converted = match hint {
@@ -76,7 +66,7 @@ fn settle_conversion(
     heap: &Heap,
     hint: Hint,
     value: &Value,
-) -> Result<BuiltinStep, AllocError>
+) -> Stepped
     ensures { IfOk result (λ step. (step ≡ (settle_conversion edition heap.now call.old hint value.now).step) × (call.new ≡ (settle_conversion edition heap.now call.old hint value.now).call)) }
 {
     match value {
@@ -130,7 +120,7 @@ pub fn settle(
     edition: Edition,
     heap: &Heap,
     want: Want,
-) -> Result<BuiltinStep, AllocError>
+) -> Stepped
     ensures { IfOk result (λ step. (step ≡ (settle edition heap.now call.old want).step) × (call.new ≡ (settle edition heap.now call.old want).call)) }
 {
     match want {
@@ -167,7 +157,7 @@ pub fn receive_result(
     edition: Edition,
     heap: &Heap,
     conversion: Conversion,
-) -> Result<BuiltinStep, AllocError>
+) -> Stepped
     ensures { IfOk result (λ step. (step ≡ (receive_result edition heap.now call.old conversion).step) × (call.new ≡ (receive_result edition heap.now call.old conversion).call)) }
 {
     let mut conversion = conversion;
@@ -187,7 +177,7 @@ pub fn receive_method(
     edition: Edition,
     heap: &Heap,
     conversion: Conversion,
-) -> Result<BuiltinStep, AllocError>
+) -> Stepped
     ensures { IfOk result (λ step. (step ≡ (settle_attempt call.old (method_given edition heap.now conversion call.old.input)).step) × (call.new ≡ (settle_attempt call.old (method_given edition heap.now conversion call.old.input)).call)) }
 {
     let mut conversion = conversion;

@@ -6,14 +6,14 @@ ghost use Rattle.es_object_functions.specs.Errors.{error_begin, error_message, e
 ghost use Rattle.es_calls.specs.Properties.{with_property};
 
 use es_calls::{
-    BuiltinCall, ErrorKind, Place, Want, add_property, is_undefined, object_in, text_in,
+    BuiltinCall, ErrorKind, Place, Turned, Want, add_property, is_undefined, object_in, text_in,
 };
 use es_heap::{Class, Heap, HeapFault, Prop};
 use es_operators::{is_object, key_of_word};
 use es_value::{ObjId, Str, Value};
 use std::alloc::{AllocError, Global};
 
-fn error_begin(call: &mut BuiltinCall, alloc: Global, heap: &mut Heap) -> Result<Want, AllocError>
+fn error_begin(call: &mut BuiltinCall, alloc: Global, heap: &mut Heap) -> Turned
     ensures { IfOk result (λ want. (want ≡ (error_begin heap.old call.old).want) × (call.new ≡ (error_begin heap.old call.old).call) × (heap.new ≡ (error_begin heap.old call.old).heap)) }
 {
     let message = call.arg(0)?;
@@ -28,7 +28,7 @@ fn error_begin(call: &mut BuiltinCall, alloc: Global, heap: &mut Heap) -> Result
     }
 }
 
-fn error_message(call: &BuiltinCall, alloc: Global, heap: &mut Heap) -> Result<Want, AllocError>
+fn error_message(call: &BuiltinCall, alloc: Global, heap: &mut Heap) -> Turned
     ensures { IfOk result (λ want. (want ≡ (error_message heap.old call.now).want) × (heap.new ≡ (error_message heap.old call.now).heap)) }
 {
     let message = call.input.share()?;
@@ -37,7 +37,7 @@ fn error_message(call: &BuiltinCall, alloc: Global, heap: &mut Heap) -> Result<W
 }
 
 /// A call of an error constructor, by `new` too (19.5.1.1 and 19.5.6.1.1).
-pub fn error_of(call: &mut BuiltinCall, alloc: Global, heap: &mut Heap) -> Result<Want, AllocError>
+pub fn error_of(call: &mut BuiltinCall, alloc: Global, heap: &mut Heap) -> Turned
     ensures { IfOk result (λ want. (want ≡ (error_of heap.old call.old call.old.place).want) × (call.new ≡ (error_of heap.old call.old call.old.place).call) × (heap.new ≡ (error_of heap.old call.old call.old.place).heap)) }
 {
     match call.place {
@@ -63,7 +63,7 @@ fn described(alloc: Global, name: &[u16], message: &[u16]) -> Result<Value, Allo
     Ok(Value::Text(Str::of_vec(alloc, units)?))
 }
 
-fn wants_message(call: &mut BuiltinCall, alloc: Global) -> Result<Want, AllocError>
+fn wants_message(call: &mut BuiltinCall, alloc: Global) -> Turned
     ensures { IfOk result (λ want. (want ≡ (wants_message call.old).want) × (call.new ≡ (wants_message call.old).call)) }
 {
     call.place = Place::Element;
@@ -71,7 +71,7 @@ fn wants_message(call: &mut BuiltinCall, alloc: Global) -> Result<Want, AllocErr
 }
 
 /// What Error.prototype.toString does with the name.
-fn name_read(call: &mut BuiltinCall, alloc: Global) -> Result<Want, AllocError>
+fn name_read(call: &mut BuiltinCall, alloc: Global) -> Turned
     ensures { IfOk result (λ want. (want ≡ (error_text call.old AtReceiver).want) × (call.new ≡ (error_text call.old AtReceiver).call)) }
 {
     if is_undefined(&call.input) {
@@ -83,7 +83,7 @@ fn name_read(call: &mut BuiltinCall, alloc: Global) -> Result<Want, AllocError>
 }
 
 /// What Error.prototype.toString does with the message.
-fn message_read(call: &mut BuiltinCall, alloc: Global) -> Result<Want, AllocError>
+fn message_read(call: &mut BuiltinCall, alloc: Global) -> Turned
     ensures { IfOk result (λ want. (want ≡ (error_text call.old AtElement).want) × (call.new ≡ (error_text call.old AtElement).call)) }
 {
     if is_undefined(&call.input) {
@@ -94,7 +94,7 @@ fn message_read(call: &mut BuiltinCall, alloc: Global) -> Result<Want, AllocErro
 }
 
 /// Error.prototype.toString (19.5.3.4).
-pub fn error_text(call: &mut BuiltinCall, alloc: Global) -> Result<Want, AllocError>
+pub fn error_text(call: &mut BuiltinCall, alloc: Global) -> Turned
     ensures { IfOk result (λ want. (want ≡ (error_text call.old call.old.place).want) × (call.new ≡ (error_text call.old call.old.place).call)) }
 {
     match call.place {

@@ -8,8 +8,8 @@ ghost use Rattle.es_calls.specs.declared.call.Want.TheVariants.{Done as WantDone
 ghost use Rattle.es_object_functions.specs.Fifth.{object_or_null, get_prototype_of, prevent_extensions, function_or_undefined, three_properties, descriptor, described_own, wants_key, get_descriptor, field_name, with_field, field_if_there, field_read, field_at, fields_of, has_accessor_field, has_plain_field, truth_or, value_or, function_in, function_or, old_value, old_writable, old_get, old_set, old_configurable, is_accessor, completed, is_open_function, adds_includes, define_allowed, define_fields, kept_key, sets_length, given_value, define_end, define_turn, define_length, define_receiver, define_property};
 
 use es_calls::{
-    BuiltinCall, ErrorKind, Place, Want, add_property, is_undefined, number_in, object_in, plus,
-    text_in,
+    BuiltinCall, ErrorKind, Place, Turned, Want, add_property, is_undefined, number_in, object_in,
+    plus, text_in,
 };
 use es_heap::{Class, Heap, HeapFault, Key, Prop};
 use es_operators::{is_callable, is_object, key_of_word, truth_of};
@@ -72,7 +72,7 @@ fn three_properties(
     second_name: &[u8],
     second_value: Value,
     configurable: bool,
-) -> Result<Want, AllocError>
+) -> Turned
     ensures { IfOk result (λ want. (want ≡ WantDone (ObjectValue (next_id heap.old))) × (heap.new ≡ three_properties heap.old name.now value second_name.now second_value configurable)) }
 {
     let id = heap.make(alloc, Some(OBJECT_PROTOTYPE), Class::Object)?;
@@ -118,7 +118,7 @@ fn own_copy(heap: &Heap, id: ObjId, key: &Key) -> Result<Option<Prop>, AllocErro
 }
 
 /// FromPropertyDescriptor (8.10.4).
-fn descriptor(alloc: Global, heap: &mut Heap, property: Option<Prop>) -> Result<Want, AllocError>
+fn descriptor(alloc: Global, heap: &mut Heap, property: Option<Prop>) -> Turned
     ensures { IfOk result (λ want. (want ≡ (descriptor heap.old property).want) × (heap.new ≡ (descriptor heap.old property).heap)) }
 {
     match property {
@@ -156,7 +156,7 @@ fn descriptor(alloc: Global, heap: &mut Heap, property: Option<Prop>) -> Result<
     }
 }
 
-fn described_own(alloc: Global, heap: &mut Heap, key: &Key, found: Look) -> Result<Want, AllocError>
+fn described_own(alloc: Global, heap: &mut Heap, key: &Key, found: Look) -> Turned
     ensures { IfOk result (λ want. (want ≡ (described_own heap.old key.now found).want) × (heap.new ≡ (described_own heap.old key.now found).heap)) }
 {
     match found {
@@ -170,7 +170,7 @@ fn described_own(alloc: Global, heap: &mut Heap, key: &Key, found: Look) -> Resu
 }
 
 /// Wants the text of a key, if the first argument is an object.
-fn wants_key(call: &mut BuiltinCall, place: Place) -> Result<Want, AllocError>
+fn wants_key(call: &mut BuiltinCall, place: Place) -> Turned
     ensures { IfOk result (λ want. (want ≡ (wants_key call.old place).want) × (call.new ≡ (wants_key call.old place).call)) }
 {
     if !is_object(&call.arg(0)?) {
@@ -181,11 +181,7 @@ fn wants_key(call: &mut BuiltinCall, place: Place) -> Result<Want, AllocError>
 }
 
 /// getOwnPropertyDescriptor (15.2.3.3).
-pub fn get_descriptor(
-    call: &mut BuiltinCall,
-    alloc: Global,
-    heap: &mut Heap,
-) -> Result<Want, AllocError>
+pub fn get_descriptor(call: &mut BuiltinCall, alloc: Global, heap: &mut Heap) -> Turned
     ensures { IfOk result (λ want. (want ≡ (get_descriptor heap.old call.old call.old.place).want) × (call.new ≡ (get_descriptor heap.old call.old call.old.place).call) × (heap.new ≡ (get_descriptor heap.old call.old call.old.place).heap)) }
 {
     match call.place {
@@ -218,7 +214,7 @@ fn field_name(index: i64) -> &'static [u8]
     }
 }
 
-fn with_field(call: &mut BuiltinCall, there: bool, value: Value) -> Result<Want, AllocError>
+fn with_field(call: &mut BuiltinCall, there: bool, value: Value) -> Turned
     ensures { IfOk result (λ want. (want ≡ (with_field call.old there value).want) × (call.new ≡ (with_field call.old there value).call)) }
 {
     call.list.push(Value::Bool(there))?;
@@ -228,7 +224,7 @@ fn with_field(call: &mut BuiltinCall, there: bool, value: Value) -> Result<Want,
     Ok(Want::Again)
 }
 
-fn field_if_there(call: &mut BuiltinCall, alloc: Global, found: Look) -> Result<Want, AllocError>
+fn field_if_there(call: &mut BuiltinCall, alloc: Global, found: Look) -> Turned
     ensures { IfOk result (λ want. (want ≡ (field_if_there call.old found).want) × (call.new ≡ (field_if_there call.old found).call)) }
 {
     match found {
@@ -242,7 +238,7 @@ fn field_if_there(call: &mut BuiltinCall, alloc: Global, found: Look) -> Result<
 }
 
 /// A getter or setter is a function or undefined.
-fn field_read(call: &mut BuiltinCall, heap: &Heap) -> Result<Want, AllocError>
+fn field_read(call: &mut BuiltinCall, heap: &Heap) -> Turned
     ensures { IfOk result (λ want. (want ≡ (field_read heap.now call.old).want) × (call.new ≡ (field_read heap.now call.old).call)) }
 {
     if 4 <= call.index && !is_undefined(&call.input) && !is_callable(heap, &call.input) {
@@ -431,13 +427,7 @@ fn adds_includes(heap: &Heap, id: ObjId, key: &Key, property: &Prop) -> bool
         && is_open_function(heap, property)
 }
 
-fn define_allowed(
-    alloc: Global,
-    heap: &mut Heap,
-    id: ObjId,
-    key: Key,
-    property: Prop,
-) -> Result<Want, AllocError>
+fn define_allowed(alloc: Global, heap: &mut Heap, id: ObjId, key: Key, property: Prop) -> Turned
     ensures { IfOk result (λ want. (want ≡ (define_allowed heap.old id key property).want) × (heap.new ≡ (define_allowed heap.old id key property).heap)) }
 {
     match heap.define_own(alloc, id, key, property) {
@@ -450,13 +440,7 @@ fn define_allowed(
     }
 }
 
-fn define_fields(
-    alloc: Global,
-    heap: &mut Heap,
-    id: ObjId,
-    key: Key,
-    fields: Fields,
-) -> Result<Want, AllocError>
+fn define_fields(alloc: Global, heap: &mut Heap, id: ObjId, key: Key, fields: Fields) -> Turned
     ensures { IfOk result (λ want. (want ≡ (define_fields heap.old id key fields).want) × (heap.new ≡ (define_fields heap.old id key fields).heap)) }
 {
     if let Some(exit) = definition_exit(Edition::Fifth, heap, id, &key) {
@@ -498,7 +482,7 @@ fn given_value(call: &BuiltinCall) -> Result<Value, AllocError>
     Ok(value_or(fields.value, Value::Undefined))
 }
 
-fn define_end(call: &mut BuiltinCall, alloc: Global, heap: &mut Heap) -> Result<Want, AllocError>
+fn define_end(call: &mut BuiltinCall, alloc: Global, heap: &mut Heap) -> Turned
     ensures { IfOk result (λ want. (want ≡ (define_end heap.old call.old).want) × (call.new ≡ (define_end heap.old call.old).call) × (heap.new ≡ (define_end heap.old call.old).heap)) }
 {
     let fields = fields_of(call.list.as_slice())?;
@@ -514,7 +498,7 @@ fn define_end(call: &mut BuiltinCall, alloc: Global, heap: &mut Heap) -> Result<
     define_fields(alloc, heap, id, key, fields)
 }
 
-fn define_turn(call: &mut BuiltinCall, alloc: Global, heap: &mut Heap) -> Result<Want, AllocError>
+fn define_turn(call: &mut BuiltinCall, alloc: Global, heap: &mut Heap) -> Turned
     ensures { IfOk result (λ want. (want ≡ (define_turn heap.old call.old).want) × (call.new ≡ (define_turn heap.old call.old).call) × (heap.new ≡ (define_turn heap.old call.old).heap)) }
 {
     if call.index >= 6 {
@@ -527,7 +511,7 @@ fn define_turn(call: &mut BuiltinCall, alloc: Global, heap: &mut Heap) -> Result
 }
 
 /// Goes on once the value for an array's length was converted twice.
-fn define_length(call: &BuiltinCall, alloc: Global, heap: &mut Heap) -> Result<Want, AllocError>
+fn define_length(call: &BuiltinCall, alloc: Global, heap: &mut Heap) -> Turned
     ensures { IfOk result (λ want. (want ≡ (define_length heap.old call.now).want) × (heap.new ≡ (define_length heap.old call.now).heap)) }
 {
     let Some(length) = converted_length(call.length, number_in(&call.input)) else {
@@ -540,7 +524,7 @@ fn define_length(call: &BuiltinCall, alloc: Global, heap: &mut Heap) -> Result<W
     define_fields(alloc, heap, id, key, fields)
 }
 
-fn define_receiver(call: &mut BuiltinCall) -> Result<Want, AllocError>
+fn define_receiver(call: &mut BuiltinCall) -> Turned
     ensures { IfOk result (λ want. (want ≡ (define_receiver call.old).want) × (call.new ≡ (define_receiver call.old).call)) }
 {
     if !is_object(&call.arg(2)?) {
@@ -552,11 +536,7 @@ fn define_receiver(call: &mut BuiltinCall) -> Result<Want, AllocError>
 }
 
 /// defineProperty (15.2.3.6).
-pub fn define_property(
-    call: &mut BuiltinCall,
-    alloc: Global,
-    heap: &mut Heap,
-) -> Result<Want, AllocError>
+pub fn define_property(call: &mut BuiltinCall, alloc: Global, heap: &mut Heap) -> Turned
     ensures { IfOk result (λ want. (want ≡ (define_property heap.old call.old call.old.place).want) × (call.new ≡ (define_property heap.old call.old call.old.place).call) × (heap.new ≡ (define_property heap.old call.old call.old.place).heap)) }
 {
     match call.place {

@@ -10,7 +10,7 @@ ghost use Rattle.es_object_functions.specs.Objects.{value_of, is_or_below, is_ta
 ghost use Rattle.es_calls.specs.Properties.{class_text};
 
 use es_access::is_above;
-use es_calls::{BuiltinCall, ErrorKind, Place, Want, class_text, is_undefined, text_in};
+use es_calls::{BuiltinCall, ErrorKind, Place, Turned, Want, class_text, is_undefined, text_in};
 use es_heap::{Class, Heap, Key};
 use es_realm::names::{
     ARRAY_ITERATOR_PROTOTYPE, BOOLEAN_PROTOTYPE, GENERATOR_FUNCTION_PROTOTYPE, GENERATOR_PROTOTYPE,
@@ -57,13 +57,13 @@ fn is_tagged(heap: &Heap, id: ObjId) -> bool
 }
 
 /// The call ends with the text of these ASCII characters.
-fn done_text(alloc: Global, word: &[u8]) -> Result<Want, AllocError>
+fn done_text(alloc: Global, word: &[u8]) -> Turned
     ensures { IfOk result (λ want. want ≡ WantDone (TextValue word.now)) }
 {
     Ok(Want::Done(Value::Text(Str::of_bytes(alloc, word)?)))
 }
 
-fn object_text(alloc: Global, edition: Edition, heap: &Heap, id: ObjId) -> Result<Want, AllocError>
+fn object_text(alloc: Global, edition: Edition, heap: &Heap, id: ObjId) -> Turned
     ensures { IfOk result (λ want. want ≡ object_text edition heap.now id) }
 {
     match edition {
@@ -73,12 +73,7 @@ fn object_text(alloc: Global, edition: Edition, heap: &Heap, id: ObjId) -> Resul
 }
 
 /// Object.prototype.toString (19.1.3.6).
-pub fn to_string(
-    alloc: Global,
-    edition: Edition,
-    heap: &Heap,
-    receiver: &Value,
-) -> Result<Want, AllocError>
+pub fn to_string(alloc: Global, edition: Edition, heap: &Heap, receiver: &Value) -> Turned
     ensures { IfOk result (λ want. want ≡ to_string edition heap.now receiver.now) }
 {
     match receiver {
@@ -104,13 +99,7 @@ fn own_found(heap: &Heap, id: ObjId, key: &Key, found: Look) -> Want
 }
 
 /// Whether a value itself has a key.
-fn has_own_key(
-    alloc: Global,
-    edition: Edition,
-    heap: &Heap,
-    receiver: &Value,
-    key: &Key,
-) -> Result<Want, AllocError>
+fn has_own_key(alloc: Global, edition: Edition, heap: &Heap, receiver: &Value, key: &Key) -> Turned
     ensures { IfOk result (λ want. want ≡ has_own_key edition heap.now receiver.now key.now) }
 {
     match receiver {
@@ -140,7 +129,7 @@ pub fn has_own_property(
     alloc: Global,
     edition: Edition,
     heap: &Heap,
-) -> Result<Want, AllocError>
+) -> Turned
     ensures { IfOk result (λ want. (want ≡ (has_own_property edition heap.now call.old call.old.place).want) × (call.new ≡ (has_own_property edition heap.now call.old call.old.place).call)) }
 {
     match call.place {
@@ -155,7 +144,7 @@ pub fn has_own_property(
     }
 }
 
-fn create_from(alloc: Global, heap: &mut Heap, proto: &Value) -> Result<Want, AllocError>
+fn create_from(alloc: Global, heap: &mut Heap, proto: &Value) -> Turned
     ensures { IfOk result (λ want. (want ≡ (create_from heap.old proto.now).want) × (heap.new ≡ (create_from heap.old proto.now).heap)) }
 {
     let proto = match proto {
@@ -168,7 +157,7 @@ fn create_from(alloc: Global, heap: &mut Heap, proto: &Value) -> Result<Want, Al
 }
 
 /// Object.create (19.1.2.2).
-pub fn create(call: &BuiltinCall, alloc: Global, heap: &mut Heap) -> Result<Want, AllocError>
+pub fn create(call: &BuiltinCall, alloc: Global, heap: &mut Heap) -> Turned
     ensures { IfOk result (λ want. (want ≡ (create heap.old call.now).want) × (heap.new ≡ (create heap.old call.now).heap)) }
 {
     if !is_undefined(&call.arg(1)?) {
@@ -197,12 +186,7 @@ fn decimal_text(radix: &Value, text: Str) -> Want
     }
 }
 
-fn prototype_text(
-    alloc: Global,
-    edition: Edition,
-    radix: &Value,
-    word: &[u8],
-) -> Result<Want, AllocError>
+fn prototype_text(alloc: Global, edition: Edition, radix: &Value, word: &[u8]) -> Turned
     ensures { IfOk result (λ want. want ≡ prototype_text edition radix.now word.now) }
 {
     match edition {
@@ -212,12 +196,7 @@ fn prototype_text(
 }
 
 /// Number.prototype.toString (20.1.3.6).
-pub fn number_text(
-    alloc: Global,
-    edition: Edition,
-    receiver: &Value,
-    radix: &Value,
-) -> Result<Want, AllocError>
+pub fn number_text(alloc: Global, edition: Edition, receiver: &Value, radix: &Value) -> Turned
     ensures { IfOk result (λ want. want ≡ number_text edition receiver.now radix.now) }
 {
     match receiver {
@@ -230,12 +209,7 @@ pub fn number_text(
 }
 
 /// Boolean.prototype.toString (19.3.3.2).
-pub fn truth_text(
-    alloc: Global,
-    edition: Edition,
-    receiver: &Value,
-    radix: &Value,
-) -> Result<Want, AllocError>
+pub fn truth_text(alloc: Global, edition: Edition, receiver: &Value, radix: &Value) -> Turned
     ensures { IfOk result (λ want. want ≡ truth_text edition receiver.now radix.now) }
 {
     match receiver {

@@ -5,8 +5,8 @@ ghost use Rattle.es_sequence_functions.specs.Arrays.{is_array_value, measured, w
 
 use crate::function::is_list;
 use es_calls::{
-    BuiltinCall, ErrorKind, Place, Want, class_text, index_key, is_undefined, number_in, object_in,
-    plus, position, text_in,
+    BuiltinCall, ErrorKind, Place, Turned, Want, class_text, index_key, is_undefined, number_in,
+    object_in, plus, position, text_in,
 };
 use es_heap::{Class, Heap};
 use es_operators::{is_callable, is_nothing, key_of_word};
@@ -26,7 +26,7 @@ pub fn is_array_value(heap: &Heap, value: &Value) -> bool
 }
 
 /// Reads the receiver's length first.
-fn measured(call: &mut BuiltinCall, alloc: Global, heap: &Heap) -> Result<Want, AllocError>
+fn measured(call: &mut BuiltinCall, alloc: Global, heap: &Heap) -> Turned
     ensures { IfOk result (λ want. (want ≡ (measured heap.now call.old).want) × (call.new ≡ (measured heap.now call.old).call)) }
 {
     if !is_list(alloc, heap, &call.this_value)? {
@@ -64,7 +64,7 @@ fn next_turn(call: &mut BuiltinCall) -> Want
 }
 
 /// Looks at an element if it is there (7.3.10).
-fn if_there(call: &mut BuiltinCall, alloc: Global, found: Look) -> Result<Want, AllocError>
+fn if_there(call: &mut BuiltinCall, alloc: Global, found: Look) -> Turned
     ensures { IfOk result (λ want. (want ≡ (if_there call.old found).want) × (call.new ≡ (if_there call.old found).call)) }
 {
     match found {
@@ -83,7 +83,7 @@ fn turn_if_there(
     edition: Edition,
     heap: &Heap,
     end: Want,
-) -> Result<Want, AllocError>
+) -> Turned
     ensures { IfOk result (λ want. (want ≡ (turn_if_there edition heap.now call.old end).want) × (call.new ≡ (turn_if_there edition heap.now call.old end).call)) }
 {
     if call.index >= call.length {
@@ -95,7 +95,7 @@ fn turn_if_there(
 }
 
 /// Nothing is found in what is empty, and else the position is converted.
-fn search_length(call: &mut BuiltinCall, nothing: Want) -> Result<Want, AllocError>
+fn search_length(call: &mut BuiltinCall, nothing: Want) -> Turned
     ensures { IfOk result (λ want. (want ≡ (search_length (with_length call.old) nothing).want) × (call.new ≡ (search_length (with_length call.old) nothing).call)) }
 {
     take_length(call);
@@ -116,12 +116,7 @@ fn search_position(call: &mut BuiltinCall) -> Want
 }
 
 /// indexOf (22.1.3.11).
-pub fn index_of(
-    call: &mut BuiltinCall,
-    alloc: Global,
-    edition: Edition,
-    heap: &Heap,
-) -> Result<Want, AllocError>
+pub fn index_of(call: &mut BuiltinCall, alloc: Global, edition: Edition, heap: &Heap) -> Turned
     ensures { IfOk result (λ want. (want ≡ (index_of edition heap.now call.old call.old.place).want) × (call.new ≡ (index_of edition heap.now call.old call.old.place).call)) }
 {
     match call.place {
@@ -141,7 +136,7 @@ pub fn index_of(
 }
 
 /// A turn of includes.
-fn includes_turn(call: &mut BuiltinCall, alloc: Global) -> Result<Want, AllocError>
+fn includes_turn(call: &mut BuiltinCall, alloc: Global) -> Turned
     ensures { IfOk result (λ want. (want ≡ (includes_turn call.old).want) × (call.new ≡ (includes_turn call.old).call)) }
 {
     if call.index >= call.length {
@@ -152,7 +147,7 @@ fn includes_turn(call: &mut BuiltinCall, alloc: Global) -> Result<Want, AllocErr
 }
 
 /// includes (7th edition, 22.1.3.11).
-pub fn includes(call: &mut BuiltinCall, alloc: Global, heap: &Heap) -> Result<Want, AllocError>
+pub fn includes(call: &mut BuiltinCall, alloc: Global, heap: &Heap) -> Turned
     ensures { IfOk result (λ want. (want ≡ (includes heap.now call.old call.old.place).want) × (call.new ≡ (includes heap.now call.old call.old.place).call)) }
 {
     match call.place {
@@ -182,7 +177,7 @@ fn visited(call: &BuiltinCall, alloc: Global) -> Result<Items<Value>, AllocError
 }
 
 /// Whether forEach has a function.
-fn for_each_length(call: &mut BuiltinCall, heap: &Heap) -> Result<Want, AllocError>
+fn for_each_length(call: &mut BuiltinCall, heap: &Heap) -> Turned
     ensures { IfOk result (λ want. (want ≡ (for_each_length heap.now call.old).want) × (call.new ≡ (for_each_length heap.now call.old).call)) }
 {
     if !is_callable(heap, &call.arg(0)?) {
@@ -194,12 +189,7 @@ fn for_each_length(call: &mut BuiltinCall, heap: &Heap) -> Result<Want, AllocErr
 }
 
 /// forEach (22.1.3.10).
-pub fn for_each(
-    call: &mut BuiltinCall,
-    alloc: Global,
-    edition: Edition,
-    heap: &Heap,
-) -> Result<Want, AllocError>
+pub fn for_each(call: &mut BuiltinCall, alloc: Global, edition: Edition, heap: &Heap) -> Turned
     ensures { IfOk result (λ want. (want ≡ (for_each edition heap.now call.old call.old.place).want) × (call.new ≡ (for_each edition heap.now call.old call.old.place).call)) }
 {
     match call.place {
@@ -228,7 +218,7 @@ fn separator(call: &BuiltinCall, alloc: Global) -> Result<Value, AllocError>
 }
 
 /// A turn of join.
-fn join_turn(call: &mut BuiltinCall, alloc: Global) -> Result<Want, AllocError>
+fn join_turn(call: &mut BuiltinCall, alloc: Global) -> Turned
     ensures { IfOk result (λ want. (want ≡ (join_turn call.old).want) × (call.new ≡ (join_turn call.old).call)) }
 {
     if call.index >= call.length {
@@ -243,7 +233,7 @@ fn join_turn(call: &mut BuiltinCall, alloc: Global) -> Result<Want, AllocError>
 }
 
 /// join (22.1.3.12).
-pub fn join(call: &mut BuiltinCall, alloc: Global, heap: &Heap) -> Result<Want, AllocError>
+pub fn join(call: &mut BuiltinCall, alloc: Global, heap: &Heap) -> Turned
     ensures { IfOk result (λ want. (want ≡ (join heap.now call.old call.old.place).want) × (call.new ≡ (join heap.now call.old call.old.place).call)) }
 {
     match call.place {
@@ -270,7 +260,7 @@ pub fn join(call: &mut BuiltinCall, alloc: Global, heap: &Heap) -> Result<Want, 
 }
 
 /// An element of join: undefined and null add nothing.
-fn join_element(call: &mut BuiltinCall) -> Result<Want, AllocError>
+fn join_element(call: &mut BuiltinCall) -> Turned
     ensures { IfOk result (λ want. (want ≡ (join_element call.old).want) × (call.new ≡ (join_element call.old).call)) }
 {
     if is_nothing(&call.input) {
@@ -281,7 +271,7 @@ fn join_element(call: &mut BuiltinCall) -> Result<Want, AllocError>
 }
 
 /// What toString does with the receiver's `join`.
-fn to_string_element(call: &mut BuiltinCall, alloc: Global, heap: &Heap) -> Result<Want, AllocError>
+fn to_string_element(call: &mut BuiltinCall, alloc: Global, heap: &Heap) -> Turned
     ensures { IfOk result (λ want. (want ≡ (to_string_element heap.now call.old).want) × (call.new ≡ (to_string_element heap.now call.old).call)) }
 {
     if is_callable(heap, &call.input) {
@@ -297,7 +287,7 @@ fn to_string_element(call: &mut BuiltinCall, alloc: Global, heap: &Heap) -> Resu
 }
 
 /// toString (22.1.3.27).
-pub fn to_string(call: &mut BuiltinCall, alloc: Global, heap: &Heap) -> Result<Want, AllocError>
+pub fn to_string(call: &mut BuiltinCall, alloc: Global, heap: &Heap) -> Turned
     ensures { IfOk result (λ want. (want ≡ (to_string heap.now call.old call.old.place).want) × (call.new ≡ (to_string heap.now call.old call.old.place).call)) }
 {
     match call.place {
@@ -320,7 +310,7 @@ fn after_write(
     value: Value,
     place: Place,
     answer: Write,
-) -> Result<Want, AllocError>
+) -> Turned
     ensures { IfOk result (λ want. (want ≡ (after_write call.old value place answer).want) × (call.new ≡ (after_write call.old value place answer).call)) }
 {
     match answer {
@@ -350,7 +340,7 @@ fn write_measure(
     edition: Edition,
     heap: &mut Heap,
     length: i64,
-) -> Result<Want, AllocError>
+) -> Turned
     ensures { IfOk result (λ want. (want ≡ (write_measure edition heap.old call.old length).want) × (call.new ≡ (write_measure edition heap.old call.old length).call) × (heap.new ≡ (write_measure edition heap.old call.old length).heap)) }
 {
     let key = key_of_word(alloc, b"length")?;
@@ -367,7 +357,7 @@ fn push_one(
     edition: Edition,
     heap: &mut Heap,
     value: Value,
-) -> Result<Want, AllocError>
+) -> Turned
     ensures { IfOk result (λ want. (want ≡ (push_one edition heap.old call.old value).want) × (call.new ≡ (push_one edition heap.old call.old value).call) × (heap.new ≡ (push_one edition heap.old call.old value).heap)) }
 {
     let key = index_key(alloc, plus(call.length, call.index))?;
@@ -395,12 +385,7 @@ fn pushed_length(call: &BuiltinCall) -> i64
     plus(call.length, call.args.as_slice().len() as i64)
 }
 
-fn push_turn(
-    call: &mut BuiltinCall,
-    alloc: Global,
-    edition: Edition,
-    heap: &mut Heap,
-) -> Result<Want, AllocError>
+fn push_turn(call: &mut BuiltinCall, alloc: Global, edition: Edition, heap: &mut Heap) -> Turned
     ensures { IfOk result (λ want. (want ≡ (push_turn edition heap.old call.old).want) × (call.new ≡ (push_turn edition heap.old call.old).call) × (heap.new ≡ (push_turn edition heap.old call.old).heap)) }
 {
     let count = call.args.as_slice().len() as i64;
@@ -414,12 +399,7 @@ fn push_turn(
 }
 
 /// push (22.1.3.17).
-pub fn push(
-    call: &mut BuiltinCall,
-    alloc: Global,
-    edition: Edition,
-    heap: &mut Heap,
-) -> Result<Want, AllocError>
+pub fn push(call: &mut BuiltinCall, alloc: Global, edition: Edition, heap: &mut Heap) -> Turned
     ensures { IfOk result (λ want. (want ≡ (push edition heap.old call.old call.old.place).want) × (call.new ≡ (push edition heap.old call.old call.old.place).call) × (heap.new ≡ (push edition heap.old call.old call.old.place).heap)) }
 {
     match call.place {
@@ -436,7 +416,7 @@ pub fn push(
 }
 
 /// The last element, which is read first.
-fn pop_length(call: &mut BuiltinCall, alloc: Global) -> Result<Want, AllocError>
+fn pop_length(call: &mut BuiltinCall, alloc: Global) -> Turned
     ensures { IfOk result (λ want. (want ≡ (pop_length (with_length call.old)).want) × (call.new ≡ (pop_length (with_length call.old)).call)) }
 {
     take_length(call);
@@ -450,7 +430,7 @@ fn pop_length(call: &mut BuiltinCall, alloc: Global) -> Result<Want, AllocError>
 }
 
 /// What follows the deletion of the last element.
-fn after_deletion(call: &mut BuiltinCall, answer: Write) -> Result<Want, AllocError>
+fn after_deletion(call: &mut BuiltinCall, answer: Write) -> Turned
     ensures { IfOk result (λ want. (want ≡ (after_deletion call.old answer).want) × (call.new ≡ (after_deletion call.old answer).call)) }
 {
     match answer {
@@ -465,12 +445,7 @@ fn after_deletion(call: &mut BuiltinCall, answer: Write) -> Result<Want, AllocEr
     }
 }
 
-fn pop_element(
-    call: &mut BuiltinCall,
-    alloc: Global,
-    edition: Edition,
-    heap: &mut Heap,
-) -> Result<Want, AllocError>
+fn pop_element(call: &mut BuiltinCall, alloc: Global, edition: Edition, heap: &mut Heap) -> Turned
     ensures { IfOk result (λ want. (want ≡ (pop_element edition heap.old call.old).want) × (call.new ≡ (pop_element edition heap.old call.old).call) × (heap.new ≡ (pop_element edition heap.old call.old).heap)) }
 {
     let key = index_key(alloc, call.index)?;
@@ -479,12 +454,7 @@ fn pop_element(
 }
 
 /// pop (22.1.3.16).
-pub fn pop(
-    call: &mut BuiltinCall,
-    alloc: Global,
-    edition: Edition,
-    heap: &mut Heap,
-) -> Result<Want, AllocError>
+pub fn pop(call: &mut BuiltinCall, alloc: Global, edition: Edition, heap: &mut Heap) -> Turned
     ensures { IfOk result (λ want. (want ≡ (pop edition heap.old call.old call.old.place).want) × (call.new ≡ (pop edition heap.old call.old call.old.place).call) × (heap.new ≡ (pop edition heap.old call.old call.old.place).heap)) }
 {
     match call.place {

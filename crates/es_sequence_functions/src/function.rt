@@ -6,7 +6,9 @@ ghost use Rattle.es_heap.specs.Heaps.{object_at};
 ghost use Rattle.std.specs.Option.{option_copied};
 ghost use Rattle.es_sequence_functions.specs.Functions.{is_length, is_list, call_at, apply_begin, apply_turn, apply_at};
 
-use es_calls::{BuiltinCall, ErrorKind, Place, Want, index_key, number_in, plus, share_all};
+use es_calls::{
+    BuiltinCall, ErrorKind, Place, Turned, Want, index_key, number_in, plus, share_all,
+};
 use es_heap::{Class, Heap, Prop};
 use es_operators::{is_callable, is_nothing, key_of_word};
 use es_value::{ObjId, Value};
@@ -24,7 +26,7 @@ fn other_args(alloc: Global, values: &[Value]) -> Result<Items<Value>, AllocErro
 }
 
 /// call (19.2.3.3).
-pub fn call_at(call: &mut BuiltinCall, alloc: Global, heap: &Heap) -> Result<Want, AllocError>
+pub fn call_at(call: &mut BuiltinCall, alloc: Global, heap: &Heap) -> Turned
     ensures { IfOk result (λ want. (want ≡ (call_at heap.now call.old call.old.place).want) × (call.new ≡ (call_at heap.now call.old call.old.place).call)) }
 {
     match call.place {
@@ -79,7 +81,7 @@ pub fn is_list(alloc: Global, heap: &Heap, value: &Value) -> Result<bool, AllocE
     }
 }
 
-fn apply_begin(call: &mut BuiltinCall, alloc: Global, heap: &Heap) -> Result<Want, AllocError>
+fn apply_begin(call: &mut BuiltinCall, alloc: Global, heap: &Heap) -> Turned
     ensures { IfOk result (λ want. (want ≡ (apply_begin heap.now call.old).want) × (call.new ≡ (apply_begin heap.now call.old).call)) }
 {
     let list = call.arg(1)?;
@@ -100,7 +102,7 @@ fn apply_begin(call: &mut BuiltinCall, alloc: Global, heap: &Heap) -> Result<Wan
 }
 
 /// One turn takes one element of the list.
-fn apply_turn(call: &mut BuiltinCall, alloc: Global) -> Result<Want, AllocError>
+fn apply_turn(call: &mut BuiltinCall, alloc: Global) -> Turned
     ensures { IfOk result (λ want. (want ≡ (apply_turn call.old).want) × (call.new ≡ (apply_turn call.old).call)) }
 {
     if call.index < call.length {
@@ -113,7 +115,7 @@ fn apply_turn(call: &mut BuiltinCall, alloc: Global) -> Result<Want, AllocError>
 }
 
 /// apply (19.2.3.1).
-pub fn apply_at(call: &mut BuiltinCall, alloc: Global, heap: &Heap) -> Result<Want, AllocError>
+pub fn apply_at(call: &mut BuiltinCall, alloc: Global, heap: &Heap) -> Turned
     ensures { IfOk result (λ want. (want ≡ (apply_at heap.now call.old call.old.place).want) × (call.new ≡ (apply_at heap.now call.old call.old.place).call)) }
 {
     match call.place {

@@ -5,8 +5,8 @@ ghost use Rattle.es_sequence_functions.specs.Iterators.{results, array_iterator,
 
 use crate::string::coerced;
 use es_calls::{
-    BuiltinCall, ErrorKind, Place, Want, index_key, iter_result, number_in, object_in, plus,
-    text_in,
+    BuiltinCall, ErrorKind, Place, Turned, Want, index_key, iter_result, number_in, object_in,
+    plus, text_in,
 };
 use es_heap::{Class, Heap};
 use es_operators::{is_nothing, key_of_word};
@@ -15,18 +15,14 @@ use es_value::{ObjId, Str, Value};
 use std::alloc::{AllocError, Global};
 
 /// The call ends with the result of a step of an iterator (7.4.7).
-fn results(alloc: Global, heap: &mut Heap, value: Value, over: bool) -> Result<Want, AllocError>
+fn results(alloc: Global, heap: &mut Heap, value: Value, over: bool) -> Turned
     ensures { IfOk result (λ want. (want ≡ (results heap.old value over).want) × (heap.new ≡ (results heap.old value over).heap)) }
 {
     Ok(Want::Done(Value::Object(iter_result(alloc, heap, value, over)?)))
 }
 
 /// Array.prototype's iterator key (22.1.3.29).
-pub fn array_iterator(
-    call: &BuiltinCall,
-    alloc: Global,
-    heap: &mut Heap,
-) -> Result<Want, AllocError>
+pub fn array_iterator(call: &BuiltinCall, alloc: Global, heap: &mut Heap) -> Turned
     ensures { IfOk result (λ want. (want ≡ (array_iterator heap.old call.now).want) × (heap.new ≡ (array_iterator heap.old call.now).heap)) }
 {
     if is_nothing(&call.this_value) {
@@ -40,12 +36,7 @@ pub fn array_iterator(
     Ok(Want::Done(Value::Object(id)))
 }
 
-fn array_begin(
-    call: &mut BuiltinCall,
-    alloc: Global,
-    heap: &mut Heap,
-    id: ObjId,
-) -> Result<Want, AllocError>
+fn array_begin(call: &mut BuiltinCall, alloc: Global, heap: &mut Heap, id: ObjId) -> Turned
     ensures { IfOk result (λ want. (want ≡ (array_begin heap.old call.old (object_at heap.old id).class).want) × (call.new ≡ (array_begin heap.old call.old (object_at heap.old id).class).call) × (heap.new ≡ (array_begin heap.old call.old (object_at heap.old id).class).heap)) }
 {
     let (value, next) = match heap.class(id) {
@@ -64,11 +55,7 @@ fn array_begin(
     Ok(Want::Get(value, key_of_word(alloc, b"length")?))
 }
 
-fn array_begin_of(
-    call: &mut BuiltinCall,
-    alloc: Global,
-    heap: &mut Heap,
-) -> Result<Want, AllocError>
+fn array_begin_of(call: &mut BuiltinCall, alloc: Global, heap: &mut Heap) -> Turned
     ensures { IfOk result (λ want. (want ≡ (array_begin_of heap.old call.old call.old.this_value).want) × (call.new ≡ (array_begin_of heap.old call.old call.old.this_value).call) × (heap.new ≡ (array_begin_of heap.old call.old call.old.this_value).heap)) }
 {
     match call.this_value {
@@ -103,12 +90,7 @@ fn array_finished(heap: &mut Heap, id: ObjId)
     }
 }
 
-fn array_position(
-    call: &mut BuiltinCall,
-    alloc: Global,
-    heap: &mut Heap,
-    id: ObjId,
-) -> Result<Want, AllocError>
+fn array_position(call: &mut BuiltinCall, alloc: Global, heap: &mut Heap, id: ObjId) -> Turned
     ensures { IfOk result (λ want. (want ≡ (array_position heap.old call.old id).want) × (call.new ≡ (array_position heap.old call.old id).call) × (heap.new ≡ (array_position heap.old call.old id).heap)) }
 {
     if call.index >= number_in(&call.input) {
@@ -121,11 +103,7 @@ fn array_position(
 }
 
 /// next of an array iterator (22.1.5.2.1).
-pub fn array_next(
-    call: &mut BuiltinCall,
-    alloc: Global,
-    heap: &mut Heap,
-) -> Result<Want, AllocError>
+pub fn array_next(call: &mut BuiltinCall, alloc: Global, heap: &mut Heap) -> Turned
     ensures { IfOk result (λ want. (want ≡ (array_next heap.old call.old call.old.place).want) × (call.new ≡ (array_next heap.old call.old call.old.place).call) × (heap.new ≡ (array_next heap.old call.old call.old.place).heap)) }
 {
     match call.place {
@@ -146,11 +124,7 @@ pub fn array_next(
 }
 
 /// String.prototype's iterator key (21.1.3.27).
-pub fn string_iterator(
-    call: &mut BuiltinCall,
-    alloc: Global,
-    heap: &mut Heap,
-) -> Result<Want, AllocError>
+pub fn string_iterator(call: &mut BuiltinCall, alloc: Global, heap: &mut Heap) -> Turned
     ensures { IfOk result (λ want. (want ≡ (string_iterator heap.old call.old call.old.place).want) × (call.new ≡ (string_iterator heap.old call.old call.old.place).call) × (heap.new ≡ (string_iterator heap.old call.old call.old.place).heap)) }
 {
     match call.place {
@@ -192,13 +166,7 @@ fn point_of(units: &[u16]) -> &[u16]
 }
 
 /// A step of a string iterator over this text, from the unit at `next`.
-fn string_step(
-    alloc: Global,
-    heap: &mut Heap,
-    id: ObjId,
-    text: Str,
-    next: usize,
-) -> Result<Want, AllocError>
+fn string_step(alloc: Global, heap: &mut Heap, id: ObjId, text: Str, next: usize) -> Turned
     ensures { IfOk result (λ want. (want ≡ (string_step heap.old id text next).want) × (heap.new ≡ (string_step heap.old id text next).heap)) }
 {
     if next >= text.units().len() {
@@ -218,7 +186,7 @@ fn string_step(
     results(alloc, heap, value, false)
 }
 
-fn string_next_by(alloc: Global, heap: &mut Heap, id: ObjId) -> Result<Want, AllocError>
+fn string_next_by(alloc: Global, heap: &mut Heap, id: ObjId) -> Turned
     ensures { IfOk result (λ want. (want ≡ (string_next_by heap.old id (object_at heap.old id).class).want) × (heap.new ≡ (string_next_by heap.old id (object_at heap.old id).class).heap)) }
 {
     let (text, next) = match heap.class(id) {
@@ -235,7 +203,7 @@ fn string_next_by(alloc: Global, heap: &mut Heap, id: ObjId) -> Result<Want, All
 }
 
 /// next of a string iterator (21.1.5.2.1).
-pub fn string_next(alloc: Global, heap: &mut Heap, receiver: &Value) -> Result<Want, AllocError>
+pub fn string_next(alloc: Global, heap: &mut Heap, receiver: &Value) -> Turned
     ensures { IfOk result (λ want. (want ≡ (string_next heap.old receiver.now).want) × (heap.new ≡ (string_next heap.old receiver.now).heap)) }
 {
     match receiver {

@@ -7,7 +7,9 @@ ghost use Rattle.es_calls.specs.Calls.{arg, position};
 ghost use Rattle.es_sequence_functions.specs.Strings.{coerced, unit_at, unit_list, char_at, char_code_at, clamp, index_of, between, end_of, substring, string_of, prototype_text, text_value};
 
 use crate::search::index_in;
-use es_calls::{BuiltinCall, ErrorKind, Place, Want, is_undefined, number_in, position, text_in};
+use es_calls::{
+    BuiltinCall, ErrorKind, Place, Turned, Want, is_undefined, number_in, position, text_in,
+};
 use es_operators::is_nothing;
 use es_realm::Edition;
 use es_realm::names::STRING_PROTOTYPE;
@@ -15,7 +17,7 @@ use es_value::{Str, Value};
 use std::alloc::{AllocError, Global};
 
 /// The receiver as a text, unless it is undefined or null (7.2.1).
-pub fn coerced(call: &mut BuiltinCall) -> Result<Want, AllocError>
+pub fn coerced(call: &mut BuiltinCall) -> Turned
     ensures { IfOk result (λ want. (want ≡ (coerced call.old).want) × (call.new ≡ (coerced call.old).call)) }
 {
     if is_nothing(&call.this_value) {
@@ -26,7 +28,7 @@ pub fn coerced(call: &mut BuiltinCall) -> Result<Want, AllocError>
 }
 
 /// Keeps the receiver, and wants the argument of this number as a position.
-fn receiver_then_position(call: &mut BuiltinCall, argument: usize) -> Result<Want, AllocError>
+fn receiver_then_position(call: &mut BuiltinCall, argument: usize) -> Turned
     ensures { IfOk result (λ want. (want ≡ WantNumber (position (arg call.old argument))) × (call.new ≡ record call.old { kept = call.old.input; place = AtPosition })) }
 {
     call.kept = call.input.share()?;
@@ -53,7 +55,7 @@ fn text_of_unit(alloc: Global, unit: Option<u16>) -> Result<Value, AllocError>
 }
 
 /// charAt (21.1.3.1).
-pub fn char_at(call: &mut BuiltinCall, alloc: Global) -> Result<Want, AllocError>
+pub fn char_at(call: &mut BuiltinCall, alloc: Global) -> Turned
     ensures { IfOk result (λ want. (want ≡ (char_at call.old call.old.place).want) × (call.new ≡ (char_at call.old call.old.place).call)) }
 {
     match call.place {
@@ -67,7 +69,7 @@ pub fn char_at(call: &mut BuiltinCall, alloc: Global) -> Result<Want, AllocError
 }
 
 /// charCodeAt (21.1.3.2).
-pub fn char_code_at(call: &mut BuiltinCall) -> Result<Want, AllocError>
+pub fn char_code_at(call: &mut BuiltinCall) -> Turned
     ensures { IfOk result (λ want. (want ≡ (char_code_at call.old call.old.place).want) × (call.new ≡ (char_code_at call.old call.old.place).call)) }
 {
     match call.place {
@@ -93,7 +95,7 @@ pub fn clamp(position: i64, length: usize) -> usize
 }
 
 /// indexOf (21.1.3.8).
-pub fn index_of(call: &mut BuiltinCall, alloc: Global) -> Result<Want, AllocError>
+pub fn index_of(call: &mut BuiltinCall, alloc: Global) -> Turned
     ensures { IfOk result (λ want. (want ≡ (index_of call.old call.old.place).want) × (call.new ≡ (index_of call.old call.old.place).call)) }
 {
     match call.place {
@@ -138,7 +140,7 @@ fn end_of(call: &BuiltinCall) -> Result<Value, AllocError>
 }
 
 /// substring (21.1.3.19).
-pub fn substring(call: &mut BuiltinCall, alloc: Global) -> Result<Want, AllocError>
+pub fn substring(call: &mut BuiltinCall, alloc: Global) -> Turned
     ensures { IfOk result (λ want. (want ≡ (substring call.old call.old.place).want) × (call.new ≡ (substring call.old call.old.place).call)) }
 {
     match call.place {
@@ -166,7 +168,7 @@ fn empty_text(alloc: Global) -> Result<Value, AllocError>
 }
 
 /// String called as a function (21.1.1.1).
-pub fn string_of(call: &mut BuiltinCall, alloc: Global) -> Result<Want, AllocError>
+pub fn string_of(call: &mut BuiltinCall, alloc: Global) -> Turned
     ensures { IfOk result (λ want. (want ≡ (string_of call.old call.old.place call.old.args).want) × (call.new ≡ (string_of call.old call.old.place call.old.args).call)) }
 {
     match call.place {
@@ -182,7 +184,7 @@ pub fn string_of(call: &mut BuiltinCall, alloc: Global) -> Result<Want, AllocErr
     }
 }
 
-fn string_of_prototype(alloc: Global, edition: Edition) -> Result<Want, AllocError>
+fn string_of_prototype(alloc: Global, edition: Edition) -> Turned
     ensures { IfOk result (λ want. want ≡ prototype_text edition) }
 {
     match edition {
@@ -192,7 +194,7 @@ fn string_of_prototype(alloc: Global, edition: Edition) -> Result<Want, AllocErr
 }
 
 /// toString (21.1.3.23).
-pub fn text_value(call: &BuiltinCall, alloc: Global, edition: Edition) -> Result<Want, AllocError>
+pub fn text_value(call: &BuiltinCall, alloc: Global, edition: Edition) -> Turned
     ensures { IfOk result (λ want. want ≡ text_value edition call.now.this_value) }
 {
     match &call.this_value {

@@ -5,7 +5,7 @@
 //! isn't read here. A line's answer is a value, `throws KIND`, `throws VALUE` or `leaves NUMBER`. A value that is answered is put into the
 //! next slot, whose number begins with 0 in each realm. The lines are:
 //!
-//! - `realm 5` or `realm 6` begins a fresh realm;
+//! - `realm 5 HOST ..` or `realm 6` begins a fresh realm, and `hosts` answers how many hosts there are;
 //! - `object PROTOTYPE`, `array ITEM ..`, `arguments ITEM ..` and `namespace` make an object;
 //! - `function gives VALUE`, `function throws VALUE`, `function turns VALUE VALUE`, `function receiver` and
 //!   `function argument INDEX` make a function, which gives two values by turns, or as the word says, and each call of which is printed before the answer, and whose prototype is a further word's;
@@ -14,12 +14,17 @@
 //! - `read VALUE KEY`, `write VALUE KEY VALUE` and `delete VALUE KEY` do that to a property;
 //! - `binary OPERATOR VALUE VALUE` and `unary OPERATOR VALUE` apply an operator;
 //! - `new VALUE` and `extends VALUE` ask whether that is a constructor and a heritage;
+//! - `prim VALUE` gives a value out as a primitive and takes it back, and `prims VALUE ..` counts primitives that are given out;
+//! - `seen VALUE` answers what is seen of it if it is thrown, and `error KIND` makes an error;
+//! - `prototype VALUE` answers the prototype of what a function makes whose `prototype` it is, and `global NAME` reads a global name;
+//! - `put OBJECT KEY VALUE` defines a property as a literal does, and `length OBJECT NUMBER NUMBER` writes an array's length that an object gave, by the numbers of its two conversions;
 //! - `call NUMBER THIS ARGUMENT ..` calls the function of this number in the table of the library.
 //!
 //! A value is `u`, `n`, `t`, `f`, `#NUMBER`, `'TEXT`, `$SLOT` or `@OBJECT`, an object of the library; `_` is a hole. A key is
 //! `'TEXT`, or `*` for Symbol.iterator. In a text, `~` and four hexadecimal digits are a unit.
 #![tactic(auto)]
 
+mod facts;
 mod operate;
 mod outcome;
 mod play;

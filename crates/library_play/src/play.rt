@@ -1,4 +1,5 @@
 //! What the lines do.
+use crate::facts::{error_kind, global, of_prims, prototype, through_prim, thrown};
 use crate::operate::{binary, construct, delete, extend, instance, unary, write, written};
 use crate::outcome::Outcome;
 use crate::realm::Realm;
@@ -8,7 +9,7 @@ use es_builtins::{BuiltinCall, BuiltinStep, ErrorKind, step_builtin};
 use es_heap::{Class, Heap, HeapFault, Key, Prop};
 use es_operators::{Conversion, Hint, Need, is_object};
 use es_realm::names::{ARRAY_PROTOTYPE, FUNCTION_PROTOTYPE, OBJECT_PROTOTYPE};
-use es_realm::{Edition, Read, Write, read_value, write_length};
+use es_realm::{Edition, Read, Write, define_key, make_error, read_value, write_length};
 use es_value::{ObjId, Str, Value, to_number};
 use sqlite_items::Items;
 use std::alloc::{AllocError, Global};
@@ -56,11 +57,15 @@ pub struct Play {
 
 impl Play {
     pub fn new(alloc: Global) -> Result<Play, AllocError> {
-        Play::in_realm(alloc, Edition::Sixth)
+        Play::in_realm(alloc, Edition::Sixth, &mut "".split_whitespace())
     }
 
-    fn in_realm(alloc: Global, edition: Edition) -> Result<Play, AllocError> {
-        let (heap, realm) = Realm::start(alloc, edition)?;
+    fn in_realm(
+        alloc: Global,
+        edition: Edition,
+        hosts: &mut SplitWhitespace,
+    ) -> Result<Play, AllocError> {
+        let (heap, realm) = Realm::start(alloc, edition, hosts)?;
         let library = heap.len();
         Ok(Play {
             heap,
@@ -83,7 +88,7 @@ impl Play {
             } else {
                 Edition::Sixth
             };
-            *self = Play::in_realm(alloc, edition)?;
+            *self = Play::in_realm(alloc, edition, &mut words)?;
             return String::from_str(alloc, "realm");
         }
         self.calls = String::new(alloc);
@@ -106,7 +111,10 @@ impl Play {
             )?,
             "extends" => extend(alloc, &self.heap, &self.next_value(alloc, &mut words)?)?,
             "record" => self.record(alloc, &mut words)?,
-            _ => self.object(alloc, operation, &mut words)?,
+            "object" | "array" | "arguments" | "namespace" => {
+                self.object(alloc, operation, &mut words)?
+            }
+            _ => self.ask(alloc, operation, &mut words)?,
         };
         self.ending(alloc, outcome)
     }
@@ -184,6 +192,67 @@ impl Play {
             }
         };
         Ok(Outcome::Value(Value::Object(id)))
+    }
+
+    /// What no other line does.
+    fn ask(
+        &mut self,
+        alloc: Global,
+        operation: &str,
+        words: &mut SplitWhitespace,
+    ) -> Result<Outcome, AllocError> {
+        match operation {
+            "prim" => through_prim(alloc, &self.next_value(alloc, words)?),
+            "prims" => of_prims(alloc, self.values(alloc, words)?.as_slice()),
+            "seen" => thrown(alloc, &self.heap, &self.next_value(alloc, words)?),
+            "error" => {
+                let kind = error_kind(words.next().unwrap_or(""));
+                let id = make_error(alloc, &mut self.heap, kind)?;
+                Ok(Outcome::Value(Value::Object(id)))
+            }
+            "prototype" => Ok(prototype(&self.heap, &self.next_value(alloc, words)?)),
+            "global" => Ok(global(words.next().unwrap_or(""))),
+            "hosts" => Ok(Outcome::Value(Value::Number(self.realm.hosts() as i64))),
+            "put" => self.put_key(alloc, words),
+            _ => self.length(alloc, words),
+        }
+    }
+
+    /// Defines a plain property as a literal does.
+    fn put_key(
+        &mut self,
+        alloc: Global,
+        words: &mut SplitWhitespace,
+    ) -> Result<Outcome, AllocError> {
+        let Some(id) = self.next_object(alloc, words)? else {
+            return Ok(Outcome::Stuck);
+        };
+        let key = key_of(alloc, words.next().unwrap_or(""))?;
+        let property = plain(self.next_value(alloc, words)?);
+        let edition = self.realm.edition();
+        Ok(written(define_key(alloc, edition, &mut self.heap, id, key, property)?))
+    }
+
+    /// A write to an array's length of two numbers that an object gave.
+    fn length(
+        &mut self,
+        alloc: Global,
+        words: &mut SplitWhitespace,
+    ) -> Result<Outcome, AllocError> {
+        let Some(list) = self.next_object(alloc, words)? else {
+            return Ok(Outcome::Stuck);
+        };
+        let first = number_in(&self.next_value(alloc, words)?);
+        let second = number_in(&self.next_value(alloc, words)?);
+        Ok(written(write_length(&mut self.heap, list, first, second)))
+    }
+
+    fn values(&self, alloc: Global, words: &mut SplitWhitespace) -> Result<Vec<Value>, AllocError> {
+        let mut values = Vec::new(alloc);
+        for word in words {
+            values.push(value_of(alloc, &self.slots, word)?)?;
+        }
+        Ok(values)
     }
 
     /// Gives an object these items, and answers how many there are, holes among them.
@@ -604,6 +673,13 @@ fn object_in(value: &Value) -> Option<ObjId> {
     match value {
         Value::Object(id) => Some(*id),
         _ => None,
+    }
+}
+
+fn number_in(value: &Value) -> i64 {
+    match value {
+        Value::Number(number) => *number,
+        _ => 0,
     }
 }
 
