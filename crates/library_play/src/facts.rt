@@ -1,5 +1,5 @@
 //! What values are to hosts, to classes and as names.
-use crate::outcome::Outcome;
+use crate::outcome::{Ending, Outcome};
 use crate::show::kind_name;
 use es_builtins::ErrorKind;
 use es_heap::Heap;
@@ -11,7 +11,7 @@ use es_value::{Str, Value};
 use std::alloc::{AllocError, Global};
 
 /// A value that goes out as a primitive and comes back.
-pub fn through_prim(alloc: Global, value: &Value) -> Result<Outcome, AllocError> {
+pub fn through_prim(alloc: Global, value: &Value) -> Ending {
     match to_prim(alloc, value)? {
         Some(prim) => Ok(Outcome::Value(of_prim(alloc, &prim)?)),
         None => Ok(Outcome::Stuck),
@@ -19,7 +19,7 @@ pub fn through_prim(alloc: Global, value: &Value) -> Result<Outcome, AllocError>
 }
 
 /// How many primitives these values are, if all are.
-pub fn of_prims(alloc: Global, values: &[Value]) -> Result<Outcome, AllocError> {
+pub fn of_prims(alloc: Global, values: &[Value]) -> Ending {
     match to_prims(alloc, values)? {
         Some(prims) => Ok(Outcome::Value(Value::Number(prims.list().len() as i64))),
         None => Ok(Outcome::Stuck),
@@ -27,7 +27,7 @@ pub fn of_prims(alloc: Global, values: &[Value]) -> Result<Outcome, AllocError> 
 }
 
 /// What is seen of a thrown value: a primitive itself, or a text of what an object is.
-pub fn thrown(alloc: Global, heap: &Heap, value: &Value) -> Result<Outcome, AllocError> {
+pub fn thrown(alloc: Global, heap: &Heap, value: &Value) -> Ending {
     let word = match seen(alloc, heap, value)? {
         Seen::Prim(prim) => return Ok(Outcome::Value(of_prim(alloc, &prim)?)),
         Seen::Object => "Object",

@@ -1,5 +1,5 @@
 //! The operators on primitives, and what `new`, a heritage, `instanceof`, a write and a deletion do.
-use crate::outcome::Outcome;
+use crate::outcome::{Ending, Outcome};
 use es_builtins::ErrorKind;
 use es_heap::{Heap, Key};
 use es_operators::{
@@ -46,12 +46,7 @@ fn given(operated: Operated) -> Outcome {
 }
 
 /// An operator on two values, of which `==` alone takes objects.
-pub fn binary(
-    alloc: Global,
-    name: &str,
-    left: &Value,
-    right: &Value,
-) -> Result<Outcome, AllocError> {
+pub fn binary(alloc: Global, name: &str, left: &Value, right: &Value) -> Ending {
     if name == "==" {
         return Ok(equal(left, right));
     }
@@ -79,7 +74,7 @@ fn equal(left: &Value, right: &Value) -> Outcome {
 }
 
 /// `!`, `typeof`, and on primitives `~` and the signs.
-pub fn unary(alloc: Global, heap: &Heap, name: &str, value: &Value) -> Result<Outcome, AllocError> {
+pub fn unary(alloc: Global, heap: &Heap, name: &str, value: &Value) -> Ending {
     match name {
         "!" => Ok(Outcome::Value(Value::Bool(!truth_of(value)))),
         "typeof" => {
@@ -119,17 +114,11 @@ pub fn write(
     }
 }
 
-pub fn delete(
-    alloc: Global,
-    edition: Edition,
-    heap: &mut Heap,
-    base: &Value,
-    key: &Key,
-) -> Result<Outcome, AllocError> {
+pub fn delete(alloc: Global, edition: Edition, heap: &mut Heap, base: &Value, key: &Key) -> Ending {
     Ok(written(delete_value(alloc, edition, heap, base, key)?))
 }
 
-fn constructor(alloc: Global, answer: Constructor) -> Result<Outcome, AllocError> {
+fn constructor(alloc: Global, answer: Constructor) -> Ending {
     match answer {
         Constructor::Fails => Ok(Outcome::Throws(ErrorKind::TypeError)),
         Constructor::Leaves(exit) => Ok(Outcome::Leaves(exit)),
@@ -139,18 +128,13 @@ fn constructor(alloc: Global, answer: Constructor) -> Result<Outcome, AllocError
 }
 
 /// What `new` begins: a text where the function runs, or the number of an error's constructor.
-pub fn construct(
-    alloc: Global,
-    edition: Edition,
-    heap: &Heap,
-    value: &Value,
-) -> Result<Outcome, AllocError> {
+pub fn construct(alloc: Global, edition: Edition, heap: &Heap, value: &Value) -> Ending {
     let answer = constructor_of(alloc, edition, heap, value)?;
     constructor(alloc, answer)
 }
 
 /// Whether a class may extend the value.
-pub fn extend(alloc: Global, heap: &Heap, value: &Value) -> Result<Outcome, AllocError> {
+pub fn extend(alloc: Global, heap: &Heap, value: &Value) -> Ending {
     let answer = heritage_of(alloc, heap, value)?;
     constructor(alloc, answer)
 }
@@ -162,7 +146,7 @@ pub fn instance(
     heap: &Heap,
     left: &Value,
     right: &Value,
-) -> Result<Outcome, AllocError> {
+) -> Ending {
     let Instance::ReadPrototype(id) = instance_of(edition, heap, left, right) else {
         return Ok(instance_found(instance_of(edition, heap, left, right)));
     };

@@ -1,6 +1,7 @@
 //! How a line ends.
 use es_builtins::ErrorKind;
 use es_value::Value;
+use std::alloc::AllocError;
 
 #[derive(Drop)]
 pub enum Outcome {
@@ -11,3 +12,6 @@ pub enum Outcome {
     /// It took too many steps, or asked for what the play doesn't do.
     Stuck,
 }
+
+/// How a line ends, if there is memory for it.
+pub type Ending = Result<Outcome, AllocError>;

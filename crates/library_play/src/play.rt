@@ -1,10 +1,10 @@
 //! What the lines do.
 use crate::facts::{error_kind, global, of_prims, prototype, through_prim, thrown};
 use crate::operate::{binary, construct, delete, extend, instance, unary, write, written};
-use crate::outcome::Outcome;
+use crate::outcome::{Ending, Outcome};
 use crate::realm::Realm;
 use crate::show::{kind_name, shown};
-use crate::words::{index_of, key_of, value_of};
+use crate::words::{index_of, key_of, next_key, value_of};
 use es_builtins::{BuiltinCall, BuiltinStep, ErrorKind, step_builtin};
 use es_heap::{Class, Heap, HeapFault, Key, Prop};
 use es_operators::{Conversion, Hint, Need, is_object};
@@ -160,12 +160,7 @@ impl Play {
         Ok(object_in(&self.next_value(alloc, words)?))
     }
 
-    fn object(
-        &mut self,
-        alloc: Global,
-        operation: &str,
-        words: &mut SplitWhitespace,
-    ) -> Result<Outcome, AllocError> {
+    fn object(&mut self, alloc: Global, operation: &str, words: &mut SplitWhitespace) -> Ending {
         let id = match operation {
             "array" => {
                 let id = self.heap.make(alloc, Some(ARRAY_PROTOTYPE), Class::Array)?;
@@ -195,12 +190,7 @@ impl Play {
     }
 
     /// What no other line does.
-    fn ask(
-        &mut self,
-        alloc: Global,
-        operation: &str,
-        words: &mut SplitWhitespace,
-    ) -> Result<Outcome, AllocError> {
+    fn ask(&mut self, alloc: Global, operation: &str, words: &mut SplitWhitespace) -> Ending {
         match operation {
             "prim" => through_prim(alloc, &self.next_value(alloc, words)?),
             "prims" => of_prims(alloc, self.values(alloc, words)?.as_slice()),
@@ -219,26 +209,18 @@ impl Play {
     }
 
     /// Defines a plain property as a literal does.
-    fn put_key(
-        &mut self,
-        alloc: Global,
-        words: &mut SplitWhitespace,
-    ) -> Result<Outcome, AllocError> {
+    fn put_key(&mut self, alloc: Global, words: &mut SplitWhitespace) -> Ending {
         let Some(id) = self.next_object(alloc, words)? else {
             return Ok(Outcome::Stuck);
         };
-        let key = key_of(alloc, words.next().unwrap_or(""))?;
+        let key = next_key(alloc, words)?;
         let property = plain(self.next_value(alloc, words)?);
         let edition = self.realm.edition();
         Ok(written(define_key(alloc, edition, &mut self.heap, id, key, property)?))
     }
 
     /// A write to an array's length of two numbers that an object gave.
-    fn length(
-        &mut self,
-        alloc: Global,
-        words: &mut SplitWhitespace,
-    ) -> Result<Outcome, AllocError> {
+    fn length(&mut self, alloc: Global, words: &mut SplitWhitespace) -> Ending {
         let Some(list) = self.next_object(alloc, words)? else {
             return Ok(Outcome::Stuck);
         };
@@ -289,11 +271,7 @@ impl Play {
         }
     }
 
-    fn function(
-        &mut self,
-        alloc: Global,
-        words: &mut SplitWhitespace,
-    ) -> Result<Outcome, AllocError> {
+    fn function(&mut self, alloc: Global, words: &mut SplitWhitespace) -> Ending {
         let behavior = match words.next() {
             Some("gives") => Behavior::Gives(self.next_value(alloc, words)?),
             Some("throws") => Behavior::Throws(self.next_value(alloc, words)?),
@@ -314,15 +292,11 @@ impl Play {
         Ok(Outcome::Value(Value::Object(id)))
     }
 
-    fn define(
-        &mut self,
-        alloc: Global,
-        words: &mut SplitWhitespace,
-    ) -> Result<Outcome, AllocError> {
+    fn define(&mut self, alloc: Global, words: &mut SplitWhitespace) -> Ending {
         let Some(id) = self.next_object(alloc, words)? else {
             return Ok(Outcome::Stuck);
         };
-        let key = key_of(alloc, words.next().unwrap_or(""))?;
+        let key = next_key(alloc, words)?;
         let property = Prop::Plain {
             value: self.next_value(alloc, words)?,
             writable: words.next() == Some("1"),
@@ -331,15 +305,11 @@ impl Play {
         Ok(Outcome::Value(Value::Bool(self.put(alloc, id, key, property)?)))
     }
 
-    fn accessor(
-        &mut self,
-        alloc: Global,
-        words: &mut SplitWhitespace,
-    ) -> Result<Outcome, AllocError> {
+    fn accessor(&mut self, alloc: Global, words: &mut SplitWhitespace) -> Ending {
         let Some(id) = self.next_object(alloc, words)? else {
             return Ok(Outcome::Stuck);
         };
-        let key = key_of(alloc, words.next().unwrap_or(""))?;
+        let key = next_key(alloc, words)?;
         let property = Prop::Accessor {
             get: self.next_object(alloc, words)?,
             set: self.next_object(alloc, words)?,
@@ -348,7 +318,7 @@ impl Play {
         Ok(Outcome::Value(Value::Bool(self.put(alloc, id, key, property)?)))
     }
 
-    fn seal(&mut self, alloc: Global, words: &mut SplitWhitespace) -> Result<Outcome, AllocError> {
+    fn seal(&mut self, alloc: Global, words: &mut SplitWhitespace) -> Ending {
         let Some(id) = self.next_object(alloc, words)? else {
             return Ok(Outcome::Stuck);
         };
@@ -356,9 +326,9 @@ impl Play {
         Ok(Outcome::Value(Value::Undefined))
     }
 
-    fn read(&mut self, alloc: Global, words: &mut SplitWhitespace) -> Result<Outcome, AllocError> {
+    fn read(&mut self, alloc: Global, words: &mut SplitWhitespace) -> Ending {
         let base = self.next_value(alloc, words)?;
-        let key = key_of(alloc, words.next().unwrap_or(""))?;
+        let key = next_key(alloc, words)?;
         match read_value(alloc, self.realm.edition(), &self.heap, &base, &key)? {
             Read::Have(value) => Ok(Outcome::Value(value)),
             Read::Getter(getter) => self.call_function(alloc, getter, base, Items::new(alloc)),
@@ -368,7 +338,7 @@ impl Play {
         }
     }
 
-    fn binary(&self, alloc: Global, words: &mut SplitWhitespace) -> Result<Outcome, AllocError> {
+    fn binary(&self, alloc: Global, words: &mut SplitWhitespace) -> Ending {
         let operator = words.next().unwrap_or("");
         let left = self.next_value(alloc, words)?;
         let right = self.next_value(alloc, words)?;
@@ -378,15 +348,15 @@ impl Play {
         binary(alloc, operator, &left, &right)
     }
 
-    fn unary(&self, alloc: Global, words: &mut SplitWhitespace) -> Result<Outcome, AllocError> {
+    fn unary(&self, alloc: Global, words: &mut SplitWhitespace) -> Ending {
         let operator = words.next().unwrap_or("");
         let value = self.next_value(alloc, words)?;
         unary(alloc, &self.heap, operator, &value)
     }
 
-    fn write(&mut self, alloc: Global, words: &mut SplitWhitespace) -> Result<Outcome, AllocError> {
+    fn write(&mut self, alloc: Global, words: &mut SplitWhitespace) -> Ending {
         let base = self.next_value(alloc, words)?;
-        let key = key_of(alloc, words.next().unwrap_or(""))?;
+        let key = next_key(alloc, words)?;
         let value = self.next_value(alloc, words)?;
         let edition = self.realm.edition();
         match write(alloc, edition, &mut self.heap, &base, key, value.share()?)? {
@@ -397,13 +367,7 @@ impl Play {
     }
 
     /// A call of a setter, whose value is lost.
-    fn set(
-        &mut self,
-        alloc: Global,
-        setter: ObjId,
-        base: Value,
-        value: Value,
-    ) -> Result<Outcome, AllocError> {
+    fn set(&mut self, alloc: Global, setter: ObjId, base: Value, value: Value) -> Ending {
         let mut args = Items::new(alloc);
         args.push(value)?;
         match self.call_function(alloc, setter, base, args)? {
@@ -413,12 +377,7 @@ impl Play {
     }
 
     /// A write to an array's length of an object, which is converted to a number twice.
-    fn write_length(
-        &mut self,
-        alloc: Global,
-        base: &Value,
-        value: &Value,
-    ) -> Result<Outcome, AllocError> {
+    fn write_length(&mut self, alloc: Global, base: &Value, value: &Value) -> Ending {
         let (Value::Object(list), Value::Object(object)) = (base, value) else {
             return Ok(Outcome::Stuck);
         };
@@ -475,7 +434,7 @@ impl Play {
         function: ObjId,
         receiver: Value,
         args: Items<Value>,
-    ) -> Result<Outcome, AllocError> {
+    ) -> Ending {
         let mut stack = Vec::new(alloc);
         match self.enter(alloc, &mut stack, &Value::Object(function), receiver, args)? {
             None => self.run(alloc, stack),
@@ -483,31 +442,23 @@ impl Play {
         }
     }
 
-    fn delete(
-        &mut self,
-        alloc: Global,
-        words: &mut SplitWhitespace,
-    ) -> Result<Outcome, AllocError> {
+    fn delete(&mut self, alloc: Global, words: &mut SplitWhitespace) -> Ending {
         let base = self.next_value(alloc, words)?;
-        let key = key_of(alloc, words.next().unwrap_or(""))?;
+        let key = next_key(alloc, words)?;
         delete(alloc, self.realm.edition(), &mut self.heap, &base, &key)
     }
 
     /// Records a key of a static member that a class inherits.
-    fn record(
-        &mut self,
-        alloc: Global,
-        words: &mut SplitWhitespace,
-    ) -> Result<Outcome, AllocError> {
+    fn record(&mut self, alloc: Global, words: &mut SplitWhitespace) -> Ending {
         let Some(id) = self.next_object(alloc, words)? else {
             return Ok(Outcome::Stuck);
         };
-        let key = key_of(alloc, words.next().unwrap_or(""))?;
+        let key = next_key(alloc, words)?;
         self.heap.record_key(alloc, id, key)?;
         Ok(Outcome::Value(Value::Undefined))
     }
 
-    fn call(&mut self, alloc: Global, words: &mut SplitWhitespace) -> Result<Outcome, AllocError> {
+    fn call(&mut self, alloc: Global, words: &mut SplitWhitespace) -> Ending {
         let number = words.next().unwrap_or("").parse::<u16>().unwrap_or(42);
         let this_value = self.next_value(alloc, words)?;
         let mut args = Items::new(alloc);
@@ -520,7 +471,7 @@ impl Play {
     }
 
     /// Takes steps until the call at the bottom of the stack ends.
-    fn run(&mut self, alloc: Global, stack: Vec<BuiltinCall>) -> Result<Outcome, AllocError> {
+    fn run(&mut self, alloc: Global, stack: Vec<BuiltinCall>) -> Ending {
         let mut stack = stack;
         for _ in 0..STEPS {
             if let Some(outcome) = self.step(alloc, &mut stack)? {

@@ -4,6 +4,7 @@ ghost use Rattle.std.specs.Prelude.{◌<◌};
 use es_heap::Key;
 use es_value::{ObjId, Str, Value};
 use std::alloc::{AllocError, Global};
+use std::str::SplitWhitespace;
 
 /// The units that a word spells, in which `~` and four hexadecimal digits are one.
 fn units_of(alloc: Global, word: &str) -> Result<Vec<u16>, AllocError> {
@@ -49,6 +50,11 @@ pub fn key_of(alloc: Global, word: &str) -> Result<Key, AllocError> {
         Some(text) => Ok(Key::Text(text_of(alloc, text)?)),
         None => Ok(Key::Iterator),
     }
+}
+
+/// The key that the next word names.
+pub fn next_key(alloc: Global, words: &mut SplitWhitespace) -> Result<Key, AllocError> {
+    key_of(alloc, words.next().unwrap_or(""))
 }
 
 pub fn index_of(word: &str) -> usize {
