@@ -92,31 +92,52 @@ impl Play {
             return String::from_str(alloc, "realm");
         }
         self.calls = String::new(alloc);
-        let outcome = match operation {
-            "call" => self.call(alloc, &mut words)?,
-            "read" => self.read(alloc, &mut words)?,
-            "define" => self.define(alloc, &mut words)?,
-            "accessor" => self.accessor(alloc, &mut words)?,
-            "seal" => self.seal(alloc, &mut words)?,
-            "function" => self.function(alloc, &mut words)?,
-            "binary" => self.binary(alloc, &mut words)?,
-            "unary" => self.unary(alloc, &mut words)?,
-            "write" => self.write(alloc, &mut words)?,
-            "delete" => self.delete(alloc, &mut words)?,
-            "new" => construct(
-                alloc,
-                self.realm.edition(),
-                &self.heap,
-                &self.next_value(alloc, &mut words)?,
-            )?,
-            "extends" => extend(alloc, &self.heap, &self.next_value(alloc, &mut words)?)?,
-            "record" => self.record(alloc, &mut words)?,
-            "object" | "array" | "arguments" | "namespace" => {
-                self.object(alloc, operation, &mut words)?
-            }
-            _ => self.ask(alloc, operation, &mut words)?,
-        };
+        let outcome = self.outcome_of(alloc, operation, &mut words)?;
         self.ending(alloc, outcome)
+    }
+
+    fn outcome_of(
+        &mut self,
+        alloc: Global,
+        operation: &str,
+        words: &mut SplitWhitespace,
+    ) -> Ending {
+        match operation {
+            "call" => self.call(alloc, words),
+            "read" => self.read(alloc, words),
+            "write" => self.write(alloc, words),
+            "delete" => self.delete(alloc, words),
+            "function" => self.function(alloc, words),
+            "object" | "array" | "arguments" | "namespace" => self.object(alloc, operation, words),
+            "binary" | "unary" | "new" | "extends" => self.operate(alloc, operation, words),
+            "prim" | "prims" | "seen" | "error" | "prototype" | "global" | "hosts" => {
+                self.ask(alloc, operation, words)
+            }
+            _ => self.define_by(alloc, operation, words),
+        }
+    }
+
+    /// An operator, or what a class or `new` takes.
+    fn operate(&self, alloc: Global, operation: &str, words: &mut SplitWhitespace) -> Ending {
+        let edition = self.realm.edition();
+        match operation {
+            "binary" => self.binary(alloc, words),
+            "unary" => self.unary(alloc, words),
+            "new" => construct(alloc, edition, &self.heap, &self.next_value(alloc, words)?),
+            _ => extend(alloc, &self.heap, &self.next_value(alloc, words)?),
+        }
+    }
+
+    /// What defines, or marks, in one of the ways that there are.
+    fn define_by(&mut self, alloc: Global, operation: &str, words: &mut SplitWhitespace) -> Ending {
+        match operation {
+            "define" => self.define(alloc, words),
+            "accessor" => self.accessor(alloc, words),
+            "seal" => self.seal(alloc, words),
+            "record" => self.record(alloc, words),
+            "put" => self.put_key(alloc, words),
+            _ => self.length(alloc, words),
+        }
     }
 
     fn ending(&mut self, alloc: Global, outcome: Outcome) -> Result<String, AllocError> {
@@ -189,23 +210,22 @@ impl Play {
         Ok(Outcome::Value(Value::Object(id)))
     }
 
-    /// What no other line does.
+    /// What a value is to hosts and classes, and what a name is.
     fn ask(&mut self, alloc: Global, operation: &str, words: &mut SplitWhitespace) -> Ending {
         match operation {
             "prim" => through_prim(alloc, &self.next_value(alloc, words)?),
             "prims" => of_prims(alloc, self.values(alloc, words)?.as_slice()),
             "seen" => thrown(alloc, &self.heap, &self.next_value(alloc, words)?),
-            "error" => {
-                let kind = error_kind(words.next().unwrap_or(""));
-                let id = make_error(alloc, &mut self.heap, kind)?;
-                Ok(Outcome::Value(Value::Object(id)))
-            }
             "prototype" => Ok(prototype(&self.heap, &self.next_value(alloc, words)?)),
             "global" => Ok(global(words.next().unwrap_or(""))),
-            "hosts" => Ok(Outcome::Value(Value::Number(self.realm.hosts() as i64))),
-            "put" => self.put_key(alloc, words),
-            _ => self.length(alloc, words),
+            "error" => self.error(alloc, words.next().unwrap_or("")),
+            _ => Ok(Outcome::Value(Value::Number(self.realm.hosts()))),
         }
+    }
+
+    fn error(&mut self, alloc: Global, name: &str) -> Ending {
+        let id = make_error(alloc, &mut self.heap, error_kind(name))?;
+        Ok(Outcome::Value(Value::Object(id)))
     }
 
     /// Defines a plain property as a literal does.

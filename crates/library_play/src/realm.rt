@@ -40,10 +40,10 @@ impl Realm {
     }
 
     /// How many hosts there are.
-    pub fn hosts(&self) -> usize {
+    pub fn hosts(&self) -> i64 {
         match self {
             Realm::Sixth(_) => 0,
-            Realm::Fifth(realm) => realm.hosts.len(),
+            Realm::Fifth(realm) => realm.hosts.len() as i64,
         }
     }
 
