@@ -1,0 +1,4 @@
+mod Numerals
+mod Rows
+mod Views
+mod Walks
