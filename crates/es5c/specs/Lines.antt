@@ -5,7 +5,9 @@ use Rattle.es_text.specs.declared.Place.{Place}
 use Rattle.es5c.specs.declared.status.Status.{Status}
 use Rattle.es5c.specs.declared.status.Status.TheVariants as status
 use Rattle.es5c.specs.declared.fault.Fault.{Fault}
-use Rattle.es5c.specs.declared.fault.Fault.TheVariants.{Missing, ReadFailed, FileTooLong, NotBuilt}
+use Rattle.es5c.specs.declared.fault.Fault.TheVariants.{Missing, ReadFailed, FileTooLong, NotBuilt, BadMap, Unbuilt}
+use Rattle.source_map.specs.declared.fault.MapFault.{MapFault}
+use Rattle.source_map.specs.declared.fault.MapFault.TheVariants.{NoMap, BadBase64, BadJson, BadVersion, BadDigit, BadFields, BadIndex}
 
 abbrev pub code_of : Status → ℕ
 code_of status.Done = 0
@@ -34,15 +36,30 @@ place_of bytes at = place_after (record { line = 0; column = 0 }) (take at bytes
 abbrev pub place_text : Place → List ℕ
 place_text place = codes ":" ++ decimal (place.line + 1) ++ codes ":" ++ decimal (place.column + 1)
 
+-- the line of a fault of a map: its kind, and its place where it has one, in characters of `mappings` from 0
+abbrev pub map_fault_line : List ℕ → MapFault → List ℕ
+map_fault_line path NoMap = path ++ (codes ": map fault NoMap" ++ 10 ∷ [])
+map_fault_line path BadBase64 = path ++ (codes ": map fault BadBase64" ++ 10 ∷ [])
+map_fault_line path BadJson = path ++ (codes ": map fault BadJson" ++ 10 ∷ [])
+map_fault_line path BadVersion = path ++ (codes ": map fault BadVersion" ++ 10 ∷ [])
+map_fault_line path (BadDigit at) = path ++ codes ": map fault BadDigit at " ++ (decimal at ++ 10 ∷ [])
+map_fault_line path (BadFields at) = path ++ codes ": map fault BadFields at " ++ (decimal at ++ 10 ∷ [])
+map_fault_line path (BadIndex at) = path ++ codes ": map fault BadIndex at " ++ (decimal at ++ 10 ∷ [])
+map_fault_line path _ = []
+
 -- what each fault's line says
 abbrev pub line_of : List ℕ → Fault → List ℕ
 line_of path Missing = path ++ (codes ": missing" ++ 10 ∷ [])
 line_of path ReadFailed = path ++ (codes ": read fault" ++ 10 ∷ [])
 line_of path FileTooLong = path ++ (codes ": file too long" ++ 10 ∷ [])
 line_of path (NotBuilt place) = path ++ place_text place ++ (codes ": not built" ++ 10 ∷ [])
+line_of path (BadMap fault) = map_fault_line path fault
+line_of path Unbuilt = path ++ (codes ": not built" ++ 10 ∷ [])
 
 abbrev pub usage_line : List ℕ
-usage_line = codes "usage: es5c build ENTRY" ++ 10 ∷ []
+usage_line =
+    codes "usage: es5c build ENTRY / split ENTRY / rebuild ENTRY LIST / run ENTRY [--steps N] / run5 SCRIPT [--steps N] / map SCRIPT / sample N"
+    ++ 10 ∷ []
 
 -- the status of each fault
 abbrev pub status_of : Fault → Status
@@ -50,6 +67,8 @@ status_of Missing = status.Refused
 status_of ReadFailed = status.ReadFault
 status_of FileTooLong = status.Limit
 status_of (NotBuilt place) = status.Refused
+status_of (BadMap fault) = status.Refused
+status_of Unbuilt = status.Refused
 
 -- a place whose numbers can be counted from 1
 abbrev pub IsPrintable : Fault → Type 0

@@ -1,10 +1,11 @@
 //! The command `build`.
 
-ghost use Rattle.std.specs.Prelude.{◌≡◌, ◌≤◌, IfOk, IfErr, MatchResult};
+ghost use Rattle.std.specs.Prelude.{◌≡◌, ◌≤◌, [], IfOk, IfErr, MatchResult};
 ghost use Rattle.es_outside.specs.HostList.{names};
-ghost use Rattle.es5c.specs.Outcome.{IsBytesScript, FitsBytes, IsFileScript, FitsFile, IsPrintableFault, build_fault_of};
+ghost use Rattle.es5c.specs.Parts.{IsBytesScript, FitsBytes, IsFileScript, FitsFile, IsPrintableFault, build_fault_of};
+ghost use Rattle.command_words.specs.Words.{build};
 
-use crate::fault::{Fault, place_of};
+use crate::fault::{CommandFault, Fault, place_of};
 use es_outside::{FileAnswer, Files, Hosts};
 use first_forms::{ReadFault, read_module, tokens};
 use first_script::script_of;
@@ -14,33 +15,16 @@ use std::alloc::{AllocError, Global};
 /// The most bytes of a module.
 pub const MAX_MODULE_BYTES: u32 = 4_194_304;
 
-/// Why no script is made.
-#[derive(Clone, Copy, Debug, PartialEq, Eq)]
-pub enum BuildFault {
-    Refused(Fault),
-    OutOfMemory,
-}
-
-impl From<AllocError> for BuildFault {
-    ghost use Rattle.es5c.specs.declared.build.BuildFault.TheVariants.{OutOfMemory};
-
-    ghost from_gives = { λ _ fault. fault ≡ OutOfMemory };
-
-    fn from(_error: AllocError) -> BuildFault {
-        BuildFault::OutOfMemory
-    }
-}
-
 /// The script of the module with this path. A file is read up to one byte past the limit.
 pub fn build<F: Files>(
     alloc: Global,
     path: &str,
     files: &mut F,
     hosts: &Hosts,
-) -> Result<Vec<u8>, BuildFault>
+) -> Result<Vec<u8>, CommandFault>
     ensures built { MatchResult result
         (λ script. IsFileScript (names hosts.now) (F.files files.old) path.now script.items)
-        (FitsFile (names hosts.now) (F.files files.old) path.now (F.faults files.old) (F.faults files.new)) }
+        (FitsFile (names hosts.now) (build path.now) (F.files files.old) (F.faults files.old) (F.faults files.new)) }
     ensures printable { IfErr result IsPrintableFault }
     ensures kept { F.files files.new ≡ F.files files.old }
     ensures no_fall { F.faults files.old ≤ F.faults files.new }
@@ -48,9 +32,9 @@ pub fn build<F: Files>(
     let hosts = host_names(alloc, hosts)?;
     match files.read(alloc, path, MAX_MODULE_BYTES) {
         FileAnswer::Found(bytes) => script_of_bytes(alloc, bytes.as_slice(), hosts.as_slice()),
-        FileAnswer::Missing => Err(BuildFault::Refused(Fault::Missing)),
-        FileAnswer::Failed => Err(BuildFault::Refused(Fault::ReadFailed)),
-        FileAnswer::OutOfMemory => Err(BuildFault::OutOfMemory),
+        FileAnswer::Missing => Err(CommandFault::Refused(Fault::Missing)),
+        FileAnswer::Failed => Err(CommandFault::Refused(Fault::ReadFailed)),
+        FileAnswer::OutOfMemory => Err(CommandFault::OutOfMemory),
     }
 }
 
@@ -66,12 +50,12 @@ fn host_names(alloc: Global, hosts: &Hosts) -> Result<Vec<Name>, AllocError>
 }
 
 /// The script of a module's bytes.
-fn script_of_bytes(alloc: Global, bytes: &[u8], hosts: &[Name]) -> Result<Vec<u8>, BuildFault>
-    ensures built { MatchResult result (λ script. IsBytesScript hosts.now bytes.now script.items) (FitsBytes hosts.now bytes.now) }
+fn script_of_bytes(alloc: Global, bytes: &[u8], hosts: &[Name]) -> Result<Vec<u8>, CommandFault>
+    ensures built { MatchResult result (λ script. IsBytesScript hosts.now bytes.now script.items) (FitsBytes hosts.now (build []) bytes.now) }
     ensures printable { IfErr result IsPrintableFault }
 {
     if bytes.len() > MAX_MODULE_BYTES as usize {
-        return Err(BuildFault::Refused(Fault::FileTooLong));
+        return Err(CommandFault::Refused(Fault::FileTooLong));
     }
     let tokens = tokens(alloc, bytes)?;
     let module = match read_module(alloc, tokens.as_slice(), hosts) {
@@ -83,15 +67,15 @@ fn script_of_bytes(alloc: Global, bytes: &[u8], hosts: &[Name]) -> Result<Vec<u8
 }
 
 /// The fault of a text, with its place.
-fn build_fault(bytes: &[u8], fault: ReadFault) -> BuildFault
+fn build_fault(bytes: &[u8], fault: ReadFault) -> CommandFault
     ensures value { result ≡ build_fault_of bytes.now fault }
     ensures printable { IsPrintableFault result }
 {
     match fault {
-        ReadFault::NotBuilt { at } => BuildFault::Refused(Fault::NotBuilt(place_of(
+        ReadFault::NotBuilt { at } => CommandFault::Refused(Fault::NotBuilt(place_of(
             bytes,
             at as usize,
         ))),
-        ReadFault::OutOfMemory => BuildFault::OutOfMemory,
+        ReadFault::OutOfMemory => CommandFault::OutOfMemory,
     }
 }

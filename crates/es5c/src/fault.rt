@@ -1,10 +1,12 @@
 //! The faults of a command's input, and their lines.
 
-ghost use Rattle.std.specs.Prelude.{◌≡◌, ◌+◌, ◌<◌, ◌≤◌, ◌^◌, ◌++◌, length, IfOk, string_bytes};
-ghost use Rattle.es5c.specs.Lines.{line_of, status_of, place_of, place_text, IsPrintable};
+ghost use Rattle.std.specs.Prelude.{◌≡◌, ◌+◌, ◌<◌, ◌≤◌, ◌^◌, [], ◌∷◌, ◌++◌, length, IfOk, string_bytes};
+ghost use Rattle.std.specs.Fmt.{decimal};
+ghost use Rattle.es5c.specs.Lines.{line_of, status_of, place_of, place_text, map_fault_line, IsPrintable};
 
 use crate::status::Status;
 use es_text::Place;
+use source_map::MapFault;
 use std::alloc::{AllocError, Global};
 
 /// Why a command is refused, for a file that it reads.
@@ -18,6 +20,40 @@ pub enum Fault {
     FileTooLong,
     /// What stands here is in no form that the program reads today.
     NotBuilt(Place),
+    /// The script holds no map.
+    BadMap(MapFault),
+    /// The command isn't built yet.
+    Unbuilt,
+}
+
+/// Why a command makes no text.
+#[derive(Clone, Copy, Debug, PartialEq, Eq)]
+pub enum CommandFault {
+    Refused(Fault),
+    OutOfMemory,
+}
+
+impl From<AllocError> for CommandFault {
+    ghost use Rattle.es5c.specs.declared.fault.CommandFault.TheVariants.{OutOfMemory};
+
+    ghost from_gives = { λ _ fault. fault ≡ OutOfMemory };
+
+    fn from(_error: AllocError) -> CommandFault {
+        CommandFault::OutOfMemory
+    }
+}
+
+impl From<MapFault> for CommandFault {
+    ghost use Rattle.es5c.specs.Parts.{map_fault_of};
+
+    ghost from_gives = { λ error fault. fault ≡ map_fault_of error };
+
+    fn from(error: MapFault) -> CommandFault {
+        match error {
+            MapFault::OutOfMemory => CommandFault::OutOfMemory,
+            fault => CommandFault::Refused(Fault::BadMap(fault)),
+        }
+    }
 }
 
 impl Fault {
@@ -25,13 +61,15 @@ impl Fault {
         ensures { result ≡ status_of self.now }
     {
         match self {
-            Fault::Missing | Fault::NotBuilt(_) => Status::Refused,
+            Fault::Missing | Fault::NotBuilt(_) | Fault::BadMap(_) | Fault::Unbuilt => {
+                Status::Refused
+            }
             Fault::ReadFailed => Status::ReadFault,
             Fault::FileTooLong => Status::Limit,
         }
     }
 
-    /// The line that names the fault of the file with this path, with places counted from 1.
+    /// The line that names the fault of the file with this path, or of a command, with places counted from 1.
     pub fn line(&self, alloc: Global, path: &str) -> Result<String, AllocError>
         requires { IsPrintable self.now }
         ensures { IfOk result (λ line. string_bytes line ≡ line_of path.now self.now) }
@@ -41,6 +79,8 @@ impl Fault {
             Fault::ReadFailed => line_about_file(alloc, path, ": read fault\n"),
             Fault::FileTooLong => line_about_file(alloc, path, ": file too long\n"),
             Fault::NotBuilt(place) => line_about_place(alloc, path, place, ": not built\n"),
+            Fault::BadMap(fault) => line_about_map(alloc, path, fault),
+            Fault::Unbuilt => line_about_file(alloc, path, ": not built\n"),
         }
     }
 }
@@ -50,6 +90,51 @@ fn line_about_file(alloc: Global, path: &str, text: &str) -> Result<String, Allo
 {
     let mut line = String::from_str(alloc, path)?;
     line.push_str(text)?;
+    Ok(line)
+}
+
+fn line_about_map(alloc: Global, path: &str, fault: &MapFault) -> Result<String, AllocError>
+    ensures { IfOk result (λ line. string_bytes line ≡ map_fault_line path.now fault.now) }
+{
+    match fault {
+        MapFault::NoMap => line_about_file(alloc, path, ": map fault NoMap\n"),
+        MapFault::BadBase64 => line_about_file(alloc, path, ": map fault BadBase64\n"),
+        MapFault::BadJson => line_about_file(alloc, path, ": map fault BadJson\n"),
+        MapFault::BadVersion => line_about_file(alloc, path, ": map fault BadVersion\n"),
+        MapFault::BadDigit { at } => line_about_mappings(
+            alloc,
+            path,
+            ": map fault BadDigit at ",
+            *at,
+        ),
+        MapFault::BadFields { at } => line_about_mappings(
+            alloc,
+            path,
+            ": map fault BadFields at ",
+            *at,
+        ),
+        MapFault::BadIndex { at } => line_about_mappings(
+            alloc,
+            path,
+            ": map fault BadIndex at ",
+            *at,
+        ),
+        MapFault::OutOfMemory => Err(AllocError),
+    }
+}
+
+fn line_about_mappings(
+    alloc: Global,
+    path: &str,
+    text: &str,
+    at: usize,
+) -> Result<String, AllocError>
+    ensures { IfOk result (λ line. string_bytes line ≡ path.now ++ text.now ++ (decimal at ++ 10 ∷ [])) }
+{
+    let number = format!(in alloc; "{at}\n")?;
+    let mut line = String::from_str(alloc, path)?;
+    line.push_str(text)?;
+    line.push_str(number.as_str())?;
     Ok(line)
 }
 

@@ -1,15 +1,17 @@
-//! The program `es5c`: `es5c build ENTRY` writes the ES5 script of a module to the standard output.
+//! The program `es5c`: `es5c build ENTRY` writes the ES5 script of a module to the standard output, and `es5c map SCRIPT` the text of the
+//! map that a script holds.
 #![tactic(auto)]
 
 mod build;
+mod command;
 mod fault;
 mod hosts;
+mod map;
 mod real;
 mod status;
 #[cfg(test)]
 mod tests;
 mod top;
-mod words;
 
 use es_outside::{Host, Hosts};
 use hosts::{CountHost, PrintHost, ReadHost};

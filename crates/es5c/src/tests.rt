@@ -161,20 +161,91 @@ fn files_are_missing_or_too_long(rt: HostRuntime) -> Result<(), Fail> {
 fn words_are_no_command(rt: HostRuntime) -> Result<(), Fail> {
     let alloc = rt.alloc();
     for words in [
+        [].as_slice(),
         ["build"].as_slice(),
-        ["run", "main.js"].as_slice(),
+        ["run"].as_slice(),
+        ["run", "--steps=0", "main.js"].as_slice(),
+        ["run", "--steps", "main.js"].as_slice(),
+        ["run5", "--steps=1099511627777", "main.js"].as_slice(),
+        ["build", "--steps=1", "main.js"].as_slice(),
         ["build", "-m.js"].as_slice(),
         ["build", ""].as_slice(),
-        ["build", "a/b.js"].as_slice(),
         ["build", "main.js", "main.js"].as_slice(),
+        ["rebuild", "main.js"].as_slice(),
+        ["sample", "1001"].as_slice(),
+        ["link", "main.js"].as_slice(),
     ] {
         let outcome = command(alloc, words, Vec::new(alloc), Failing::Nothing)?;
         assert_eq!(rt; outcome.status, Status::Usage);
         assert_eq!(rt;
             outcome.err.bytes(),
-            b"usage: es5c build ENTRY\n".as_slice()
+            b"usage: es5c build ENTRY / split ENTRY / rebuild ENTRY LIST / run ENTRY [--steps N] / run5 SCRIPT [--steps N] / map SCRIPT / sample N\n".as_slice()
         );
         assert_eq!(rt; outcome.out.bytes().len(), 0);
+    }
+    Ok(())
+}
+
+#[test]
+fn paths_are_brought_to_normal_form(rt: HostRuntime) -> Result<(), Fail> {
+    let alloc = rt.alloc();
+    for words in [
+        ["build", "./a/..//main.js"].as_slice(),
+        ["build", "--", "main.js"].as_slice(),
+    ] {
+        let outcome = command(alloc, words, Vec::new(alloc), Failing::Nothing)?;
+        assert_eq!(rt; outcome.status, Status::Done);
+    }
+    Ok(())
+}
+
+#[test]
+fn commands_to_come_are_not_built(rt: HostRuntime) -> Result<(), Fail> {
+    let alloc = rt.alloc();
+    for (words, line) in [
+        (["split", "main.js"].as_slice(), "split: not built\n"),
+        (
+            ["rebuild", "main.js", "list.txt"].as_slice(),
+            "rebuild: not built\n",
+        ),
+        (
+            ["run", "main.js", "--steps", "7"].as_slice(),
+            "run: not built\n",
+        ),
+        (["run5", "main.js"].as_slice(), "run5: not built\n"),
+        (["sample", "1000"].as_slice(), "sample: not built\n"),
+    ] {
+        let outcome = command(alloc, words, Vec::new(alloc), Failing::Nothing)?;
+        assert_eq!(rt; outcome.status, Status::Refused);
+        assert_eq!(rt; outcome.err.bytes(), line.as_bytes());
+        assert_eq!(rt; outcome.out.bytes().len(), 0);
+    }
+    Ok(())
+}
+
+#[test]
+fn maps_of_scripts_are_written(rt: HostRuntime) -> Result<(), Fail> {
+    let alloc = rt.alloc();
+    for (script, status, out, err) in [
+        (
+            "\"use strict\";\n//# sourceMappingURL=data:application/json;base64,eyJ2ZXJzaW9uIjozLCJzb3VyY2VzIjpbImEuanMiXSwibmFtZXMiOltdLCJtYXBwaW5ncyI6IkFBQUEifQ==\n",
+            Status::Done,
+            "{\"version\":3,\"sources\":[\"a.js\"],\"names\":[],\"mappings\":\"AAAA\"}\n",
+            "",
+        ),
+        ("1;", Status::Refused, "", "main.js: map fault NoMap\n"),
+        (
+            "//# sourceMappingURL=data:application/json;base64,eyJ2ZXJzaW9uIjozLCJzb3VyY2VzIjpbImEuanMiXSwibmFtZXMiOltdLCJtYXBwaW5ncyI6IkFBQUEsQUFBQSJ9\n",
+            Status::Refused,
+            "",
+            "main.js: map fault BadIndex at 5\n",
+        ),
+    ] {
+        let bytes = Vec::from_slice(alloc, script.as_bytes())?;
+        let outcome = command(alloc, &["map", "main.js"], bytes, Failing::Nothing)?;
+        assert_eq!(rt; outcome.status, status);
+        assert_eq!(rt; outcome.out.bytes(), out.as_bytes());
+        assert_eq!(rt; outcome.err.bytes(), err.as_bytes());
     }
     Ok(())
 }

@@ -1,9 +1,9 @@
-use Rattle.es5c.proofs.Outcomes.{adds_nothing, built, misused, comes_when_due}
-use Rattle.es5c.specs.Words.{entry_of}
+use Rattle.es5c.proofs.Outcomes.{adds_nothing, done, misused, comes_when_due}
+use Rattle.command_words.specs.Words.{asked_of}
 use Rattle.es5c.proofs.top.es5c.Goals as goal
 
 pub returns-in-Ok-clause-outcome : goal.returns-in-Ok-clause-outcome
-returns-in-Ok-clause-outcome g c = built _ (entry_of c.in-Ok.command) _ c.in-Ok.ensures c.do_command.ensures.outcome
+returns-in-Ok-clause-outcome g c = done _ (asked_of c.in-Ok.command) _ c.in-Ok.ensures c.do_command.ensures.outcome
 
 pub returns-in-Ok-clause-due : goal.returns-in-Ok-clause-due
 returns-in-Ok-clause-due g c = comes_when_due _ _ (returns-in-Ok-clause-outcome g c)

@@ -1,5 +1,5 @@
-use Rattle.es5c.specs.Outcome.{said, cut_off}
-use Rattle.es5c.proofs.top.report.Goals as goal
+use Rattle.es5c.specs.Parts.{said, cut_off}
+use Rattle.es5c.proofs.command.write_text.Goals as goal
 
 pub returns-in-Ok-clause-said : goal.returns-in-Ok-clause-said
 returns-in-Ok-clause-said g c = said c.in-Ok.ensures.all
