@@ -5,3 +5,4 @@ pub mod Script
 pub mod Within
 pub mod Depth
 pub mod Dead
+pub mod Bare

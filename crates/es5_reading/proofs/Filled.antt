@@ -1,5 +1,5 @@
 -- A run with insertion fills the tokens as the standard says.
-use Rattle.std.proofs.Common.{◌≡◌, ℕ, zero, suc, ◌≤◌, true, false, List, [], ◌∷◌, ◌++◌, refl, sym, ap, subst, append_assoc, arith}
+use Rattle.std.proofs.Common.{◌≡◌, ℕ, zero, suc, ◌+◌, ◌≤◌, true, false, List, [], ◌∷◌, ◌++◌, refl, sym, ap, subst, append_assoc, arith}
 use Rattle.es5_ast.specs.declared.tree.Stat5.{Stat5}
 use Rattle.es5_ast.specs.Lexical.{Token5}
 use Rattle.es5_ast.specs.Grammar.{Exact, Aside, IsProgram, end_of}
@@ -7,13 +7,15 @@ use Rattle.es5_ast.specs.Within.{ProgramWithin}
 use Rattle.es5_ast.specs.Script.{Begins, IsWhole, inserted, Fills, at_end, keeps, inserts, inserts_at_end}
 use Rattle.es5_reading.specs.Parser.{Input5, Outcome5, Took, Parser, is_insertable}
 use Rattle.es5_reading.specs.Programs.{readers, program}
-use Rattle.es5_reading.specs.Laws.{IsFilled, IsComplete}
+use Rattle.es5_reading.specs.Laws.{IsFilled, IsComplete, IsReadExactly}
 use Rattle.es5_reading.proofs.Posts.{Holds, of_took}
 use Rattle.es5_reading.proofs.Soundness.{soundness}
 use Rattle.es5_reading.proofs.Follows.{plus, semi, SameHead, nothing, same, Never, Dead, Gaps, stop, keep, insert, FollowedBy}
 use Rattle.es5_reading.proofs.Insertion.{plain_readers, readers-follow, follow-program}
 use Rattle.es5_reading.proofs.Reading.{ReadsOf, reads_}
 use Rattle.es5_reading.proofs.Completeness.{completeness}
+use Rattle.es5_reading.proofs.Alike.{exact, placed-program}
+use Rattle.es5_reading.proofs.Enough.{enough}
 
 plus-zero : (n : ℕ) → plus n zero ≡ n
 plus-zero zero = refl
@@ -29,7 +31,7 @@ plus-more (suc n) l = more l (plus n l) (plus-more n l)
     more : (l m : ℕ) → l ≤ m → l ≤ suc m
     more l m h = omega arith
 
-pub reads-never : {A : Type 0} {Q : A → Type 0} {us : List Token5} {o : Outcome5 A} → ReadsOf Q us o → Never o → ⊥
+pub reads-never : {A : Type 0} {M : Input5 → Type 0} {x : A} {us : List Token5} {o : Outcome5 A} → ReadsOf M x us o → Never o → ⊥
 reads-never (reads_ q) n = of_took n
 
 -- the reader of programs without insertion, for tokens after none
@@ -39,9 +41,20 @@ plain_program fuel room l = program (plain_readers fuel room l) (plus fuel l)
 -- tokens with which the reader never goes on begin no program
 no-program : (fuel room : ℕ) (tokens : List Token5) (statements : List Stat5) → IsProgram Aside tokens statements → ((l : ℕ) → Never (plain_program fuel room l (record { tokens = tokens; last = 0 }))) → ⊥
 no-program fuel room tokens statements d h =
-    let e = completeness d in
-    let l = e.bound in
-    reads-never (e.reads (plus fuel l) (plus fuel l) (plus room l) (plus-more fuel l) (plus-more fuel l) (plus-more room l) 0) (h l)
+    let p = placed-program exact d in
+    let w = enough p.derived in
+    let e = completeness w.bound p.derived (w.fits w.bound (self w.bound)) in
+    let l = e.bound + w.bound in
+    reads-never (e.reads (plus fuel l) (plus fuel l) (plus room l) (more e.bound w.bound (plus fuel l) (plus-more fuel l)) (more e.bound w.bound (plus fuel l) (plus-more fuel l)) (more' e.bound w.bound (plus room l) (plus-more room l)) 0) (h l)
+  where
+    self : (n : ℕ) → n ≤ n
+    self n = omega arith
+
+    more : (a b n : ℕ) → a + b ≤ n → a ≤ n
+    more a b n h = omega arith
+
+    more' : (a b n : ℕ) → a + b ≤ n → b ≤ n
+    more' a b n h = omega arith
 
 not-begins : (fuel room : ℕ) (before : List Token5) (t : Token5) (ts : List Token5) → Dead (plain_program fuel room) 0 before (t ∷ ts) → Begins (before ++ t ∷ []) → ⊥
 not-begins fuel room before t ts dead b =
@@ -88,10 +101,31 @@ filled fuel room tokens statements after_ e =
     let d = derived-of fuel room tokens statements after_ r in
     record { filled = r.1.filled; fills = gaps-fill fuel room r.1.gaps r.0; derived = d.0; within = d.1 }
 
-taken-of : {A : Type 0} {Q : A → Type 0} {us : List Token5} {o : Outcome5 A} → ReadsOf Q us o → (x : A) × (end : ℕ) × (o ≡ Took x (record { tokens = us; last = end }))
-taken-of (reads_ {x = x} {end = end} q) = (x, end, refl)
+taken-of : {A : Type 0} {M : Input5 → Type 0} {x : A} {us : List Token5} {o : Outcome5 A} → ReadsOf M x us o → (end : ℕ) × (o ≡ Took x (record { tokens = us; last = end }))
+taken-of (reads_ {end = end} m) = (end, refl)
+
+pub read-exactly : IsReadExactly false
+read-exactly room tokens statements d w =
+    let e = completeness room d w in
+    (e.bound, λ fuel last a. taken-of (e.reads fuel fuel room a a (self room) last))
+  where
+    self : (n : ℕ) → n ≤ n
+    self n = omega arith
 
 pub complete : IsComplete
 complete mode tokens statements d =
-    let e = completeness d in
-    (e.bound, λ fuel room last a b. taken-of (e.reads fuel fuel room a a b last))
+    let p = placed-program exact d in
+    let w = enough p.derived in
+    let e = completeness w.bound p.derived (w.fits w.bound (self w.bound)) in (
+      e.bound + w.bound,
+      λ fuel room last a b. let r = taken-of (e.reads fuel fuel room (more e.bound w.bound fuel a) (more e.bound w.bound fuel a) (more' e.bound w.bound room b) last) in (p.tree, r.0, r.1, p.same),
+    )
+  where
+    self : (n : ℕ) → n ≤ n
+    self n = omega arith
+
+    more : (a b n : ℕ) → a + b ≤ n → a ≤ n
+    more a b n h = omega arith
+
+    more' : (a b n : ℕ) → a + b ≤ n → b ≤ n
+    more' a b n h = omega arith

@@ -23,8 +23,13 @@ pub mod CompleteExpressions
 pub mod CompleteStatements
 pub mod CompleteCompound
 pub mod Completeness
+pub mod Bare
+pub mod Alike
+pub mod Enough
 pub mod Filled
 pub mod Scripts
+pub mod OneScript
+pub mod Accepted
 pub mod Places
 pub mod Stays
 pub mod Examples

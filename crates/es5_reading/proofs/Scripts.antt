@@ -1,16 +1,18 @@
 -- A script that is read begins with the directive of strict code, and a semicolon ends it.
-use Rattle.std.proofs.Common.{◌≡◌, ℕ, zero, suc, ◌+◌, Bool, true, false, ◌&&◌, ◌||◌, cond, List, [], ◌∷◌, Option, Some, None, refl, sym, ap, subst, arith, eqb-true}
+use Rattle.std.proofs.Common.{◌≡◌, ℕ, zero, suc, ◌+◌, ◌≤◌, Bool, true, false, ◌&&◌, ◌||◌, cond, List, [], ◌∷◌, Option, Some, None, refl, sym, ap, subst, arith, eqb-true}
 use Rattle.std.proofs.lemmas.Bool.{false≢true, true≢false}
 use Rattle.std.specs.Prelude.{codes, ◌==◌}
 use Rattle.es_text.specs.declared.Span.{Span}
 use Rattle.es5_ast.specs.declared.tree.Stat5.{Stat5}
-use Rattle.es5_ast.specs.declared.tree.Link5.{Link5}
+use Rattle.es5_ast.specs.declared.tree.Expr5.{Expr5}
+use Rattle.es5_ast.specs.declared.tree.Expr5.TheVariants as expr
+use Rattle.es5_ast.specs.declared.operators.Literal5.TheVariants as literals
 use Rattle.es5_ast.specs.declared.tree.Identifier5.{Identifier5}
 use Rattle.es5_ast.specs.Lexical.{Token5, Kind5, Word, Integer, Text, Punctuator, Inserted}
-use Rattle.es5_ast.specs.Grammar.{is_mark, ends, binary_kind}
+use Rattle.es5_ast.specs.Grammar.{is_mark, ends, binary_kind, across}
 use Rattle.es5_ast.specs.Script.{IsStrict}
 use Rattle.es5_reading.specs.Parser.{Input5, Stop5, Syntax, Outcome5, Took, after, ending, kept_if, Read5, Inner5}
-use Rattle.es5_reading.specs.Expressions.{is_some, look_up, binary_operators, operator_of_level, assign_at, after_at, head, primary, links, chained, chain, sequence, binary_from}
+use Rattle.es5_reading.specs.Expressions.{is_some, look_up, binary_operators, operator_of_level, assign_at, after_at, left, sequence}
 use Rattle.es5_reading.specs.Statements.{label_of, label_or_end, expression_end, expression_statement, plain_statement, jump_statement, compound_statement, statement}
 use Rattle.es5_ast.specs.Depth.{most_open}
 use Rattle.es5_reading.specs.Programs.{readers, program, is_text, is_directive, continues, second_fault, directive_fault, unless_fault, script}
@@ -20,9 +22,10 @@ use Rattle.es5_reading.proofs.Meanings.{same_bytes, or_false}
 use Rattle.es5_reading.proofs.Follows.{plus, semi, Never, Dead, Gaps, stop, keep, insert}
 use Rattle.es5_reading.proofs.FollowChoices.{semicolon-none}
 use Rattle.es5_reading.proofs.Insertion.{plain_readers, statement-semi, readers-inserting}
-use Rattle.es5_reading.proofs.Reading.{ReadsOf, reads_, Reads, bind-reads, Eventually, always, both, begin}
-use Rattle.es5_reading.proofs.CompleteTokens.{at-kind, begins_operand_at, Operand, operand_text, Closes, mark-miss}
-use Rattle.es5_reading.proofs.CompleteLevels.{R, at-fuel, links-none, chain-unary, sequence_level, from-binary}
+use Rattle.es5_reading.proofs.Reading.{ReadsOf, reads_, Reads, Eventually}
+use Rattle.es5_reading.proofs.CompleteTokens.{at-kind, Closes, mark-miss}
+use Rattle.es5_reading.proofs.CompleteLevels.{R}
+use Rattle.es5_reading.proofs.CompleteExpressions.{literal-sequence}
 use Rattle.es5_reading.proofs.Filled.{plain_program, followed-program, derived-of, gaps-fill, plus-more, append-nil, same-end}
 
 -- ## The directive
@@ -81,25 +84,9 @@ closes-nothing = record { dot = refl; bracket = refl; paren = λ l. refl; after 
 
 -- ## The literal is read alone
 
-abbrev NoLabel : Read5 → Type 0
-NoLabel x = label_of x.shape x.value ≡ None
-
-chained-same : (x : Read5) (ls : List Link5) (span : Span) → ls ≡ [] → NoLabel x → NoLabel (chained x ls span)
-chained-same x ls span e h = subst (λ l. NoLabel (chained x l span)) (sym e) h
-
-text-head : (units : List ℕ) (t : Token5) (us : List Token5) → t.kind ≡ Text units → Eventually (λ n f r. (at : ℕ) → Reads (head (R f r) at) NoLabel (t ∷ us) us)
-unfolding head primary
-text-head units t us e = always (λ n f r at last. at-kind (λ u. ReadsOf NoLabel us (head (R f r) at (record { tokens = u ∷ us; last = last }))) t (Text units) e (reads_ refl))
-
-text-chain : (units : List ℕ) (t : Token5) (us : List Token5) → t.kind ≡ Text units → Closes false 0 us → Eventually (λ n f r. Reads (chain (R f r) true) NoLabel (t ∷ us) us)
-unfolding chain
-text-chain units t us e c = both (text-head units t us e) (begin (links-none true us c.dot c.bracket (λ x. c.paren (omega arith))) (λ n f r k. at-fuel (λ m. links (R f r) true m) (λ ls. ls ≡ []) us us f r k))
-    (λ n f r x y last. bind-reads _ (x t.begin last) (λ v m l. bind-reads _ (y m) (λ ls j q. reads_ (chained-same v ls _ q l))))
-
-text-sequence : (units : List ℕ) (t : Token5) (us : List Token5) → t.kind ≡ Text units → Closes false 0 us → Eventually (λ n f r. Reads (sequence (R f r) false) NoLabel (t ∷ us) us)
-unfolding binary_from
-text-sequence units t us e c = from-binary 0 13 false NoLabel (t ∷ us) us refl (omega arith)
-    (chain-unary false NoLabel (t ∷ us) us (text-chain units t us e c) (begins_operand_at (subst (λ j. Operand j) (sym e) operand_text)) (c.after (omega arith))) 0 sequence_level (omega arith) c
+-- a literal that nothing goes on with is read alone
+text-sequence : (units : List ℕ) (t : Token5) (us : List Token5) → t.kind ≡ Text units → Closes false 0 us → Eventually 0 (λ n f r. Reads (sequence (R f r) false) (left (expr.Literal (across (t ∷ us) us) (literals.Text units))) (t ∷ us) us)
+text-sequence units t us e c = literal-sequence (literals.Text units) t us e c
 
 text-statement : (units : List ℕ) (i : Inner5) (t : Token5) (us : List Token5) (last : ℕ) → t.kind ≡ Text units → statement i false true (record { tokens = t ∷ us; last = last }) ≡ expression_statement i false t.begin (record { tokens = t ∷ us; last = last })
 unfolding statement compound_statement jump_statement plain_statement
@@ -110,13 +97,16 @@ unfolding expression_end
 end-stops i at None x us last p m e = bind (semicolon-none i us last p m) (λ u c n. absurd n)
 end-stops i at (Some y) x us last p m e = absurd (cc)
 
-text-stops : (i : Inner5) (at : ℕ) (us : List Token5) {o : Outcome5 Read5} → i.inserting ≡ false → Misses ending us → ReadsOf NoLabel us o → Never (after o (λ x. label_or_end i false at (label_of x.shape x.value) x.value))
-text-stops i at us p m (reads_ {x = x} {end = end} h) = end-stops i at (label_of x.shape x.value) x us end p m h
+text-stops : (i : Inner5) (at : ℕ) (x : Expr5) (us : List Token5) {M : Input5 → Type 0} {o : Outcome5 Read5} → i.inserting ≡ false → Misses ending us → ReadsOf M (left x) us o → Never (after o (λ y. label_or_end i false at (label_of y.shape y.value) y.value))
+text-stops i at x us p m (reads_ {end = end} h) = end-stops i at None (left x) us end p m refl
 
 program-stops : (i : Inner5) (turns : ℕ) (t : Token5) (us : List Token5) (last : ℕ) → Never (statement i false true (record { tokens = t ∷ us; last = last })) → Never (program i turns (record { tokens = t ∷ us; last = last }))
 unfolding program
 program-stops i zero t us last h = fault
 program-stops i (suc turns) t us last h = bind h (λ x c n. absurd n)
+
+nothing : (n : ℕ) → 0 ≤ n
+nothing n = omega arith
 
 -- a directive that nothing goes on with and no semicolon ends is no program
 directive-stops : (fuel room : ℕ) (units : List ℕ) (t : Token5) (us : List Token5) → t.kind ≡ Text units → Closes false 0 us → Misses ending us → (l : ℕ) × Never (plain_program fuel room l (record { tokens = t ∷ us; last = 0 }))
@@ -126,7 +116,7 @@ directive-stops fuel room units t us e c m =
     let l = s.bound in (
       l,
       program-stops (plain_readers fuel room l) (plus fuel l) t us 0 (subst (λ o. Never o) (sym (text-statement units (plain_readers fuel room l) t us 0 e))
-          (text-stops (plain_readers fuel room l) t.begin us (readers-inserting false (plus fuel l) (plus room l)) m (s.reads (plus fuel l) (plus fuel l) (plus room l) (plus-more fuel l) (plus-more fuel l) (plus-more room l) 0))),
+          (text-stops (plain_readers fuel room l) t.begin (expr.Literal (across (t ∷ us) us) (literals.Text units)) us (readers-inserting false (plus fuel l) (plus room l)) m (s.reads (plus fuel l) (plus fuel l) (plus room l) (plus-more fuel l) (plus-more fuel l) (nothing (plus room l)) 0))),
     )
 
 -- ## The tokens that are filled

@@ -39,15 +39,15 @@ record LinksIn (n : ℕ) (calls : Bool) (s : Input5) (ls : List Link5) (c : Inpu
 links-none : (n : ℕ) (calls : Bool) (s : Input5) → Stopped calls s.tokens → LinksIn n calls s [] s
 links-none n calls s h = record { goes_ = stays s; has_call = false; derived = g.no_link; within = tt; allowed = λ e. refl; sites = refl; stopped = h }
 
-member-sites : (span : Span) (name : List ℕ) (ls : List Link5) → link_sites (link.Member span name ∷ ls) ≡ link_sites ls
+pub member-sites : (span : Span) (name : List ℕ) (ls : List Link5) → link_sites (link.Member span name ∷ ls) ≡ link_sites ls
 unfolding l5.out-Link5 carrier.out
 member-sites span name ls = refl
 
-index-sites : (span : Span) (x : Expr5) (ls : List Link5) → link_sites (link.Index span x ∷ ls) ≡ link_sites ls
+pub index-sites : (span : Span) (x : Expr5) (ls : List Link5) → link_sites (link.Index span x ∷ ls) ≡ link_sites ls
 unfolding l5.out-Link5 carrier.out
 index-sites span x ls = refl
 
-call-sites : (span : Span) (xs : List Expr5) (ls : List Link5) → link_sites (link.Call span xs None ∷ ls) ≡ link_sites ls
+pub call-sites : (span : Span) (xs : List Expr5) (ls : List Link5) → link_sites (link.Call span xs None ∷ ls) ≡ link_sites ls
 unfolding l5.out-Link5 carrier.out
 call-sites span xs ls = refl
 

@@ -10,7 +10,7 @@ use Rattle.es5_ast.specs.declared.tree.Expr5.{Expr5}
 use Rattle.es5_reading.specs.Expressions as e
 use Rattle.es5_reading.specs.Statements as s5
 use Rattle.es5_reading.specs.Programs.{readers, program}
-use Rattle.es5_reading.specs.Laws.{ReadingsStay, ReadingsStayInserting, IsComplete, IsReadInFull}
+use Rattle.es5_reading.specs.Laws.{ReadingsStay, ReadingsStayInserting, IsComplete, IsReadExactly, IsReadInFull}
 use Rattle.es5_reading.proofs.Follows.{plus}
 use Rattle.es5_reading.proofs.Insertion.{readers-inserting, readers-fuel}
 
@@ -408,4 +408,9 @@ readings-stay-inserting fuel room tokens last statements after_ e =
 pub full-readings : IsComplete → IsReadInFull
 full-readings complete mode tokens statements d =
     let c = complete mode tokens statements d in
-    (c.0, λ fuel room last f r. let k = c.1 fuel room last f r in (k.0, k.1, readings-stay-inserting fuel room tokens last k.0 _ k.2))
+    (c.0, λ fuel room last f r. let k = c.1 fuel room last f r in (k.0, k.1, readings-stay-inserting fuel room tokens last k.0 _ k.2, k.3))
+
+pub exact-full-readings : IsReadExactly false → IsReadExactly true
+exact-full-readings exactly room tokens statements d w =
+    let c = exactly room tokens statements d w in
+    (c.0, λ fuel last f. let k = c.1 fuel last f in (k.0, readings-stay-inserting fuel room tokens last statements _ k.1))
