@@ -1,5 +1,5 @@
 -- What a script is but for its spans and the sites that its calls carry: the tree with every span at 0 and no site.
-use Rattle.std.specs.Prelude.{List, map, Option, Some, None}
+use Rattle.std.specs.Prelude.{List, map, None}
 use Rattle.std.specs.Option.{option_map}
 use Rattle.es_text.specs.declared.Span.{Span}
 use Rattle.es5_ast.specs.declared.tree.Identifier5.{Identifier5}

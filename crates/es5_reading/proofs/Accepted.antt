@@ -1,13 +1,13 @@
 -- A script that is spelled in full, with no construct too many, is read exactly so.
-use Rattle.std.proofs.Common.{◌≡◌, ℕ, ◌+◌, Bool, true, false, ◌&&◌, ◌||◌, cond, List, [], ◌∷◌, Option, Some, None, refl, sym, ap, subst, ◌∙◌, eq-eqb}
+use Rattle.std.proofs.Common.{◌≡◌, ◌+◌, Bool, true, false, ◌&&◌, List, [], ◌∷◌, Option, None, refl, ap, ◌∙◌, eq-eqb}
 use Rattle.std.specs.Prelude.{codes, ◌==◌}
 use Rattle.es5_ast.specs.declared.operators.UpdateOperator5.TheVariants.{IncrementAfter, DecrementAfter}
 use Rattle.es5_ast.specs.Lexical.{Token5, Text}
 use Rattle.es5_ast.specs.Grammar.{is_mark, IsEnd, binary_kind, update_kind, assign_kind}
 use Rattle.es5_ast.specs.Script.{IsStrict}
 use Rattle.es5_ast.specs.Depth.{most_open}
-use Rattle.es5_reading.specs.Expressions.{is_some, look_up, binary_operators, assign_operators, assign_at, after_at, unless}
-use Rattle.es5_reading.specs.Programs.{readers, program, is_text, is_directive, continues, second_fault, directive_fault, unless_fault, script}
+use Rattle.es5_reading.specs.Expressions.{is_some, look_up, binary_operators, assign_operators, unless}
+use Rattle.es5_reading.specs.Programs.{readers, program, is_text, is_directive, continues, directive_fault, unless_fault, script}
 use Rattle.es5_reading.specs.Laws.{IsReadExactly, ReadingsStayInserting, AreAccepted}
 use Rattle.es5_reading.proofs.Meanings.{bytes_eq-refl}
 use Rattle.es5_reading.proofs.CompleteStatements.{end-none, end-false}

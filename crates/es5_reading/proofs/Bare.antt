@@ -1,5 +1,5 @@
 -- What each node is but for spans and sites, by what its children are.
-use Rattle.std.proofs.Common.{◌≡◌, ℕ, Bool, List, Option, Some, None, map, sym, ap, ◌∙◌}
+use Rattle.std.proofs.Common.{◌≡◌, ℕ, List, Option, Some, None, map, sym, ap, ◌∙◌}
 use Rattle.std.specs.Option.{option_map}
 use Rattle.es_text.specs.declared.Span.{Span}
 use Rattle.es_outside.specs.declared.events.Site.{Site}

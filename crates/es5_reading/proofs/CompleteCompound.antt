@@ -22,16 +22,16 @@ use Rattle.es5_ast.specs.Grammar as g
 use Rattle.es5_ast.specs.Grammar.{Mode5, Exact, IsIdentifier, IsMark, IsWord, IsEnd, IsOnLine, AreCases, is_mark, is_word, is_identifier, begins, ends, begin_of, across}
 use Rattle.es5_ast.specs.Within.{Opens}
 use Rattle.es5_reading.specs.Parser.{◌>>=◌, Input5, Outcome5, Took, Outside, returns, fails, take_as, next_is, mark, word, next_mark, next_word, Bare, is_left, Inner5}
-use Rattle.es5_reading.specs.Expressions.{name_if, free_name, free_name_in, sequence}
+use Rattle.es5_reading.specs.Expressions.{name_if, free_name, free_name_in}
 use Rattle.es5_reading.specs.Statements.{one_declared, declared_list, do_statement, while_statement, after_first_declared, for_var, for_expression, for_first_part, optional, for_header, for_statement, label_if, label_at, label_of, optional_label, continue_statement, break_statement, goes_on, returned, return_statement, begins_line, throw_statement, is_inserted, ends_case, in_case, case_clause, default_clause, cases, switch_statement, catch_parameter, handler, after_handler, only_finally, try_statement, debugger_statement, expression_end, labelled, label_or_end, expression_statement, plain_statement, jump_statement, compound_statement, statement}
 use Rattle.es5_reading.specs.Programs.{readers, program}
 use Rattle.es5_reading.proofs.Posts.{Misses}
 use Rattle.es5_reading.proofs.Meanings.{same_bytes}
-use Rattle.es5_reading.proofs.Spans.{Moves, Goes, ◌⟫◌, stays, goes, then-goes}
-use Rattle.es5_reading.proofs.Derived.{one, both_open}
-use Rattle.es5_reading.proofs.Reading.{ReadsOf, reads_, Reads, Passes, reads-as, done, passes-of, later, placed, bind-reads, on-hit, on-miss, if-true, if-false, choose-either, group-hit, Eventually, always, then_, both, pair, deeper, inside_, inside-shape, turn, once, begin}
+use Rattle.es5_reading.proofs.Spans.{Moves, Goes, ◌⟫◌, stays, then-goes}
+use Rattle.es5_reading.proofs.Derived.{one}
+use Rattle.es5_reading.proofs.Reading.{ReadsOf, reads_, Reads, Passes, reads-as, done, passes-of, later, placed, bind-reads, on-hit, on-miss, if-true, if-false, choose-either, group-hit, Eventually, always, then_, both, pair, deeper, inside_, turn, once, begin}
 use Rattle.es5_reading.proofs.CompleteTokens.{at-kind, is-false, operand_words, operand_marks, prefix_words, prefix_marks, operand_name, First, first_operand, BeginsFirst, begins_first_at, first-no-word, first-no-mark, not-reserved, Closes, closes-up, mark-miss, word-miss, closes-colon, closes-close, closes-comma, closes-end, closes-semicolon}
-use Rattle.es5_reading.proofs.CompleteLevels.{R, at-fuel, at-fuel', reading, sequence_level, Claim}
+use Rattle.es5_reading.proofs.CompleteLevels.{R, at-fuel, at-fuel', sequence_level, Claim}
 use Rattle.es5_reading.proofs.CompleteParts.{is-mark-true, is-word-true, mark-hit, word-hit, mark-other, take-mark, first-misses, identifier_of, identifier-reads, opened, open-sequence}
 use Rattle.es5_reading.proofs.CompleteExpressions.{name-sequence}
 use Rattle.es5_reading.proofs.CompleteStatements.{Quiet, StatClaim, quiet-kind, open-statement, semicolon-reads, take-word, end-none, end-false, AfterWord, BlockClaim, DeclaredClaim, DeclaredItems, item_last, item_next, list-reads, paren-reads}

@@ -29,12 +29,12 @@ use Rattle.es5_ast.specs.Grammar as g
 use Rattle.es5_ast.specs.Grammar.{Mode5, Exact, IsKey, AreOperands, IsMark, IsWord, is_mark, is_word, is_identifier, is_in, is_before, unary_kind, update_kind, assign_kind, binary_kind, binary_level, literal_kind, key_kind, chain_level, begin_of, across}
 use Rattle.es5_ast.specs.Within.{Opens}
 use Rattle.es5_reading.specs.Parser.{◌>>=◌, Input5, Took, next_is, returns, mark, word, next_mark, Shape5, Bare, LeftHandSide, Other, is_left, Inner5, on_group}
-use Rattle.es5_reading.specs.Expressions.{name_if, any_name, free_name, accessor_at, accessor_in, accessor_word, accessor_name, accessor_of, key, function_expression, accessor, value_of_key, plain_property, after_accessor_word, one_property, properties, elements, left, grouped, bracketed, primary, after_callee, head, member_link, index_link, call_link, links, chained, chain, postfix, prefixed, updated, unary, operands, binary_from, branches, conditional, assigned, assignment, parts, more_parts, sequence, unary_at, before_at, after_at, assign_at, binary_at}
+use Rattle.es5_reading.specs.Expressions.{name_if, any_name, free_name, accessor_at, accessor_in, accessor_word, accessor_name, accessor_of, key, function_expression, accessor, value_of_key, plain_property, after_accessor_word, one_property, properties, elements, left, grouped, bracketed, primary, after_callee, head, member_link, index_link, call_link, links, chain, postfix, prefixed, updated, unary, operands, binary_from, branches, conditional, assigned, assignment, parts, more_parts, sequence, unary_at, before_at, after_at, assign_at, binary_at}
 use Rattle.es5_reading.proofs.Posts.{Misses}
 use Rattle.es5_reading.proofs.Meanings.{same_bytes, some_same}
-use Rattle.es5_reading.proofs.Spans.{Moves, Goes, ◌⟫◌, stays, then-goes, span-across}
+use Rattle.es5_reading.proofs.Spans.{Moves, ◌⟫◌, stays, then-goes, span-across}
 use Rattle.es5_reading.proofs.Derived.{one}
-use Rattle.es5_reading.proofs.Reading.{ReadsOf, reads_, Reads, Passes, reads-as, done, passes-of, later, placed, bind-reads, on-hit, on-miss, take-hit, if-true, if-false, choose-either, group-hit, group-miss, Eventually, always, then_, both, pair, inside_, inside-shape, map-opens, turn, once, begin}
+use Rattle.es5_reading.proofs.Reading.{ReadsOf, reads_, Reads, Passes, reads-as, done, passes-of, placed, bind-reads, on-hit, on-miss, take-hit, if-true, if-false, choose-either, group-hit, group-miss, Eventually, always, then_, both, pair, inside_, inside-shape, map-opens, turn, once, begin}
 use Rattle.es5_reading.proofs.CompleteTokens.{at-kind, not-reserved, operand_words, operand_marks, Operand, operand_name, operand_word, operand_integer, operand_text, operand_mark, First, BeginsOperand, begins_operand_at, BeginsFirst, begins_first_at, operand-no-unary, operand-no-before, Closes, closes-up, closes-any, mark-miss, word-miss, assign-hit, unary-hit, unary-first, before-hit, before-first, after-hit, update-stops, closes-assign, closes-operator, closes-question, closes-colon, closes-close, closes-square, closes-comma, binary-hit, level-high}
 use Rattle.es5_reading.proofs.CompleteLevels.{R, at-fuel, at-fuel', reading, links-none, HeadReads, ChainReads, head-chain, sequence_level, assignment_level, binary_level_, from-binary, from-conditional, from-assignment, from-sequence, Claim, low-level, level-thirteen, left-conditional, left-levels, claim-primary, claim-left, claim-other}
 use Rattle.es5_reading.proofs.CompleteParts.{is-mark-true, mark-hit, mark-other, take-mark, key-reads, key_of, opened, open-assignment, open-sequence, open-unary, open-callee, ElementsRead, ArgumentsClaim, arguments-reads, PropertiesRead, PropertyClaim, AccessorRead, FunctionClaim, anonymous_claim, named_claim}

@@ -16,7 +16,7 @@ use Rattle.es5_ast.specs.Grammar.{Exact, IsIdentifier, IsMark, IsWord, IsEnd, is
 use Rattle.es5_ast.specs.Within.{Opens}
 use Rattle.es5_reading.specs.Parser.{Parser, next_is, kept_if, take_as, mark, word, next_mark, next_word, ending, semicolon, Inner5}
 use Rattle.es5_reading.specs.Expressions.{statements, assign_at, assign_operators}
-use Rattle.es5_reading.specs.Statements.{Otherwise5, block, initialized, one_declared, declared_list, var_statement, parenthesized, condition, otherwise, if_statement, do_statement, while_statement, for_statement, continue_statement, break_statement, return_statement, throw_statement, is_inserted, ends_case, switch_statement, try_statement, debugger_statement, declaration, plain_statement, jump_statement, compound_statement, block_statement, statement}
+use Rattle.es5_reading.specs.Statements.{block, initialized, one_declared, declared_list, var_statement, parenthesized, condition, otherwise, if_statement, do_statement, while_statement, for_statement, continue_statement, break_statement, return_statement, throw_statement, is_inserted, ends_case, switch_statement, try_statement, debugger_statement, declaration, plain_statement, jump_statement, compound_statement, block_statement, statement}
 use Rattle.es5_reading.specs.Programs.{readers}
 use Rattle.es5_reading.proofs.Posts.{Misses}
 use Rattle.es5_reading.proofs.Meanings.{same_bytes, or_false}

@@ -24,7 +24,7 @@ use Rattle.es5_ast.specs.declared.tree.Operand5.{Operand5}
 use denote.Hole.Carrier as carrier
 use Rattle.es5_ast.specs.Lexical.{Token5}
 use Rattle.es5_ast.specs.Grammar as g
-use Rattle.es5_ast.specs.Grammar.{Exact, IsExpr, IsNode, IsNewCallee, AreElements, AreProperties, IsProperty, IsAccessor, AreLinks, AreArguments, AreOperands, AreParts, IsFunction, AreStats, IsStat, IsBlock, AreDeclared, IsDeclared, IsIf, IsCondition, IsForFirst, IsOptional, IsLabel, IsReturned, AreCases, AreInCase, IsCatch, IsProgram, IsIdentifier, IsMark, IsEnd, is_mark, chain_level, link_sites}
+use Rattle.es5_ast.specs.Grammar.{Exact, IsExpr, IsNode, IsNewCallee, AreElements, AreProperties, IsProperty, IsAccessor, AreLinks, AreArguments, AreOperands, AreParts, IsFunction, AreStats, IsStat, IsBlock, AreDeclared, IsDeclared, IsIf, IsCondition, IsForFirst, IsOptional, IsLabel, IsReturned, AreCases, AreInCase, IsCatch, IsProgram, IsIdentifier, IsEnd, is_mark, chain_level, link_sites}
 use Rattle.es5_ast.specs.Within.{ExprWithin, NodeWithin, NewCalleeWithin, ElementsWithin, PropertiesWithin, PropertyWithin, AccessorWithin, LinksWithin, ArgumentsWithin, OperandsWithin, PartsWithin, FunctionWithin, StatsWithin, StatWithin, BlockWithin, DeclaredListWithin, DeclaredWithin, IfWithin, ConditionWithin, ForFirstWithin, OptionalWithin, ReturnedWithin, CasesWithin, InCaseWithin, CatchWithin, ProgramWithin}
 use Rattle.es5_reading.specs.Parser.{next_is, next_mark}
 use Rattle.es5_reading.specs.Statements.{ends_case}

@@ -2,7 +2,7 @@
 use Rattle.std.proofs.Common.{◌≡◌, ℕ, ◌+◌, ◌≤◌, false, List, [], ◌∷◌, ◌++◌, refl, sym, ap, subst, ◌∙◌, append_assoc, arith}
 use Rattle.es5_ast.specs.declared.tree.Stat5.{Stat5}
 use Rattle.es5_ast.specs.Lexical.{Token5}
-use Rattle.es5_ast.specs.Grammar.{Mode5, Exact, Aside, IsProgram}
+use Rattle.es5_ast.specs.Grammar.{Mode5, Exact, IsProgram}
 use Rattle.es5_ast.specs.Script.{Begins, IsWhole, inserted, Fills, at_end, keeps, inserts, inserts_at_end}
 use Rattle.es5_ast.specs.Bare.{bare_statements}
 use Rattle.es5_reading.specs.Parser.{Input5, Outcome5, Took}
