@@ -12,12 +12,13 @@ use Rattle.es5_ast.specs.declared.tree.Stat5.TheVariants as stat
 use Rattle.es5_ast.specs.declared.tree.Script.{Script}
 use Rattle.es5_ast.specs.Lexical.{Text, Token5, Tokens5}
 use Rattle.es5_ast.specs.Grammar as g
-use Rattle.es5_ast.specs.Grammar.{Aside, ends, IsProgram}
-use Rattle.es5_ast.specs.Script.{Fills, keeps, at_end, IsStrict, IsTree}
+use Rattle.es5_ast.specs.Grammar.{Aside, Marked, ends, IsProgram}
+use Rattle.es5_ast.specs.Script.{Fills, keeps, at_end, IsStrict, Spells, IsTree}
 use Rattle.es5_printer.specs.declared.mark.Mark.{Mark}
 use Rattle.es5_printer.specs.Pieces.{Piece, Lexeme, all, end_of, opened_of, stat_shown, stats_pieces}
 use Rattle.es5_printer.specs.Layout.{Written, written, blank, text_of}
 use Rattle.es5_printer.specs.Printed.{Call, AreMarksOf, IsRising, IsPrinted}
+use Rattle.es5_script_laws.proofs.OneScript.{one-tree}
 use Rattle.es5_printer.proofs.Shown as s
 use Rattle.es5_printer.proofs.Tokens.{Spots, tokens, AreKnown, AreSpelled}
 use Rattle.es5_printer.proofs.Spelling.{program_printed}
@@ -85,19 +86,21 @@ printed script tree =
     let same_calls : calls ≡ calls_from blank ps = calls_same true spots blank ps a q in
     let same_marks : (written blank ps).marks ≡ marks_from blank ps = written_marks blank ps in
     let start : Begun ps = begun source.parsed source.strict.directive source.strict.end source.strict.rest source.strict.first source.strict.text source.strict.ends in
+    let spelled : Spells (Marked calls) bytes script = record {
+      utf8 = IsUtf8-from_ascii bytes ascii;
+      tokens = tokens spots false ps;
+      lexed = subst (λ cs. Tokens5 0 false cs (tokens spots false ps)) (sym (same_chars ∙ is_text)) lex;
+      filled = tokens spots false ps;
+      fills = all_kept [] (tokens spots false ps);
+      strict = strict_by spots false ps start.rest start.is a;
+      parsed = parsed;
+      spans = tt;
+      legal = source.legal;
+    } in
     record {
       calls = calls;
-      spelled = record {
-        utf8 = IsUtf8-from_ascii bytes ascii;
-        tokens = tokens spots false ps;
-        lexed = subst (λ cs. Tokens5 0 false cs (tokens spots false ps)) (sym (same_chars ∙ is_text)) lex;
-        filled = tokens spots false ps;
-        fills = all_kept [] (tokens spots false ps);
-        strict = strict_by spots false ps start.rest start.is a;
-        parsed = parsed;
-        spans = tt;
-        legal = source.legal;
-      };
+      spelled = spelled;
+      only = λ mode other s. one-tree mode (Marked calls) bytes other script s spelled;
       sites = call_sites spots ps ∙ program_gives source.parsed;
       marked = subst (λ cs. AreMarksOf cs calls (written blank ps).marks) (sym same_chars) (subst (λ c. AreMarksOf bytes c (written blank ps).marks) (sym same_calls) (subst (AreMarksOf bytes (calls_from blank ps)) (sym same_marks) (marks_placed true bytes blank ps is_text ascii blank_placed q)));
       rising = subst (IsRising 0) (sym same_calls) (calls_rise true blank ps q);

@@ -5,8 +5,9 @@ use Rattle.std.specs.Str.{chars}
 use Rattle.es_text.specs.Places.{IsPlace}
 use Rattle.es_outside.specs.declared.events.Site.{Site}
 use Rattle.es5_ast.specs.declared.tree.Script.{Script}
-use Rattle.es5_ast.specs.Grammar.{Marked}
+use Rattle.es5_ast.specs.Grammar.{Mode5, Marked}
 use Rattle.es5_ast.specs.Script.{Spells}
+use Rattle.es5_ast.specs.Bare.{bare_statements}
 use Rattle.es5_printer.specs.declared.mark.Mark.{Mark}
 use Rattle.es5_printer.specs.Layout.{limit}
 use Rattle.es5_printer.specs.Sites.{script_sites}
@@ -41,11 +42,12 @@ is_printable c = (nat_le 32 c && nat_le c 126) || (c == 10)
 abbrev pub EndsLine : List ℕ → Type 0
 EndsLine bytes = (front : List ℕ) × (bytes ≡ front ++ 10 ∷ [])
 
--- The bytes are spelled by the script, spans and sites aside. The calls are exactly those that carry a site, in text order,
--- and each site stands among them with the offset of its own call's first token. The marks are those of the calls.
+-- The bytes are spelled by the script, spans and sites aside, and by no other. The calls are exactly those that carry a site, in
+-- text order, and each site stands among them with the offset of its own call's first token. The marks are those of the calls.
 pub record IsPrinted (script : Script) (bytes : List ℕ) (marks : List Mark) : Type 0 where
   pub calls : List Call
   pub spelled : Spells (Marked calls) bytes script
+  pub only : (mode : Mode5) (other : Script) → Spells mode bytes other → bare_statements other.statements ≡ bare_statements script.statements
   pub sites : map (λ c. c.1) calls ≡ script_sites script
   pub marked : AreMarksOf (chars bytes) calls marks
   pub rising : IsRising 0 calls

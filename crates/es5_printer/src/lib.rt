@@ -1,4 +1,4 @@
-//! Prints a script of ECMAScript 5.1 as text, so that the text's tree is the script.
+//! Prints a script of ECMAScript 5.1 as text, so that the text's tree is the script, and no other.
 //!
 //! Each statement stands on lines of its own. Expressions have the parentheses that their places ask for, and no others.
 #![tactic(auto)]
@@ -13,8 +13,6 @@ mod operators;
 mod print;
 mod shape;
 mod sheet;
-#[cfg(test)]
-mod tests;
 
 use es5_ast::Script;
 pub use mark::Mark;
