@@ -1,0 +1,6 @@
+pub mod Quiet
+pub mod Across
+pub mod AcrossExpressions
+pub mod AcrossStatements
+pub mod AtBreaks
+pub mod OneExpression

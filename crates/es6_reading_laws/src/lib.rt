@@ -1,0 +1,33 @@
+//! Laws of the model that reads modules, beyond those of `es6_reading`. Each is the contract of a function that does nothing.
+#![tactic(auto)]
+
+ghost use Rattle.es6_reading_laws.specs.Breaks.{AreReadAtBreaks, FaultsAreDeadAtBreaks};
+ghost use Rattle.es6_reading_laws.specs.Expressions.{ExpressionsAreRead, IsOneExpression, MisfitsAreNoPatterns};
+
+/// A module is read of tokens among which semicolons are missing only at the ends of lines, before `}` and at the end, where the next
+/// token goes on with nothing, if loops have turns enough and constructs enough may open.
+pub fn what_is_spelled_at_breaks_is_read()
+    ensures { AreReadAtBreaks }
+{}
+
+/// A fault stands at a token with which no such module goes on after the tokens before it, unless it is for want of constructs that
+/// may open, or of turns.
+pub fn faults_stand_where_no_module_at_breaks_goes_on()
+    ensures { FaultsAreDeadAtBreaks }
+{}
+
+/// An expression that tokens spell, with every semicolon in it among them, is what is read of them, where nothing goes on behind it:
+/// neither a shorter nor a longer one is.
+pub fn derived_expressions_are_read()
+    ensures { ExpressionsAreRead }
+{}
+
+/// No tokens by themselves spell two expressions.
+pub fn derivations_give_one_expression()
+    ensures { IsOneExpression }
+{}
+
+/// The tokens that spell an expression with a misfit spell no pattern.
+pub fn misfits_are_no_patterns()
+    ensures { MisfitsAreNoPatterns }
+{}
