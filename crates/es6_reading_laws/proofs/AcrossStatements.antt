@@ -384,7 +384,7 @@ module _ {g : Gap} (i : Inner) (h : Crosses g i) where
   unfolding s6.block_statement
   block_statement f s = bind _ (block i h f s) λ b c. done
 
-  statement : (f : Flags) (stand : Stand) (s : Input) → AcrossOr g (s6.statement i f stand) s
+  pub statement : (f : Flags) (stand : Stand) (s : Input) → AcrossOr g (s6.statement i f stand) s
   unfolding s6.statement
   statement f stand s = begins (modules'.statement_from i f stand) (statement-stops i f stand) s
       (λ at. looks-must _ _ _ (compound-stops i f stand at) s (block_statement f s) (looks-must _ _ _ (compound-stops i f stand at) s (if_statement f _ s) (must _ _ _ (λ d at. refl) (compound-stops i f stand at) s (λ t c. done) (must _ _ _ (λ d at. refl) (compound-stops i f stand at) s (λ t c. variables_statement f _ Var c) (compound_statement f stand _ s)))))

@@ -4,3 +4,4 @@ pub mod AcrossExpressions
 pub mod AcrossStatements
 pub mod AtBreaks
 pub mod OneExpression
+pub mod Fronts

@@ -1,33 +1,26 @@
 -- What is derived as an expression is what the reader takes, and it alone.
-use Rattle.std.proofs.Common.{◌≡◌, ◌∙◌, ℕ, zero, suc, ◌+◌, ◌≤◌, arith, Bool, true, false, ◌||◌, not, List, [], ◌∷◌, Option, Some, None, refl, sym, ap}
-use Rattle.std.proofs.lemmas.Bool.{false≢true}
+use Rattle.std.proofs.Common.{◌≡◌, ◌∙◌, ℕ, ◌+◌, ◌≤◌, arith, Bool, true, false, ◌||◌, not, List, [], ◌∷◌, Option, Some, None, refl, sym, ap}
 use Rattle.es6_lexer.specs.declared.token.Punctuator.{Punctuator as Mark}
 use Rattle.es6_lexer.specs.declared.token.Punctuator.TheVariants as marks
 use Rattle.es6_lexer.specs.declared.token.TokenKind.TheVariants as kinds
 use Rattle.es6_ast.specs.declared.tree.Expression.{Expression}
 use Rattle.es6_ast.specs.declared.settings.Flags.{Flags}
-use Rattle.es6_ast.specs.declared.settings.Stop.{Stop}
-use Rattle.es6_ast.specs.Grammar.{level_sequence}
 use Rattle.es6_ast.specs.Targets.{misfit}
 use Rattle.es6_ast.specs.Tokens.{Read, Filled, IsMark}
 use Rattle.es6_reading.specs.Expressions.{sequence, ends_value, ends_yield}
 use Rattle.es6_reading.specs.Modules.{readers}
-use Rattle.es6_reading.specs.Parser.{Input, Outcome, Took, Fault, Reading}
+use Rattle.es6_reading.specs.Parser.{Input, Outcome, Took, Reading}
 use Rattle.es6_reading.specs.Refine.{Refined, Fits}
-use Rattle.es6_reading.specs.Refinements.{Places, no_misfit, first_misfit_at, too_deep as too_nested}
+use Rattle.es6_reading.specs.Refinements.{Places, no_misfit, first_misfit_at, too_deep}
 use Rattle.es6_reading.proofs.CompleteClaims.{Claim}
 use Rattle.es6_reading.proofs.CompleteLevels.{reading, sequence_level}
 use Rattle.es6_reading.proofs.CompleteTokens.{Closes, EndsYield, closes-close, closes-square, closes-brace, closes-colon, closes-semicolon}
 use Rattle.es6_reading.proofs.Completeness.{expression-read}
 use Rattle.es6_reading.proofs.Cover.{cover}
 use Rattle.es6_reading.proofs.Exactly.{Exactly, exactly, ReadsExactly}
-use Rattle.es6_reading.proofs.Follows.{plus, SameHead, nothing, same}
-use Rattle.es6_reading.proofs.LocalExpressions as x'
-use Rattle.es6_reading.proofs.LocalReaders.{gain, grown}
-use Rattle.es6_reading.proofs.Locality.{Gain, LocalOf, took_so, stops_so, too_deep as deeper_now, too_long as longer_now, not_inserted, same_mode, now_inserts}
 use Rattle.es6_reading.proofs.Reading.{Eventually}
 use Rattle.es6_reading.proofs.Refinement.{refinement}
-use Rattle.es6_reading_laws.specs.Expressions.{EndsThere, at_end, parenthesis, bracket, brace, colon, semicolon, Settles, reads, too_deep, too_long, ExpressionsAreRead, IsOneExpression, MisfitsAreNoPatterns}
+use Rattle.es6_reading_laws.specs.Fronts.{EndsThere, at_end, parenthesis, bracket, brace, colon, semicolon, IsOneExpression, MisfitsAreNoPatterns}
 
 -- ## Where nothing goes on
 
@@ -75,13 +68,13 @@ yields level (semicolon {t = t} {ts = ts} e) l = value-ends marks.Semicolon t ts
 low-zero : (n : ℕ) → 0 ≤ n
 low-zero n = omega arith
 
-abbrev SequenceRead : Flags → List Filled → List Filled → Reading → Type 0
+abbrev pub SequenceRead : Flags → List Filled → List Filled → Reading → Type 0
 SequenceRead f ts us r = Eventually (λ t k n. ReadsExactly (sequence (readers false k n) f) r ts us)
 
-read-of : {f : Flags} {least : ℕ} {ts us : List Filled} {x : Expression} → EndsThere us → (c : Claim f least ts us x) → SequenceRead f ts us (reading x c.shape)
+pub read-of : {f : Flags} {least : ℕ} {ts us : List Filled} {x : Expression} → EndsThere us → (c : Claim f least ts us x) → SequenceRead f ts us (reading x c.shape)
 read-of {f = f} {least = least} e c = c.levels 0 sequence_level (low-zero least) (closes f e) (yields least e)
 
-outcome-of : {x : Reading} {s : Input} {us : List Filled} {o : Outcome Reading} → Exactly x s us o → (end : ℕ) × (o ≡ Took x (record { tokens = us; last = end }))
+pub outcome-of : {A : Type 0} {x : A} {s : Input} {us : List Filled} {o : Outcome A} → Exactly x s us o → (end : ℕ) × (o ≡ Took x (record { tokens = us; last = end }))
 outcome-of (exactly {end = end} m) = (end, refl)
 
 took-one : {a b : Reading} {p q : Input} → Took a p ≡ Took b q → a ≡ b
@@ -110,7 +103,7 @@ one-expression f a b ts x y d e =
 fits-where-none : {A : Type 0} {m : Option ℕ} {r : Refined A} {y : A} → Places m r → r ≡ Fits y → m ≡ None
 fits-where-none (no_misfit h) e = h
 fits-where-none (first_misfit_at h) e = absurd (cc)
-fits-where-none too_nested e = absurd (cc)
+fits-where-none too_deep e = absurd (cc)
 
 self-low : (n : ℕ) → n ≤ n
 self-low n = omega arith
@@ -123,64 +116,3 @@ no-patterns x at h f least ts d p e =
     let y = cover.targets f ts [] p e in
     let n : misfit y.value ≡ None = fits-where-none (refinement.places y.enough y.value) (y.becomes y.enough (self-low y.enough)) in
     not-both (misfit x) at h (ap (λ z. misfit z) (one-expression f least _ ts x y.value d y.spelled) ∙ n)
-
--- ## Expressions that the reader with insertion takes
-
-same-refl : (ts : List Filled) → SameHead ts ts
-same-refl [] = nothing
-same-refl (t ∷ ts) = same
-
-abbrev run : Bool → ℕ → ℕ → Flags → ℕ → List Filled → Outcome Reading
-run mode fuel room f last ts = sequence (readers mode fuel room) f (record { tokens = ts; last = last })
-
-took-again : {l : Gain} {r : List Filled → Outcome Reading} {ts : List Filled} {o : Outcome Reading} {x : Reading} {c : Input} → LocalOf l r ts o → o ≡ Took x c → r ts ≡ Took x c
-took-again {r = r} (took_so {c = c} front e g) h = ap r e ∙ g c.tokens (same-refl c.tokens) ∙ h
-took-again (stops_so front e g) h = absurd (cc)
-took-again (deeper_now m) h = absurd (cc)
-took-again (longer_now m) h = absurd (cc)
-took-again (not_inserted m) h = absurd (cc)
-
-plus-zero : (n : ℕ) → plus n zero ≡ n
-plus-zero zero = refl
-plus-zero (suc n) = ap (λ m. suc m) (plus-zero n)
-
--- the reader that inserts takes it too
-inserting : (fuel room : ℕ) (f : Flags) (last : ℕ) (ts : List Filled) (x : Reading) (c : Input) → run false fuel room f last ts ≡ Took x c → run true fuel room f last ts ≡ Took x c
-inserting fuel room f last ts x c h =
-    ap (λ n. run true n room f last ts) (sym (plus-zero fuel)) ∙ ap (λ n. run true (plus fuel zero) n f last ts) (sym (plus-zero room))
-    ∙ took-again (x'.sequence (readers false fuel room) (readers true (plus fuel zero) (plus room zero)) (grown true false true fuel room zero (now_inserts refl)) f (record { tokens = ts; last = last })) h
-
-settled : {l : ℕ} {r : List Filled → Outcome Reading} {ts : List Filled} {o : Outcome Reading} {y : Reading} {d : Input} → LocalOf (gain l false) r ts o → r ts ≡ Took y d → Settles y.value d.tokens o
-settled {r = r} {y = y} {d = d} (took_so {x = x} {c = c} front e g) h = reads (ap (λ z. z.value) (value-of same_run)) (ap (λ z. z.tokens) (input-of same_run))
-  where
-    same_run : Took x c ≡ Took y d
-    same_run = sym (ap r e ∙ g c.tokens (same-refl c.tokens)) ∙ h
-
-    value-of : {a b : Reading} {p q : Input} → Took a p ≡ Took b q → a ≡ b
-    value-of k = cc
-
-    input-of : {a b : Reading} {p q : Input} → Took a p ≡ Took b q → p ≡ q
-    input-of k = cc
-settled {r = r} (stops_so {us = us} front e g) h = absurd (differ (ap r e ∙ g us (same-refl us)) h)
-  where
-    differ : {o : Outcome Reading} {stop : Stop} {vs : List Filled} {a : Reading} {p : Input} → o ≡ Fault stop vs → o ≡ Took a p → ⊥
-    differ k l = absurd (cc)
-settled (deeper_now m) h = too_deep
-settled (longer_now m) h = too_long
-settled (not_inserted m) h = absurd (false≢true m)
-
-more-left : (n l : ℕ) → l ≤ plus n l
-more-left zero l = omega arith
-more-left (suc n) l = up (plus n l) l (more-left n l)
-  where
-    up : (a b : ℕ) → b ≤ a → b ≤ suc a
-    up a b h = omega arith
-
-pub expressions-are-read : ExpressionsAreRead
-expressions-are-read fuel room f ts us last x d e =
-    let c : Claim f level_sequence ts us x = expression-read d in
-    let p : SequenceRead f ts us (reading x c.shape) = read-of e c in
-    let l : ℕ = p.bound in
-    let k = outcome-of (p.reads (plus fuel l) (plus fuel l) (plus room l) (more-left fuel l) (more-left fuel l) (more-left room l) last) in
-    settled (x'.sequence (readers true fuel room) (readers true (plus fuel l) (plus room l)) (grown false true true fuel room l same_mode) f (record { tokens = ts; last = last }))
-    (inserting (plus fuel l) (plus room l) f last ts (reading x c.shape) (record { tokens = us; last = k.0 }) k.1)

@@ -9,7 +9,6 @@ use Rattle.es6_lexer.specs.declared.token.Punctuator.{Punctuator as Mark}
 use Rattle.es6_lexer.specs.declared.token.Punctuator.TheVariants as marks
 use Rattle.es6_ast.specs.declared.settings.Flags.{Flags}
 use Rattle.es6_ast.specs.Tokens.{Filling, Read, Filled, is_word, read}
-use Rattle.es6_ast.specs.Semicolons.{ends_group}
 use Rattle.es6_ast.specs.Grammar.{ends}
 use Rattle.es6_reading.specs.Parser.{is_mark, kept_if, mark, next_mark, word, next_word, ends_block, ending}
 use Rattle.es6_reading.specs.Words.{after_at, assign_at, binary_at, is_arrow, stretch_at}
@@ -64,60 +63,37 @@ module _ (t : Filled) (q : Quiet t) where
   pub arrow-misses : is_arrow t ≡ false
   arrow-misses = not-before-arrow (t ∷ []) q.line
 
--- what is looked for only on the line of the token before it
-line-after : (newline : Bool) (k : Filling) (span : Span) → (newline || ends_block k) ≡ true → after_at (record { kind = k; span = span; newline = newline }) ≡ None
-line-after true k span h = refl
-line-after false (Read (kinds.Punctuator marks.RightBrace)) span h = refl
-line-after false (Read kinds.End) span h = refl
-line-after false k span h = absurd (cc)
+-- what holds of each token that begins a line, and of `}` and the end
+on-line : (P : Filled → Type 0) → ((k : Filling) (span : Span) → P (record { kind = k; span = span; newline = true })) → ((span : Span) → P (record { kind = Read (kinds.Punctuator marks.RightBrace); span = span; newline = false }))
+    → ((span : Span) → P (record { kind = Read kinds.End; span = span; newline = false })) → (t : Filled) → (t.newline || ends_block t.kind) ≡ true → P t
+on-line P first brace last t h = by t.newline t.kind t.span h
+  where
+    by : (newline : Bool) (k : Filling) (span : Span) → (newline || ends_block k) ≡ true → P (record { kind = k; span = span; newline = newline })
+    by true k span h = first k span
+    by false (Read (kinds.Punctuator marks.RightBrace)) span h = brace span
+    by false (Read kinds.End) span h = last span
+    by false k span h = absurd (cc)
 
 pub after-misses : (t : Filled) → Quiet t → after_at t ≡ None
-after-misses t q = line-after t.newline t.kind t.span q.line
-
-line-label : (newline : Bool) (k : Filling) (span : Span) → (newline || ends_block k) ≡ true → label_at (record { kind = k; span = span; newline = newline }) ≡ None
-line-label true k span h = refl
-line-label false (Read (kinds.Punctuator marks.RightBrace)) span h = refl
-line-label false (Read kinds.End) span h = refl
-line-label false k span h = absurd (cc)
+after-misses t q = on-line (λ u. after_at u ≡ None) (λ k span. refl) (λ span. refl) (λ span. refl) t q.line
 
 pub label-misses : (t : Filled) → Quiet t → label_at t ≡ None
-label-misses t q = line-label t.newline t.kind t.span q.line
-
-line-star : (newline : Bool) (k : Filling) (span : Span) → (newline || ends_block k) ≡ true → star_at (record { kind = k; span = span; newline = newline }) ≡ None
-line-star true k span h = refl
-line-star false (Read (kinds.Punctuator marks.RightBrace)) span h = refl
-line-star false (Read kinds.End) span h = refl
-line-star false k span h = absurd (cc)
+label-misses t q = on-line (λ u. label_at u ≡ None) (λ k span. refl) (λ span. refl) (λ span. refl) t q.line
 
 pub star-misses : (t : Filled) → Quiet t → star_at t ≡ None
-star-misses t q = line-star t.newline t.kind t.span q.line
-
-line-value : (newline : Bool) (k : Filling) (span : Span) → (newline || ends_block k) ≡ true → goes_on (record { kind = k; span = span; newline = newline }) ≡ false
-line-value true k span h = refl
-line-value false (Read (kinds.Punctuator marks.RightBrace)) span h = refl
-line-value false (Read kinds.End) span h = refl
-line-value false k span h = absurd (cc)
+star-misses t q = on-line (λ u. star_at u ≡ None) (λ k span. refl) (λ span. refl) (λ span. refl) t q.line
 
 pub value-misses : (t : Filled) → Quiet t → goes_on t ≡ false
-value-misses t q = line-value t.newline t.kind t.span q.line
-
-line-yield : (newline : Bool) (k : Filling) (span : Span) → (newline || ends_block k) ≡ true → not (ends_yield (record { kind = k; span = span; newline = newline })) ≡ false
-unfolding ends_yield
-line-yield true k span h = refl
-line-yield false (Read (kinds.Punctuator marks.RightBrace)) span h = refl
-line-yield false (Read kinds.End) span h = refl
-line-yield false k span h = absurd (cc)
+value-misses t q = on-line (λ u. goes_on u ≡ false) (λ k span. refl) (λ span. refl) (λ span. refl) t q.line
 
 pub yield-misses : (t : Filled) → Quiet t → not (ends_yield t) ≡ false
-yield-misses t q = line-yield t.newline t.kind t.span q.line
+unfolding ends_yield
+yield-misses t q = on-line (λ u. not (ends_yield u) ≡ false) (λ k span. refl) (λ span. refl) (λ span. refl) t q.line
 
 -- a token of the text at a break
 semicolon-alone : (d : Bool) (k : TokenKind) → (k ≡ kinds.Punctuator marks.Semicolon → ⊥) → ends d (Read k) ≡ false
 semicolon-alone d (kinds.Punctuator marks.Semicolon) n = absurd (n refl)
 semicolon-alone d k n = refl
-
-block-ends : (k : TokenKind) → ends_block (Read k) ≡ ends_group k
-block-ends k = refl
 
 of-read : {a b : TokenKind} → Read a ≡ Read b → a ≡ b
 of-read e = cc

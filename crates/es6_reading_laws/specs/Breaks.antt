@@ -9,7 +9,7 @@ use Rattle.es6_ast.specs.declared.operators.BinaryOperator.{BinaryOperator}
 use Rattle.es6_ast.specs.declared.module.Module.{Module}
 use Rattle.es6_ast.specs.Grammar.{assign_kind, binary_kind}
 use Rattle.es6_ast.specs.Modules.{IsModule}
-use Rattle.es6_ast.specs.Semicolons.{inserted, ends_group}
+use Rattle.es6_ast.specs.Semicolons.{SpellsModule, inserted, ends_group}
 use Rattle.es6_ast.specs.Tokens.{Filled, read}
 use Rattle.es6_ast.specs.declared.settings.Stop.{Stop}
 use Rattle.es6_reading.specs.Laws.{BeginAlike, IsFinal}
@@ -39,22 +39,26 @@ pub record IsBreak (t : Token) : Type 0 where
   pub ends : (t.newline || ends_group t.kind) ≡ true
   pub plain : GoesOn t.kind → ⊥
 
--- The tokens after those of the first list, with semicolons put in, each of them at a break.
-pub data Breaks : List Filled → List Token → List Filled → Type 0 where
-  done : {before : List Filled} → Breaks before [] []
-  keeps : {before filled : List Filled} {t : Token} {ts : List Token} → Breaks (before ++ read t ∷ []) ts filled → Breaks before (t ∷ ts) (read t ∷ filled)
-  inserts : {before filled : List Filled} {t : Token} {ts : List Token} (do_while : Bool) → IsBreak t → Breaks (before ++ inserted do_while before ∷ []) (t ∷ ts) filled → Breaks before (t ∷ ts) (inserted do_while before ∷ filled)
+-- The tokens that stand after those of the first list and before the last one, with semicolons put in, each of them at a break.
+pub data Breaks : List Filled → List Token → List Filled → List Token → Type 0 where
+  done : {before : List Filled} {rest : List Token} → Breaks before rest [] rest
+  keeps : {before filled : List Filled} {t : Token} {ts rest : List Token} → Breaks (before ++ read t ∷ []) ts filled rest → Breaks before (t ∷ ts) (read t ∷ filled) rest
+  inserts : {before filled : List Filled} {t : Token} {ts rest : List Token} (do_while : Bool) → IsBreak t → Breaks (before ++ inserted do_while before ∷ []) (t ∷ ts) filled rest → Breaks before (t ∷ ts) (inserted do_while before ∷ filled) rest
 
 -- the tokens, up to the end of the text, spell the module, if semicolons are put in at breaks
 pub record SpellsAtBreaks (tokens : List Token) (m : Module) : Type 0 where
   pub filled : List Filled
-  pub breaks : Breaks [] tokens filled
+  pub breaks : Breaks [] tokens filled []
   pub spelled : IsModule filled m
 
 -- A module that tokens spell so is read exactly so, where loops have turns enough and constructs enough may open.
 abbrev pub AreReadAtBreaks : Type 0
 AreReadAtBreaks = (tokens : List Token) (m : Module) → SpellsAtBreaks tokens m
     → (bound : ℕ) × ((fuel room : ℕ) → bound ≤ fuel → bound ≤ room → (after : Input) × (whole_module (readers true fuel room) (record { tokens = map read tokens; last = 0 }) ≡ Took m after))
+
+-- It is spelled by the standard's rule, too: no module goes on where a semicolon is put in (11.9).
+abbrev pub BreaksAreInsertions : Type 0
+BreaksAreInsertions = (tokens : List Token) (m : Module) → SpellsAtBreaks tokens m → SpellsModule tokens m
 
 -- A fault, but one for want of constructs that may open or of turns, stands at a token with which no such module goes on after the
 -- tokens before it, or at the end of tokens that spell none.

@@ -1,13 +1,18 @@
 //! Laws of the model that reads modules, beyond those of `es6_reading`. Each is the contract of a function that does nothing.
 #![tactic(auto)]
 
-ghost use Rattle.es6_reading_laws.specs.Breaks.{AreReadAtBreaks, FaultsAreDeadAtBreaks};
-ghost use Rattle.es6_reading_laws.specs.Expressions.{ExpressionsAreRead, IsOneExpression, MisfitsAreNoPatterns};
+ghost use Rattle.es6_reading_laws.specs.Breaks.{AreReadAtBreaks, BreaksAreInsertions, FaultsAreDeadAtBreaks};
+ghost use Rattle.es6_reading_laws.specs.Fronts.{ExpressionsAreRead, IsOneExpression, MisfitsAreNoPatterns, StatementsAreRead};
 
 /// A module is read of tokens among which semicolons are missing only at the ends of lines, before `}` and at the end, where the next
 /// token goes on with nothing, if loops have turns enough and constructs enough may open.
 pub fn what_is_spelled_at_breaks_is_read()
     ensures { AreReadAtBreaks }
+{}
+
+/// What is spelled so is spelled by the standard's rule, which puts a semicolon only where no module goes on.
+pub fn breaks_are_where_semicolons_are_inserted()
+    ensures { BreaksAreInsertions }
 {}
 
 /// A fault stands at a token with which no such module goes on after the tokens before it, unless it is for want of constructs that
@@ -16,10 +21,15 @@ pub fn faults_stand_where_no_module_at_breaks_goes_on()
     ensures { FaultsAreDeadAtBreaks }
 {}
 
-/// An expression that tokens spell, with every semicolon in it among them, is what is read of them, where nothing goes on behind it:
-/// neither a shorter nor a longer one is.
-pub fn derived_expressions_are_read()
+/// An expression that tokens begin with, if semicolons are put in at breaks, is what is read of them, where nothing goes on behind it:
+/// no shorter front of them is read, and no longer one.
+pub fn expressions_at_breaks_are_read()
     ensures { ExpressionsAreRead }
+{}
+
+/// The same of a statement or declaration, behind which no `finally` stands.
+pub fn statements_at_breaks_are_read()
+    ensures { StatementsAreRead }
 {}
 
 /// No tokens by themselves spell two expressions.
