@@ -16,10 +16,11 @@ use Rattle.es6_reading.proofs.LocalReaders.{full-readings, local-faults, faults-
 use Rattle.es6_reading.proofs.PlacesOfModules.{says}
 use Rattle.es6_reading.proofs.ShallowModules.{depth}
 use Rattle.es6_reading.proofs.Spelled.{spelled}
+use Rattle.es6_reading_laws.proofs.AtBreaks.{read-at-breaks}
 use Rattle.es6_cursor.specs.Readers.{turns}
 use Rattle.es6_expr.specs.declared.fault.ParseFault.{ParseFault}
 use Rattle.es6_expr.specs.Faults.{fault_of, place_of}
-use Rattle.es6_module.specs.Parsed.{Answers, IsFault, IsParsed, IsStopped, NoneIsDerived, NoneIsRead, Refuses, out_of_memory, stopped}
+use Rattle.es6_module.specs.Parsed.{Answers, IsFault, IsParsed, IsStopped, NoneIsDerived, NoneIsRead, NoneIsSpelled, Refuses, out_of_memory, stopped}
 
 -- ## Modules
 
@@ -88,6 +89,12 @@ underived front rest none others alike tree derived =
     let k = c.1 (turns + c.0) (most_open + c.0) 0 (low turns c.0) (low most_open c.0) in
     none c.0 others alike tree k.0 k.1
 
+unspelled : (front rest : List Token) → NoneIsRead front rest → NoneIsSpelled front rest
+unspelled front rest none others alike tree spelled =
+    let c = read-at-breaks what-is-derived-is-read (front ++ others) tree spelled in
+    let k = c.1 (turns + c.0) (most_open + c.0) (low turns c.0) (low most_open c.0) in
+    none c.0 others alike tree k.0 k.1
+
 stands : (tokens : List Token) (stop : Stop) (rest : List Filled) → read_module turns (map read tokens) ≡ Fault stop rest → IsStopped tokens stop (place_of (map read tokens) rest)
 stands tokens stop rest e =
     let l = local-faults true turns most_open (map read tokens) 0 stop rest (sym (module-read (map read tokens)) ∙ e) in
@@ -101,6 +108,7 @@ stands tokens stop rest e =
       stays = λ others alike. ap (read_module turns) (joined q.before others l.0 q.front_is) ∙ module-read (l.0 ++ map read others) ∙ l.2 (map read others) (subst (λ r. BeginAlike r (map read others)) q.rest_is alike);
       unread = unread tokens stop l.0 rest q l.1 e;
       underived = λ final. underived q.before q.behind (unread tokens stop l.0 rest q l.1 e final);
+      unspelled = λ final. unspelled q.before q.behind (unread tokens stop l.0 rest q l.1 e final);
     }
 
 told : (tokens : List Token) (at : ℕ) (stop : Stop) → IsStopped tokens stop at → IsFault tokens (fault_of stop at)

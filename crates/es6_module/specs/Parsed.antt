@@ -12,6 +12,7 @@ use Rattle.es6_ast.specs.Tokens.{Filled, read}
 use Rattle.es6_reading.specs.Laws.{BeginAlike, IsFinal, Says}
 use Rattle.es6_reading.specs.Modules.{most_open, read_module, readers, whole_module}
 use Rattle.es6_reading.specs.Parser.{Input, Outcome, Took, Fault}
+use Rattle.es6_reading_laws.specs.Breaks.{SpellsAtBreaks}
 use Rattle.es6_cursor.specs.Readers.{turns}
 use Rattle.es6_expr.specs.declared.fault.ParseFault.{ParseFault}
 use Rattle.es6_expr.specs.declared.fault.ParseFault.TheVariants.{OutOfMemory, Syntax, Lexical, Outside, Depth}
@@ -33,6 +34,11 @@ NoneIsRead front rest = (more : ℕ) (others : List Token) → BeginAlike (map r
 abbrev pub NoneIsDerived : List Token → List Token → Type 0
 NoneIsDerived front rest = (others : List Token) → BeginAlike (map read rest) (map read others) → (tree : Module) → IsModule (map read (front ++ others)) tree → ⊥
 
+-- No tokens that begin so spell a module, if semicolons are missing among them only at breaks: where a line ends, before `}` and at
+-- the end, before a token that goes on with nothing.
+abbrev pub NoneIsSpelled : List Token → List Token → Type 0
+NoneIsSpelled front rest = (others : List Token) → BeginAlike (map read rest) (map read others) → (tree : Module) → SpellsAtBreaks (front ++ others) tree → ⊥
+
 -- The reader stops at the first token of the rest, or at the end of the text. What it reports is what stands there, and rests on no
 -- later token: it stops there whatever follows. Where it doesn't report that too many constructs are open, these tokens begin no
 -- module.
@@ -45,6 +51,7 @@ pub record IsStopped (tokens : List Token) (stop : Stop) (at : ℕ) : Type 0 whe
   pub stays : (others : List Token) → BeginAlike (map read rest) (map read others) → read_module turns (map read (front ++ others)) ≡ Fault stop (map read others)
   pub unread : IsFinal stop → NoneIsRead front rest
   pub underived : IsFinal stop → NoneIsDerived front rest
+  pub unspelled : IsFinal stop → NoneIsSpelled front rest
 
 -- Memory that runs out says nothing.
 abbrev pub IsFault : List Token → ParseFault → Type 0
