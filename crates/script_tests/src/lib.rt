@@ -5,6 +5,8 @@
 #[cfg(test)]
 mod es5_early_tests;
 #[cfg(test)]
+mod es5_marks_tests;
+#[cfg(test)]
 mod es5_printer_tests;
 #[cfg(test)]
 mod es5_tokens_tests;
