@@ -1,0 +1,14 @@
+//! Which binding each reference of a module finds, by the module's marks (ECMA-262, 6th edition, 8.1).
+#![tactic(auto)]
+
+mod binding;
+mod names;
+mod place;
+mod position;
+mod reference;
+mod resolved;
+
+pub use binding::Binding;
+pub use place::Place;
+pub use reference::Reference;
+pub use resolved::{Resolved, resolve_marks};

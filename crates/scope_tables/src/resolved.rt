@@ -1,0 +1,99 @@
+//! The bindings of a module and what its references find.
+
+ghost use Rattle.std.specs.Prelude.{◌≡◌, ◌++◌, IfOk, OnOk};
+ghost use Rattle.scope_tables.specs.Scoping.{all_references, module_bindings, module_references, reference, reference_to, referred, start};
+
+use crate::binding::Binding;
+use crate::names::Names;
+use crate::place::Place;
+use crate::position::Position;
+use crate::reference::{Found, Reference};
+use scope_rules::Mark;
+use std::alloc::{AllocError, Global};
+
+/// The bindings of a module, in the order in which they are declared first, and its references, in text order.
+#[derive(Drop)]
+pub struct Resolved {
+    pub bindings: Vec<Binding>,
+    pub references: Vec<Reference>,
+}
+
+/// What the references of a module find, by its marks. It fails where memory runs out.
+pub fn resolve_marks(alloc: Global, marks: &[Mark]) -> Result<Resolved, AllocError>
+    ensures bindings { IfOk result (λ r. r.bindings.items ≡ module_bindings marks.now) }
+    ensures references { IfOk result (λ r. r.references.items ≡ module_references marks.now) }
+{
+    let names = names_of(alloc, marks)?;
+    let references = references_of(alloc, &names, marks)?;
+    Ok(Resolved {
+        bindings: names.into_bindings(),
+        references,
+    })
+}
+
+/// The bindings.
+fn names_of<'a>(alloc: Global, marks: &[Mark<'a>]) -> Result<Names<'a>, AllocError>
+    ensures { IfOk result (λ names. names ≡ module_bindings marks.now) }
+{
+    let mut names = Names::new(alloc);
+    let mut position = Position::new(alloc);
+    for mark in marks {
+        names.meet(position.top(), mark)?;
+        position.pass(mark)?;
+    }
+    Ok(names)
+}
+
+/// The references, in text order.
+fn references_of<'a>(
+    alloc: Global,
+    names: &Names<'a>,
+    marks: &[Mark<'a>],
+) -> Result<Vec<Reference>, AllocError>
+    ensures { IfOk result (λ list. list.items ≡ all_references names.now marks.now start) }
+{
+    let mut list = Vec::new(alloc);
+    let mut position = Position::new(alloc);
+    for mark in marks {
+        refer(&mut list, names, &position, mark)?;
+        position.pass(mark)?;
+    }
+    Ok(list)
+}
+
+/// What a mark refers to.
+fn refer<'a>(
+    list: &mut Vec<Reference>,
+    names: &Names<'a>,
+    position: &Position,
+    mark: &Mark<'a>,
+) -> Result<(), AllocError>
+    ensures { OnOk result (list.new.items ≡ list.old.items ++ referred names.now mark.now position.now.places) }
+{
+    match mark {
+        Mark::Refers { name, at } => {
+            list.push(reference(names, name.bytes(), *at, position))?;
+            Ok(())
+        }
+        _ => Ok(()),
+    }
+}
+
+/// A reference from a position.
+fn reference<'a>(names: &Names<'a>, name: &'a [u8], at: u32, position: &Position) -> Reference
+    ensures { result ≡ reference names.now name.now at position.now.places }
+{
+    match names.find(name, position.places()) {
+        None => Reference::free(at),
+        Some(found) => reference_to(names, at, position.top(), found),
+    }
+}
+
+fn reference_to(names: &Names, at: u32, from: Place, found: Found) -> Reference
+    ensures { result ≡ reference_to names.now at from found }
+{
+    match names.bindings().get(found.number) {
+        None => Reference::free(at),
+        Some(binding) => Reference::bound(at, from, found, binding),
+    }
+}
