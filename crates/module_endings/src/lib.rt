@@ -15,4 +15,5 @@ mod web;
 
 pub use answers::{Outcome, outcomes};
 pub use place::{Home, Place};
+pub use sources::Sources;
 pub use summary::{Export, Summary};

@@ -52,7 +52,7 @@ impl Home {
 
 impl Place {
     /// An equal place.
-    pub(crate) fn copy(&self, alloc: Global) -> Result<Place, AllocError>
+    pub fn copy(&self, alloc: Global) -> Result<Place, AllocError>
         ensures { IfOk result (λ place. place ≡ self.now) }
     {
         Ok(Place {

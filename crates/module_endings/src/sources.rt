@@ -12,12 +12,13 @@ use std::collections::HashMap;
 
 /// The sources of exported names, looked up by hash. Of exports with one name the first counts.
 #[derive(Drop)]
-pub(crate) struct Sources<'a> {
+pub struct Sources<'a> {
     pub(crate) index: HashMap<&'a [u8], &'a Place>,
 }
 
 impl<'a> Sources<'a> {
-    pub(crate) fn of(alloc: Global, exports: &'a [Export]) -> Result<Sources<'a>, AllocError>
+    /// The sources of these exports.
+    pub fn of(alloc: Global, exports: &'a [Export]) -> Result<Sources<'a>, AllocError>
         ensures { IfOk result (λ sources. Indexes sources exports.now) }
     {
         let mut sources = Sources {
@@ -32,7 +33,8 @@ impl<'a> Sources<'a> {
         Ok(sources)
     }
 
-    pub(crate) fn first(&self, name: &[u8]) -> Option<&'a Place>
+    /// The source of the first export of this name.
+    pub fn first(&self, name: &[u8]) -> Option<&'a Place>
         ensures { (exports : List Export) → Indexes self.now exports → option_copied result ≡ first_source exports name.now }
     {
         self.index.get(name).copied()

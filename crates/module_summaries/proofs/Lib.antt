@@ -1,0 +1,3 @@
+pub mod Looking
+pub mod Maps
+pub mod Summing
