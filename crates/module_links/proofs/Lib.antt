@@ -1,0 +1,5 @@
+pub mod Alike
+pub mod Lists
+pub mod Resolved
+pub mod Shared
+pub mod Summed
