@@ -72,6 +72,8 @@ class Parser extends acorn.Parser {
       return;
     }
     if (/^Constructor can't have get/.test(message)) this.accessor = this.seen[this.seen.findIndex((token) => token.start === pos) - 1].value;
+    // the place is the name, and acorn names what stands before that of an accessor or a generator
+    if (/^Duplicate constructor/.test(message) && /^(get|set|\*)/.test(this.input.slice(pos))) pos = this.seen[this.seen.findIndex((token) => token.start === pos) + 1].start;
     if (/rvalue$/.test(message)) { this.note([10], pos); return; }
     for (const [words, numbers] of rules) if (words.test(message)) { this.note(numbers, pos); return; }
     if (/^(Unexpected token|The only valid meta|Multiple default|'return' outside|'import' and 'export')/.test(message)) this.stop(pos);
@@ -112,10 +114,10 @@ class Parser extends acorn.Parser {
   isLet(context) { return !context && this.isContextual('let'); }
 
   parseStatement(context, topLevel, exports) {
-    // a function behind a label is in the grammar, and an early error
+    // A function behind a label is in the grammar, and an early error. Behind labels alone its name is declared (13.2.5, 13.13.6).
     if (this.type === tokTypes._function && context && /label$/.test(context)) {
       this.note([13], this.labelAt);
-      return this.parseFunctionStatement(this.startNode(), false, false);
+      return this.parseFunctionStatement(this.startNode(), false, context === 'label');
     }
     return super.parseStatement(context, topLevel, exports);
   }

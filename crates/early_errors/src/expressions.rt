@@ -1,278 +1,256 @@
-//! Expressions (12).
+//! Expressions (ECMA-262, 6th edition, 12).
 
-ghost use Rattle.std.specs.Prelude.{◌++◌, ◌+◌, suc, map, not, OnOk};
+ghost use Rattle.std.specs.Prelude.{◌≡◌, ◌++◌, map, OnOk};
 ghost use Rattle.std.specs.Option.{option_map};
-ghost use Rattle.es6_static_semantics.specs.Findings.{joined, maybe, when};
-ghost use Rattle.es6_static_semantics.specs.Early.{argument_found, assigned_by, deleted, element_found, expression_found, link_found, no_simple, operand_found, pattern_found, property_found, restricted};
-ghost use Rattle.es6_sizes.specs.Sizes.{argument_size, element_size, expression_size, link_size, maybe_size, operand_size, pattern_size, property_size, sizes};
-ghost use Rattle.early_walk.specs.Parts.{expression_left};
-ghost use Rattle.early_walk.specs.Tasks.{Splits, inside};
-ghost use Rattle.early_walk.specs.Works.{state};
+ghost use Rattle.es6_static_semantics.specs.Findings.{joined, maybe};
+ghost use Rattle.es6_static_semantics.specs.Early.{argument_found, element_found, expression_found, link_found, no_simple, operand_found, restricted, template_found, template_part_found};
+ghost use Rattle.early_errors.specs.Walked.{meets_inside};
 
-use crate::assignments;
-use early_statements::functions;
-use early_walk::{Place, Walk};
-use es_text::Span;
-use es6_ast::{
-    Argument, AssignOperator, Element, Expression, Link, Operand, Pattern, Property, UnaryOperator,
-};
+use crate::place::Place;
+use crate::walk::Walk;
+use es6_ast::{Argument, Element, Expression, Link, Operand, Template, TemplatePart};
 use sqlite_items::Boxed;
 use std::alloc::AllocError;
 
-/// The errors of an expression.
-pub(crate) fn expression<'a>(
-    walk: &mut Walk<'a>,
-    place: Place,
-    expression: &'a Expression,
-) -> Result<(), AllocError>
-    ensures { OnOk result (Splits (expression_left place expression.now) (state walk.old) (state walk.new)) }
-{
-    match expression {
-        Expression::This { .. } | Expression::Name { .. } | Expression::Literal { .. } => Ok(()),
-        Expression::Template(template) => walk.template_parts(template.rest.as_slice(), place),
-        Expression::ArrayList { elements, .. } => array(walk, place, elements.as_slice()),
-        Expression::ObjectList { properties, .. } => object(walk, place, properties.as_slice()),
-        Expression::Function(function) => {
-            walk.function(function.get(), Place::of_function(false, false))
+impl Walk {
+    /// An expression, with E16 (14.4.1, 14.2.1), E17 and E18 (12.2.6.1, 14.1.2, 14.3.1, 14.5.1, 15.2.1.1) and E19 (14.1.2,
+    /// 15.2.1.1).
+    #[cycle(early)]
+    pub(crate) fn expression(
+        &mut self,
+        expression: &Expression,
+        place: Place,
+    ) -> Result<(), AllocError>
+        ensures { OnOk result (self.new ≡ meets_inside (expression_found expression.now).pairs place self.old) }
+    {
+        match expression {
+            Expression::This { .. } | Expression::Name { .. } | Expression::Literal { .. } => Ok(
+                (),
+            ),
+            Expression::Template(template) => self.template(template, place),
+            Expression::ArrayList { elements, .. } => self.elements(elements.as_slice(), place),
+            Expression::ObjectList { properties, .. } => {
+                self.properties(properties.as_slice(), place)
+            }
+            Expression::Function(function) => {
+                self.function(function.get(), Place::of_function(false, false))
+            }
+            Expression::Arrow(arrow) => self.arrow(arrow.get(), place),
+            Expression::Class(class) => self.class(class.get(), place),
+            Expression::Chain { head, links, .. } => {
+                self.expression(head.get(), place)?;
+                self.links(links.as_slice(), place)
+            }
+            Expression::SuperMember { span, .. } => {
+                self.finder.when(!place.super_property, 18, span.begin);
+                Ok(())
+            }
+            Expression::SuperIndex { span, index } => {
+                self.finder.when(!place.super_property, 18, span.begin);
+                self.expression(index.get(), place)
+            }
+            Expression::SuperCall { span, arguments } => {
+                self.finder.when(!place.super_call, 17, span.begin);
+                self.arguments(arguments.as_slice(), place)
+            }
+            Expression::NewTarget { span } => {
+                self.finder.when(!place.new_target, 19, span.begin);
+                Ok(())
+            }
+            Expression::New {
+                callee,
+                arguments,
+                ..
+            } => {
+                self.expression(callee.get(), place)?;
+                self.arguments(arguments.as_slice(), place)
+            }
+            Expression::Update { target, .. } => self.update(target.get(), place),
+            Expression::Unary {
+                span,
+                operator,
+                operand,
+            } => {
+                self.deleted(*operator, operand.get(), *span);
+                self.expression(operand.get(), place)
+            }
+            Expression::Power { base, exponent, .. } => {
+                self.expression(base.get(), place)?;
+                self.expression(exponent.get(), place)
+            }
+            Expression::Binary { first, rest, .. } => {
+                self.expression(first.get(), place)?;
+                self.operands(rest.as_slice(), place)
+            }
+            Expression::Conditional { test, yes, no, .. } => {
+                self.expression(test.get(), place)?;
+                self.expression(yes.get(), place)?;
+                self.expression(no.get(), place)
+            }
+            Expression::Assign {
+                operator,
+                target,
+                value,
+                ..
+            } => {
+                self.assigned_by(*operator, target, place)?;
+                self.expression(value.get(), place)
+            }
+            Expression::Sequence { first, rest, .. } => {
+                self.expression(first.get(), place)?;
+                self.expressions(rest.as_slice(), place)
+            }
+            Expression::Yield { span, value } => {
+                self.finder.when(place.in_parameters, 16, span.begin);
+                self.optional_boxed(value, place)
+            }
+            Expression::Delegate { span, value } => {
+                self.finder.when(place.in_parameters, 16, span.begin);
+                self.expression(value.get(), place)
+            }
+            Expression::Group { held, .. } => self.expression(held.get(), place),
+            Expression::Cover { held, .. } => self.optional_boxed(held, place),
         }
-        Expression::Arrow(arrow) => functions::arrow(walk, place, arrow.get()),
-        Expression::Class(class) => functions::class(walk, place, class.get()),
-        Expression::Chain { head, links, .. } => chain(walk, place, head.get(), links.as_slice()),
-        Expression::SuperMember { span, .. } => super_member(walk, place, *span),
-        Expression::SuperIndex { span, index } => super_index(walk, place, *span, index.get()),
-        Expression::SuperCall { span, arguments } => {
-            super_call(walk, place, *span, arguments.as_slice())
-        }
-        Expression::NewTarget { span } => new_target(walk, place, *span),
-        Expression::New {
-            callee,
-            arguments,
-            ..
-        } => new(walk, place, callee.get(), arguments.as_slice()),
-        Expression::Update { target, .. } => update(walk, place, target.get()),
-        Expression::Unary {
-            span,
-            operator,
-            operand,
-        } => unary(walk, place, *span, *operator, operand.get()),
-        Expression::Power { base, exponent, .. } => {
-            power(walk, place, base.get(), exponent.get())
-        }
-        Expression::Binary { first, rest, .. } => {
-            binary(walk, place, first.get(), rest.as_slice())
-        }
-        Expression::Conditional { test, yes, no, .. } => {
-            conditional(walk, place, test.get(), yes.get(), no.get())
-        }
-        Expression::Assign {
-            operator,
-            target,
-            value,
-            ..
-        } => assign(walk, place, *operator, target, value.get()),
-        Expression::Sequence { first, rest, .. } => {
-            sequence(walk, place, first.get(), rest.as_slice())
-        }
-        Expression::Yield { span, value } => yield_value(walk, place, *span, value),
-        Expression::Delegate { span, value } => delegate(walk, place, *span, value.get()),
-        Expression::Group { held, .. } => walk.expression(held.get(), place),
-        Expression::Cover { held, .. } => walk.optional_boxed(held, place),
     }
-}
 
-fn array<'a>(walk: &mut Walk<'a>, place: Place, elements: &'a [Element]) -> Result<(), AllocError>
-    ensures { OnOk result (Splits (inside (λ r. joined (λ e. e.pairs r) (map element_found elements.now)) place (suc (sizes (map element_size elements.now)))) (state walk.old) (state walk.new)) }
-{
-    walk.elements(elements, place)
-}
+    /// A target that is no pattern and is updated, with E8 and E10 (12.4.1).
+    #[cycle(early)]
+    pub(crate) fn update(&mut self, target: &Expression, place: Place) -> Result<(), AllocError>
+        ensures { OnOk result (self.new ≡ meets_inside (λ r. no_simple (expression_found target.now).target ++ restricted (expression_found target.now).target ++ (expression_found target.now).pairs r) place self.old) }
+    {
+        self.updated(target);
+        self.expression(target, place)
+    }
 
-fn object<'a>(
-    walk: &mut Walk<'a>,
-    place: Place,
-    properties: &'a [Property],
-) -> Result<(), AllocError>
-    ensures { OnOk result (Splits (inside (λ r. joined (λ p. p.pairs r) (map property_found properties.now)) place (suc (sizes (map property_size properties.now)))) (state walk.old) (state walk.new)) }
-{
-    walk.properties(properties, place)
-}
+    #[cycle(early)]
+    pub(crate) fn optional(
+        &mut self,
+        expression: &Option<Expression>,
+        place: Place,
+    ) -> Result<(), AllocError>
+        ensures { OnOk result (self.new ≡ meets_inside (λ r. maybe (λ y. y.pairs r) (option_map expression_found expression.now)) place self.old) }
+    {
+        match expression {
+            None => Ok(()),
+            Some(expression) => self.expression(expression, place),
+        }
+    }
 
-fn chain<'a>(
-    walk: &mut Walk<'a>,
-    place: Place,
-    head: &'a Expression,
-    links: &'a [Link],
-) -> Result<(), AllocError>
-    ensures { OnOk result (Splits (inside (λ r. (expression_found head.now).pairs r ++ joined (λ l. l.pairs r) (map link_found links.now)) place (suc (expression_size head.now + sizes (map link_size links.now)))) (state walk.old) (state walk.new)) }
-{
-    walk.links(links, place)?;
-    walk.expression(head, place)
-}
+    #[cycle(early)]
+    pub(crate) fn optional_boxed(
+        &mut self,
+        expression: &Option<Boxed<Expression>>,
+        place: Place,
+    ) -> Result<(), AllocError>
+        ensures { OnOk result (self.new ≡ meets_inside (λ r. maybe (λ y. y.pairs r) (option_map expression_found expression.now)) place self.old) }
+    {
+        match expression {
+            None => Ok(()),
+            Some(expression) => self.expression(expression.get(), place),
+        }
+    }
 
-/// E18 (14.1.2, 14.3.1, 14.5.1, 15.2.1.1)
-fn super_member(walk: &mut Walk, place: Place, span: Span) -> Result<(), AllocError>
-    ensures { OnOk result (Splits (inside (λ r. when (not r.super_property) 18 span.begin) place 1) (state walk.old) (state walk.new)) }
-{
-    walk.when(!place.super_property, 18, span.begin);
-    Ok(())
-}
+    #[cycle(early)]
+    fn expressions(&mut self, expressions: &[Expression], place: Place) -> Result<(), AllocError>
+        ensures { OnOk result (self.new ≡ meets_inside (λ r. joined (λ x. x.pairs r) (map expression_found expressions.now)) place self.old) }
+    {
+        for expression in expressions {
+            self.expression(expression, place)?;
+        }
+        Ok(())
+    }
 
-/// E18
-fn super_index<'a>(
-    walk: &mut Walk<'a>,
-    place: Place,
-    span: Span,
-    index: &'a Expression,
-) -> Result<(), AllocError>
-    ensures { OnOk result (Splits (inside (λ r. when (not r.super_property) 18 span.begin ++ (expression_found index.now).pairs r) place (suc (expression_size index.now))) (state walk.old) (state walk.new)) }
-{
-    walk.when(!place.super_property, 18, span.begin);
-    walk.expression(index, place)
-}
+    #[cycle(early)]
+    fn elements(&mut self, elements: &[Element], place: Place) -> Result<(), AllocError>
+        ensures { OnOk result (self.new ≡ meets_inside (λ r. joined (λ x. x.pairs r) (map element_found elements.now)) place self.old) }
+    {
+        for element in elements {
+            self.element(element, place)?;
+        }
+        Ok(())
+    }
 
-/// E17 (14.1.2, 14.3.1, 14.5.1, 15.2.1.1)
-fn super_call<'a>(
-    walk: &mut Walk<'a>,
-    place: Place,
-    span: Span,
-    arguments: &'a [Argument],
-) -> Result<(), AllocError>
-    ensures { OnOk result (Splits (inside (λ r. when (not r.super_call) 17 span.begin ++ joined (λ a. a.pairs r) (map argument_found arguments.now)) place (suc (sizes (map argument_size arguments.now)))) (state walk.old) (state walk.new)) }
-{
-    walk.when(!place.super_call, 17, span.begin);
-    walk.arguments(arguments, place)
-}
+    #[cycle(early)]
+    fn element(&mut self, element: &Element, place: Place) -> Result<(), AllocError>
+        ensures { OnOk result (self.new ≡ meets_inside (element_found element.now).pairs place self.old) }
+    {
+        match element {
+            Element::Hole => Ok(()),
+            Element::Present(argument) => self.argument(argument, place),
+        }
+    }
 
-/// E19 (14.1.2, 15.2.1.1)
-fn new_target(walk: &mut Walk, place: Place, span: Span) -> Result<(), AllocError>
-    ensures { OnOk result (Splits (inside (λ r. when (not r.new_target) 19 span.begin) place 1) (state walk.old) (state walk.new)) }
-{
-    walk.when(!place.new_target, 19, span.begin);
-    Ok(())
-}
+    #[cycle(early)]
+    fn arguments(&mut self, arguments: &[Argument], place: Place) -> Result<(), AllocError>
+        ensures { OnOk result (self.new ≡ meets_inside (λ r. joined (λ x. x.pairs r) (map argument_found arguments.now)) place self.old) }
+    {
+        for argument in arguments {
+            self.argument(argument, place)?;
+        }
+        Ok(())
+    }
 
-fn new<'a>(
-    walk: &mut Walk<'a>,
-    place: Place,
-    callee: &'a Expression,
-    arguments: &'a [Argument],
-) -> Result<(), AllocError>
-    ensures { OnOk result (Splits (inside (λ r. (expression_found callee.now).pairs r ++ joined (λ a. a.pairs r) (map argument_found arguments.now)) place (suc (expression_size callee.now + sizes (map argument_size arguments.now)))) (state walk.old) (state walk.new)) }
-{
-    walk.arguments(arguments, place)?;
-    walk.expression(callee, place)
-}
+    #[cycle(early)]
+    fn argument(&mut self, argument: &Argument, place: Place) -> Result<(), AllocError>
+        ensures { OnOk result (self.new ≡ meets_inside (argument_found argument.now).pairs place self.old) }
+    {
+        match argument {
+            Argument::Single(value) | Argument::Spread { value, .. } => {
+                self.expression(value, place)
+            }
+        }
+    }
 
-/// E8 and E10 (12.4.1), and the errors in a target.
-pub(crate) fn update<'a>(
-    walk: &mut Walk<'a>,
-    place: Place,
-    target: &'a Expression,
-) -> Result<(), AllocError>
-    ensures { OnOk result (Splits (inside (λ r. (no_simple (expression_found target.now).target ++ restricted (expression_found target.now).target) ++ (expression_found target.now).pairs r) place (suc (expression_size target.now))) (state walk.old) (state walk.new)) }
-{
-    walk.updated(target);
-    walk.expression(target, place)
-}
+    /// Accesses and calls (12.3).
+    #[cycle(early)]
+    fn links(&mut self, links: &[Link], place: Place) -> Result<(), AllocError>
+        ensures { OnOk result (self.new ≡ meets_inside (λ r. joined (λ x. x.pairs r) (map link_found links.now)) place self.old) }
+    {
+        for link in links {
+            self.link(link, place)?;
+        }
+        Ok(())
+    }
 
-/// E9 (12.5.4.1)
-fn unary<'a>(
-    walk: &mut Walk<'a>,
-    place: Place,
-    span: Span,
-    operator: UnaryOperator,
-    operand: &'a Expression,
-) -> Result<(), AllocError>
-    ensures { OnOk result (Splits (inside (λ r. deleted operator (expression_found operand.now).target span ++ (expression_found operand.now).pairs r) place (suc (expression_size operand.now))) (state walk.old) (state walk.new)) }
-{
-    walk.deleted(operator, operand, span);
-    walk.expression(operand, place)
-}
+    #[cycle(early)]
+    fn link(&mut self, link: &Link, place: Place) -> Result<(), AllocError>
+        ensures { OnOk result (self.new ≡ meets_inside (link_found link.now).pairs place self.old) }
+    {
+        match link {
+            Link::Member { .. } => Ok(()),
+            Link::Index { index, .. } => self.expression(index, place),
+            Link::Call { arguments, .. } => self.arguments(arguments.as_slice(), place),
+            Link::Tagged(template) => self.template(template, place),
+        }
+    }
 
-fn power<'a>(
-    walk: &mut Walk<'a>,
-    place: Place,
-    base: &'a Expression,
-    exponent: &'a Expression,
-) -> Result<(), AllocError>
-    ensures { OnOk result (Splits (inside (λ r. (expression_found base.now).pairs r ++ (expression_found exponent.now).pairs r) place (suc (expression_size base.now + expression_size exponent.now))) (state walk.old) (state walk.new)) }
-{
-    walk.expression(exponent, place)?;
-    walk.expression(base, place)
-}
+    #[cycle(early)]
+    #[tactic(auto, using(crate::proofs::Walking::walking, crate::proofs::Layers::operand_out))]
+    fn operands(&mut self, operands: &[Operand], place: Place) -> Result<(), AllocError>
+        ensures { OnOk result (self.new ≡ meets_inside (λ r. joined (λ x. x r) (map operand_found operands.now)) place self.old) }
+    {
+        for operand in operands {
+            self.expression(&operand.value, place)?;
+        }
+        Ok(())
+    }
 
-fn binary<'a>(
-    walk: &mut Walk<'a>,
-    place: Place,
-    first: &'a Expression,
-    rest: &'a [Operand],
-) -> Result<(), AllocError>
-    ensures { OnOk result (Splits (inside (λ r. (expression_found first.now).pairs r ++ joined (λ o. o r) (map operand_found rest.now)) place (suc (expression_size first.now + sizes (map operand_size rest.now)))) (state walk.old) (state walk.new)) }
-{
-    walk.operands(rest, place)?;
-    walk.expression(first, place)
-}
+    #[cycle(early)]
+    #[tactic(auto, using(crate::proofs::Walking::walking, crate::proofs::Layers::template_out))]
+    fn template(&mut self, template: &Template, place: Place) -> Result<(), AllocError>
+        ensures { OnOk result (self.new ≡ meets_inside (template_found template.now).pairs place self.old) }
+    {
+        self.template_parts(template.rest.as_slice(), place)
+    }
 
-fn conditional<'a>(
-    walk: &mut Walk<'a>,
-    place: Place,
-    test: &'a Expression,
-    yes: &'a Expression,
-    no: &'a Expression,
-) -> Result<(), AllocError>
-    ensures { OnOk result (Splits (inside (λ r. ((expression_found test.now).pairs r ++ (expression_found yes.now).pairs r) ++ (expression_found no.now).pairs r) place (suc (expression_size test.now + expression_size yes.now + expression_size no.now))) (state walk.old) (state walk.new)) }
-{
-    walk.expression(no, place)?;
-    walk.expression(yes, place)?;
-    walk.expression(test, place)
-}
-
-fn assign<'a>(
-    walk: &mut Walk<'a>,
-    place: Place,
-    operator: AssignOperator,
-    target: &'a Pattern,
-    value: &'a Expression,
-) -> Result<(), AllocError>
-    ensures { OnOk result (Splits (inside (λ r. assigned_by operator (pattern_found target.now) r ++ (expression_found value.now).pairs r) place (suc (pattern_size target.now + expression_size value.now))) (state walk.old) (state walk.new)) }
-{
-    walk.expression(value, place)?;
-    assignments::assigned_by(walk, place, operator, target)
-}
-
-fn sequence<'a>(
-    walk: &mut Walk<'a>,
-    place: Place,
-    first: &'a Expression,
-    rest: &'a [Expression],
-) -> Result<(), AllocError>
-    ensures { OnOk result (Splits (inside (λ r. (expression_found first.now).pairs r ++ joined (λ x. x.pairs r) (map expression_found rest.now)) place (suc (expression_size first.now + sizes (map expression_size rest.now)))) (state walk.old) (state walk.new)) }
-{
-    walk.expressions(rest, place)?;
-    walk.expression(first, place)
-}
-
-/// E16 (14.4.1, 14.2.1)
-fn yield_value<'a>(
-    walk: &mut Walk<'a>,
-    place: Place,
-    span: Span,
-    value: &'a Option<Boxed<Expression>>,
-) -> Result<(), AllocError>
-    ensures { OnOk result (Splits (inside (λ r. when r.in_parameters 16 span.begin ++ maybe (λ x. x.pairs r) (option_map expression_found value.now)) place (suc (maybe_size (option_map expression_size value.now)))) (state walk.old) (state walk.new)) }
-{
-    walk.when(place.in_parameters, 16, span.begin);
-    walk.optional_boxed(value, place)
-}
-
-/// E16
-fn delegate<'a>(
-    walk: &mut Walk<'a>,
-    place: Place,
-    span: Span,
-    value: &'a Expression,
-) -> Result<(), AllocError>
-    ensures { OnOk result (Splits (inside (λ r. when r.in_parameters 16 span.begin ++ (expression_found value.now).pairs r) place (suc (expression_size value.now))) (state walk.old) (state walk.new)) }
-{
-    walk.when(place.in_parameters, 16, span.begin);
-    walk.expression(value, place)
+    #[cycle(early)]
+    #[tactic(auto, using(crate::proofs::Walking::walking, crate::proofs::Layers::template_part_out))]
+    fn template_parts(&mut self, parts: &[TemplatePart], place: Place) -> Result<(), AllocError>
+        ensures { OnOk result (self.new ≡ meets_inside (λ r. joined (λ x. x r) (map template_part_found parts.now)) place self.old) }
+    {
+        for part in parts {
+            self.expression(&part.value, place)?;
+        }
+        Ok(())
+    }
 }

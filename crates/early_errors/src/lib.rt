@@ -1,13 +1,16 @@
-//! The early errors of modules (ECMA-262, 6th edition, 12 to 15), by a walk that keeps what is left of the module on a stack.
-//! What is outside the profile is found by `outside_constructs`.
-#![tactic(auto)]
+//! The early errors of a module (table E of docs/PROFILE.md), of which the first is found, by a walk that is as deep as the
+//! module's constructs stand in one another. Places are offsets in bytes from 0.
+#![tactic(auto, using(crate::proofs::Walking::walking))]
 
-mod assignments;
+mod errors;
 mod expressions;
-mod lists;
-mod module;
-mod steps;
+mod functions;
+mod items;
+mod labels;
+mod objects;
+mod place;
+mod statements;
+mod targets;
+mod walk;
 
-pub use early_findings::Finding;
-pub use module::first_early;
-pub use outside_constructs::first_outside;
+pub use errors::first_early;

@@ -2,7 +2,7 @@
 
 ghost use Rattle.std.specs.Prelude.{◌≡◌, ◌++◌, map, OnOk};
 ghost use Rattle.es6_static_semantics.specs.Findings.{joined};
-ghost use Rattle.es6_static_semantics.specs.Early.{block_lexical, lexical_names, parameter_names, part_found, some_name, statement_found, var_names};
+ghost use Rattle.es6_static_semantics.specs.Early.{block_lexical, lexical_names, parameter_names, part_found, some_name, statement_found};
 
 use crate::names::PlacedName;
 use crate::patterns::{add_optional_name, add_part_names};
@@ -23,20 +23,6 @@ pub fn add_lexical_names<'a>(
     }
 }
 
-/// Adds the names of variables that are var names.
-pub fn add_var_names<'a>(
-    names: &mut Vec<PlacedName<'a>>,
-    kind: VariableKind,
-    parts: &'a [Part],
-) -> Result<(), AllocError>
-    ensures { OnOk result (names.new.items ≡ names.old.items ++ var_names kind (parameter_names (map part_found parts.now))) }
-{
-    match kind {
-        VariableKind::Var => add_part_names(names, parts),
-        VariableKind::Let | VariableKind::Const => Ok(()),
-    }
-}
-
 /// Adds the lexical names that a statement declares, without that of a function.
 fn add_lexical<'a>(
     names: &mut Vec<PlacedName<'a>>,
@@ -53,7 +39,7 @@ fn add_lexical<'a>(
     }
 }
 
-/// The name of the function that a statement declares.
+/// The name of the function that a statement declares, behind labels too (13.2.5, 13.13.6).
 pub fn function_name<'a>(statement: &'a Statement) -> Option<PlacedName<'a>>
     ensures { some_name result ≡ (statement_found statement.now).functions }
 {
@@ -62,6 +48,7 @@ pub fn function_name<'a>(statement: &'a Statement) -> Option<PlacedName<'a>>
             None => None,
             Some(name) => Some(PlacedName::of(name)),
         },
+        Statement::Labelled { body, .. } => function_name(body.get()),
         _ => None,
     }
 }
@@ -116,6 +103,16 @@ pub fn is_loop(statement: &Statement) -> bool
         | Statement::For { .. }
         | Statement::ForOf { .. } => true,
         Statement::Labelled { body, .. } => is_loop(body.get()),
+        _ => false,
+    }
+}
+
+/// Whether a statement is a function by itself (13.13.1).
+pub fn is_function(statement: &Statement) -> bool
+    ensures { result ≡ (statement_found statement.now).is_function }
+{
+    match statement {
+        Statement::FunctionDeclaration(_) => true,
         _ => false,
     }
 }

@@ -14,8 +14,8 @@ mod targets;
 mod twice;
 
 pub use declared::{
-    add_block_lexical, add_body_lexical, add_lexical_names, add_statement_lexical, add_var_names,
-    function_name, is_loop,
+    add_block_lexical, add_body_lexical, add_lexical_names, add_statement_lexical, function_name,
+    is_function, is_loop,
 };
 pub use directives::{Directive, strict_directive};
 pub use keys::{is_constructor_key, is_prototype_key, key_begin};
@@ -26,4 +26,4 @@ pub use patterns::{
 };
 pub use places::Places;
 pub use targets::{begin_of, is_simple, name_of};
-pub use twice::{bound, clashes, names_bound, repeated, restricted, scope, shared, undeclared};
+pub use twice::{bound, clashes, names_bound, repeated, restricted, shared};

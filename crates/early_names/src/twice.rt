@@ -2,7 +2,7 @@
 
 ghost use Rattle.std.specs.Prelude.{◌≡◌, List, [], OnOk, true, max};
 ghost use Rattle.es6_static_semantics.specs.Findings.{clashes, first_place, joined, maybe, repeated, shared, when};
-ghost use Rattle.es6_static_semantics.specs.Early.{bound, is_restricted, restricted, scope_pairs, undeclared};
+ghost use Rattle.es6_static_semantics.specs.Early.{bound, is_restricted, restricted};
 ghost use Rattle.es6_ast.specs.declared.tree.Identifier.{Identifier};
 ghost use Rattle.early_names.specs.Indexes.{Indexes};
 ghost use Rattle.es6_ast.specs.Targets.{AsTarget};
@@ -69,33 +69,6 @@ fn clash(finder: &mut Finder, rule: u8, name: &PlacedName, places: &Places)
     if let Some(at) = places.first(name.bytes()) {
         finder.when(true, rule, name.begin().max(at));
     }
-}
-
-/// E1 and E2, of the lexical and the var names of a scope (13.2.1, 13.12.1, 14.1.2, 14.2.1, 15.2.1.1).
-pub fn scope(
-    finder: &mut Finder,
-    lexical: &[PlacedName],
-    vars: &[PlacedName],
-) -> Result<(), AllocError>
-    ensures { OnOk result (finder.new ≡ least_with finder.old (scope_pairs lexical.now vars.now)) }
-{
-    repeated(finder, 1, lexical)?;
-    clashes(finder, 2, lexical, vars)
-}
-
-/// E24, at each exported name that isn't declared (15.2.1.1).
-pub fn undeclared(
-    finder: &mut Finder,
-    declared: &[PlacedName],
-    names: &[PlacedName],
-) -> Result<(), AllocError>
-    ensures { OnOk result (finder.new ≡ least_with finder.old (undeclared declared.now names.now)) }
-{
-    let places = Places::of(finder.alloc(), declared)?;
-    for name in names {
-        finder.when(!places.contains(name.bytes()), 24, name.begin());
-    }
-    Ok(())
 }
 
 /// E7, at a name that is bound (12.1.1, 13.3.1.1, 14.1.2, 14.2.1).

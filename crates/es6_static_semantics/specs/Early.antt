@@ -146,25 +146,27 @@ pub record PlacedFound : Type 0 where
   pub begin : ℕ
   pub pairs : Inside
 
--- a pattern or a part of one: the names that it binds and the pairs where it binds, where it is assigned and where it is
--- updated; its first misfit; whether it is a name by itself, and whether it has a default
+-- a pattern or a part of one: the names that it binds; the pairs by whether it binds them or something is assigned, and where
+-- it is updated; its first misfit; whether it is a name by itself, and whether it has a default
 pub record TargetsFound : Type 0 where
   pub names : List Identifier
-  pub bound : Inside
-  pub assigned : Inside
+  pub pairs : Bool → Inside
   pub updated : Inside
   pub misfit : Option ℕ
   pub is_name : Bool
   pub has_default : Bool
 
--- a statement: whether it is a loop, labelled or not, the lexical names that it declares, the function that it declares, the
--- var names in it, and the pairs
+-- a statement: whether it is a loop, labelled or not, or a function; the lexical names that it declares, the function that it
+-- declares, labelled or not, and the var names in it; the pairs of the scopes in it, on which nothing round it bears, and its
+-- other pairs
 pub record StatementFound : Type 0 where
   pub is_loop : Bool
+  pub is_function : Bool
   pub lexical : List Identifier
   pub functions : List Identifier
   pub vars : List Identifier
   pub directive : Directive
+  pub scopes : List Pair
   pub pairs : Outer
 
 -- the head of a loop
@@ -175,6 +177,7 @@ pub record HeadFound : Type 0 where
 
 pub record PartFound : Type 0 where
   pub vars : List Identifier
+  pub scopes : List Pair
   pub pairs : Outer
 
 pub record CaseFound : Type 0 where
@@ -236,7 +239,7 @@ deleted _ x span = []
 abbrev pub scope_pairs : List Identifier → List Identifier → List Pair
 scope_pairs lexical vars = repeated 1 [] lexical ++ clashes 2 lexical vars
 
--- statements as a block's: a function is a lexical name
+-- statements as a block's: a function is a lexical name, behind labels too (13.2.5, 13.13.6)
 abbrev pub block_lexical : List StatementFound → List Identifier
 block_lexical ss = joined (λ s. s.lexical ++ s.functions) ss
 
@@ -246,8 +249,11 @@ block_vars ss = joined (λ s. s.vars) ss
 abbrev pub statements_pairs : List StatementFound → Outer
 statements_pairs ss r = joined (λ s. s.pairs r) ss
 
-abbrev pub block_pairs : List StatementFound → Outer
-block_pairs ss r = statements_pairs ss r ++ scope_pairs (block_lexical ss) (block_vars ss)
+abbrev pub statements_scopes : List StatementFound → List Pair
+statements_scopes ss = joined (λ s. s.scopes) ss
+
+abbrev pub block_scopes : List StatementFound → List Pair
+block_scopes ss = statements_scopes ss ++ scope_pairs (block_lexical ss) (block_vars ss)
 
 -- the first directive of strict code at the statements' start
 abbrev pub strict_directive : List StatementFound → Option ℕ
@@ -269,16 +275,22 @@ are_plain (p ∷ ps) = is_plain p && are_plain ps
 abbrev pub parameter_names : List TargetsFound → List Identifier
 parameter_names ps = joined (λ p. p.names) ps
 
+abbrev pub parts_pairs : Bool → List TargetsFound → Inside
+parts_pairs binds ps r = joined (λ p. p.pairs binds r) ps
+
 -- parameters with E4 (14.1.2, 14.2.1)
 abbrev pub parameters_pairs : List TargetsFound → Inside
-parameters_pairs ps r = joined (λ p. p.bound r) ps ++ repeated 4 [] (parameter_names ps)
+parameters_pairs ps r = parts_pairs true ps r ++ repeated 4 [] (parameter_names ps)
 
--- A function's body with its parameters: a function that it declares is a var name. E3 (14.1.2, 14.2.1), and E25 (the 7th
--- edition, 14.1.2, 14.2.1, 14.3.1).
-abbrev pub body_pairs : List TargetsFound → List StatementFound → Inside
-body_pairs ps ss r =
+-- The scopes of a function's body with its parameters: a function that it declares, behind labels too, is a var name (14.1,
+-- TopLevelVarDeclaredNames). E3 (14.1.2, 14.2.1), and E25 (the 7th edition, 14.1.2, 14.2.1, 14.3.1).
+abbrev pub body_scopes : List TargetsFound → List StatementFound → List Pair
+body_scopes ps ss =
     let lexical = joined (λ s. s.lexical) ss in
-    statements_pairs ss (in_body r) ++ scope_pairs lexical (joined (λ s. s.functions ++ s.vars) ss) ++ shared 3 (parameter_names ps) lexical ++ maybe (λ at. when (not (are_plain ps)) 25 at) (strict_directive ss)
+    statements_scopes ss ++ scope_pairs lexical (joined (λ s. s.functions ++ s.vars) ss) ++ shared 3 (parameter_names ps) lexical ++ maybe (λ at. when (not (are_plain ps)) 25 at) (strict_directive ss)
+
+abbrev pub body_pairs : List TargetsFound → List StatementFound → Inside
+body_pairs ps ss r = statements_pairs ss (in_body r) ++ body_scopes ps ss
 
 -- E14 and E15 (13.8.1, 13.9.1)
 abbrev pub jump_pairs : Option Identifier → (List ℕ → Bool) → Bool → Span → List Pair
@@ -292,7 +304,7 @@ const_pairs Let p = []
 const_pairs Const p = cond (is_plain p) (joined (λ n. when true 12 n.span.begin) p.names) []
 
 abbrev pub variables_pairs : VariableKind → List TargetsFound → Inside
-variables_pairs kind ps r = joined (λ p. const_pairs kind p ++ p.bound r) ps
+variables_pairs kind ps r = joined (λ p. const_pairs kind p ++ p.pairs true r) ps
 
 abbrev pub lexical_names : VariableKind → List Identifier → List Identifier
 lexical_names Var names = []
@@ -320,21 +332,19 @@ abbrev pub is_plain_method : MethodKind → Bool
 is_plain_method PlainMethod = true
 is_plain_method _ = false
 
+-- a method, an accessor or a generator of the class's prototype that is named `constructor`
 abbrev pub is_constructor : MemberFound → Bool
-is_constructor c = not c.is_static && is_plain_method c.method.kind && is_named (codes "constructor") c.method.key
+is_constructor c = not c.is_static && is_named (codes "constructor") c.method.key
 
 abbrev pub member_pairs : Bool → MemberFound → Inside
 member_pairs derived c r =
-    when (not c.is_static && not (is_plain_method c.method.kind) && is_named (codes "constructor") c.method.key) 21 c.method.key.at
+    when (is_constructor c && not (is_plain_method c.method.kind)) 21 c.method.key.at
     ++ when (c.is_static && is_named (codes "prototype") c.method.key) 22 c.method.key.at
-    ++ c.method.pairs (derived && is_constructor c) r
+    ++ c.method.pairs (derived && is_constructor c && is_plain_method c.method.kind) r
 
 abbrev pub members_pairs : Bool → Bool → List MemberFound → Inside
 members_pairs derived seen [] r = []
 members_pairs derived seen (c ∷ cs) r = when (seen && is_constructor c) 20 c.method.key.at ++ member_pairs derived c r ++ members_pairs derived (seen || is_constructor c) cs r
-
-abbrev pub no_names : Inside → Inside → Inside → Option ℕ → TargetsFound
-no_names bound assigned updated misfit = record { names = []; bound = bound; assigned = assigned; updated = updated; misfit = misfit; is_name = false; has_default = false }
 
 abbrev pub nothing : Inside
 nothing r = []
@@ -344,20 +354,20 @@ abbrev pub by_rights : Inside → Outer
 by_rights pairs r = pairs r.rights
 
 abbrev pub plain : Outer → StatementFound
-plain pairs = record { is_loop = false; lexical = []; functions = []; vars = []; directive = NoDirective; pairs = pairs }
+plain pairs = record { is_loop = false; is_function = false; lexical = []; functions = []; vars = []; directive = NoDirective; scopes = []; pairs = pairs }
 
-abbrev pub with_vars : List Identifier → Outer → StatementFound
-with_vars vars pairs = record (plain pairs) { vars = vars }
+abbrev pub with_vars : List Identifier → List Pair → Outer → StatementFound
+with_vars vars scopes pairs = record (plain pairs) { vars = vars; scopes = scopes }
 
-abbrev pub loop_with : List Identifier → Outer → StatementFound
-loop_with vars pairs = record (with_vars vars pairs) { is_loop = true }
+abbrev pub loop_with : List Identifier → List Pair → Outer → StatementFound
+loop_with vars scopes pairs = record (with_vars vars scopes pairs) { is_loop = true }
 
 abbrev pub some_name : Option Identifier → List Identifier
 some_name None = []
 some_name (Some x) = x ∷ []
 
 abbrev pub assigned_by : AssignOperator → TargetsFound → Inside
-assigned_by assign.Assign t = t.assigned
+assigned_by assign.Assign t = t.pairs false
 assigned_by _ t = t.updated
 
 abbrev pub is_strict_text : List ℕ → Span → Bool
@@ -375,7 +385,7 @@ argument_step (layer.Single x) = record { element = OneElement x.target.part_mis
 argument_step (layer.Spread span x) = record { element = LastElement span.begin x.target.target_misfit; pairs = x.pairs }
 
 abbrev pub array_part_step : Layer ArrayPart-F → TargetsFound
-array_part_step layer.SkippedPart = no_names nothing nothing nothing None
+array_part_step layer.SkippedPart = record { names = []; pairs = λ binds. nothing; updated = nothing; misfit = None; is_name = false; has_default = false }
 array_part_step (layer.SinglePart x) = x
 array_part_step (layer.RestPart span x) = record x { is_name = false }
 
@@ -430,8 +440,8 @@ for_first_step (layer.FirstVariables span kind parts) = record { lexical = lexic
 for_first_step (layer.FirstExpression x) = record { lexical = []; vars = []; pairs = x.pairs }
 
 abbrev pub for_target_step : Layer ForTarget-F → HeadFound
-for_target_step (layer.Declared span kind x) = record { lexical = lexical_names kind x.names; vars = var_names kind x.names; pairs = x.bound }
-for_target_step (layer.Assigned x) = record { lexical = []; vars = []; pairs = x.assigned }
+for_target_step (layer.Declared span kind x) = record { lexical = lexical_names kind x.names; vars = var_names kind x.names; pairs = x.pairs true }
+for_target_step (layer.Assigned x) = record { lexical = []; vars = []; pairs = x.pairs false }
 
 abbrev pub key_step : Layer Key-F → KeyFound
 key_step (layer.WordKey span name) = record { name = Some name; at = span.begin; pairs = nothing }
@@ -447,7 +457,7 @@ link_step (layer.Tagged x) = record { access = false; pairs = x.pairs }
 
 abbrev pub object_part_step : Layer ObjectPart-F → TargetsFound
 object_part_step (layer.NamedPart x) = x
-object_part_step (layer.KeyedPart span key x) = record x { bound = λ r. key.pairs r ++ x.bound r; assigned = λ r. key.pairs r ++ x.assigned r }
+object_part_step (layer.KeyedPart span key x) = record x { pairs = λ binds r. key.pairs r ++ x.pairs binds r }
 
 abbrev pub parameter_step : Layer Parameter-F → TargetsFound
 parameter_step (layer.SingleParameter x) = x
@@ -455,13 +465,13 @@ parameter_step (layer.RestParameter span x) = record x { is_name = false }
 
 -- what a list of parts gives for each of its uses
 abbrev pub all_parts : Span → List TargetsFound → TargetsFound
-all_parts span parts = record { names = parameter_names parts; bound = λ r. joined (λ p. p.bound r) parts; assigned = λ r. joined (λ p. p.assigned r) parts; updated = λ r. when true 10 span.begin ++ joined (λ p. p.assigned r) parts; misfit = None; is_name = false; has_default = false }
+all_parts span parts = record { names = parameter_names parts; pairs = λ binds. parts_pairs binds parts; updated = λ r. when true 10 span.begin ++ parts_pairs false parts r; misfit = None; is_name = false; has_default = false }
 
 abbrev pub target_name : AsTarget → List Identifier
 target_name x = some_name x.name
 
 abbrev pub pattern_step : Layer Pattern-F → TargetsFound
-pattern_step (layer.Target x) = record { names = target_name x.target; bound = λ r. joined bound (target_name x.target); assigned = λ r. misfits x.target.target_misfit ++ restricted x.target ++ x.pairs r; updated = λ r. no_simple x.target ++ restricted x.target ++ x.pairs r; misfit = x.target.target_misfit; is_name = is_some x.target.name; has_default = false }
+pattern_step (layer.Target x) = record { names = target_name x.target; pairs = λ binds r. cond binds (joined bound (target_name x.target)) (misfits x.target.target_misfit ++ restricted x.target ++ x.pairs r); updated = λ r. no_simple x.target ++ restricted x.target ++ x.pairs r; misfit = x.target.target_misfit; is_name = is_some x.target.name; has_default = false }
 pattern_step (layer.ArrayPattern span parts) = all_parts span parts
 pattern_step (layer.ObjectPattern span parts) = all_parts span parts
 
@@ -474,24 +484,35 @@ property_step (layer.Defined m) = record { misfit = Some m.begin; pairs = m.pair
 
 -- E13 (13.13.1) among them
 abbrev pub statement_step : Layer Statement-F → StatementFound
-statement_step (layer.Block ss) = with_vars (block_vars ss) (block_pairs ss)
-statement_step (layer.Variables span kind parts) = record { is_loop = false; lexical = lexical_names kind (parameter_names parts); functions = []; vars = var_names kind (parameter_names parts); directive = NoDirective; pairs = by_rights (variables_pairs kind parts) }
+statement_step (layer.Block ss) = with_vars (block_vars ss) (block_scopes ss) (statements_pairs ss)
+statement_step (layer.Variables span kind parts) = record (plain (by_rights (variables_pairs kind parts))) { lexical = lexical_names kind (parameter_names parts); vars = var_names kind (parameter_names parts) }
 statement_step (layer.Empty span) = plain (by_rights nothing)
 statement_step (layer.Expression span x) = record (plain (by_rights x.pairs)) { directive = x.directive }
-statement_step (layer.If span first more otherwise) = with_vars (first.vars ++ joined (λ c. c.vars) more ++ maybe (λ s. s.vars) otherwise) (λ r. first.pairs r ++ joined (λ c. c.pairs r) more ++ maybe (λ s. s.pairs r) otherwise)
-statement_step (layer.DoWhile span body test) = loop_with body.vars (λ r. body.pairs (under_loop r) ++ test.pairs r.rights)
-statement_step (layer.While span test body) = loop_with body.vars (λ r. test.pairs r.rights ++ body.pairs (under_loop r))
-statement_step (layer.For span first test update body) = loop_with (first.vars ++ body.vars) (λ r. first.pairs r.rights ++ maybe (λ x. x.pairs r.rights) test ++ maybe (λ x. x.pairs r.rights) update ++ body.pairs (under_loop r) ++ head_pairs first.lexical body.vars)
-statement_step (layer.ForOf span target subject body) = loop_with (target.vars ++ body.vars) (λ r. target.pairs r.rights ++ subject.pairs r.rights ++ body.pairs (under_loop r) ++ head_pairs target.lexical body.vars)
+statement_step (layer.If span first more otherwise) =
+    with_vars (first.vars ++ joined (λ c. c.vars) more ++ maybe (λ s. s.vars) otherwise) (first.scopes ++ joined (λ c. c.scopes) more ++ maybe (λ s. s.scopes) otherwise)
+    (λ r. first.pairs r ++ joined (λ c. c.pairs r) more ++ maybe (λ s. s.pairs r) otherwise)
+statement_step (layer.DoWhile span body test) = loop_with body.vars body.scopes (λ r. body.pairs (under_loop r) ++ test.pairs r.rights)
+statement_step (layer.While span test body) = loop_with body.vars body.scopes (λ r. test.pairs r.rights ++ body.pairs (under_loop r))
+statement_step (layer.For span first test update body) =
+    loop_with (first.vars ++ body.vars) (body.scopes ++ head_pairs first.lexical body.vars)
+    (λ r. first.pairs r.rights ++ maybe (λ x. x.pairs r.rights) test ++ maybe (λ x. x.pairs r.rights) update ++ body.pairs (under_loop r))
+statement_step (layer.ForOf span target subject body) =
+    loop_with (target.vars ++ body.vars) (body.scopes ++ head_pairs target.lexical body.vars) (λ r. target.pairs r.rights ++ subject.pairs r.rights ++ body.pairs (under_loop r))
 statement_step (layer.Continue span label) = plain (λ r. jump_pairs label (λ name. has_loop_label name r.labels) r.in_loop span)
 statement_step (layer.Break span label) = plain (λ r. jump_pairs label (λ name. has_label name r.labels) (r.in_loop || r.in_switch) span)
 statement_step (layer.Return span value) = plain (λ r. maybe (λ x. x.pairs r.rights) value)
-statement_step (layer.Switch span subject cases) = let ss = joined (λ c. c.body) cases in with_vars (block_vars ss) (λ r. subject.pairs r.rights ++ joined (λ c. c.test r.rights ++ statements_pairs c.body (under_switch r)) cases ++ scope_pairs (block_lexical ss) (block_vars ss))
-statement_step (layer.Labelled span label body) = record (with_vars body.vars (λ r. when (has_label label.name r.labels) 13 label.span.begin ++ joined (λ x. when true 13 label.span.begin) body.functions ++ body.pairs (under_label label.name body.is_loop r))) { is_loop = body.is_loop }
+statement_step (layer.Switch span subject cases) =
+    let ss = joined (λ c. c.body) cases in
+    with_vars (block_vars ss) (block_scopes ss) (λ r. subject.pairs r.rights ++ joined (λ c. c.test r.rights ++ statements_pairs c.body (under_switch r)) cases)
+statement_step (layer.Labelled span label body) =
+    record (with_vars body.vars body.scopes (λ r. when (has_label label.name r.labels || body.is_function) 13 label.span.begin ++ body.pairs (under_label label.name body.is_loop r)))
+    { is_loop = body.is_loop; functions = body.functions }
 statement_step (layer.Throw span x) = plain (by_rights x.pairs)
-statement_step (layer.Try span block handler last) = with_vars (block_vars block ++ maybe (λ h. h.vars) handler ++ maybe block_vars last) (λ r. block_pairs block r ++ maybe (λ h. h.pairs r) handler ++ maybe (λ b. block_pairs b r) last)
+statement_step (layer.Try span block handler last) =
+    with_vars (block_vars block ++ maybe (λ h. h.vars) handler ++ maybe block_vars last) (block_scopes block ++ maybe (λ h. h.scopes) handler ++ maybe block_scopes last)
+    (λ r. statements_pairs block r ++ maybe (λ h. h.pairs r) handler ++ maybe (λ b. statements_pairs b r) last)
 statement_step (layer.Debugger span) = plain (by_rights nothing)
-statement_step (layer.FunctionDeclaration f) = record (plain (λ r. f.pairs (rights_of_function false false))) { functions = some_name f.name }
+statement_step (layer.FunctionDeclaration f) = record (plain (λ r. f.pairs (rights_of_function false false))) { is_function = true; functions = some_name f.name }
 statement_step (layer.ClassDeclaration c) = record (plain (by_rights c.pairs)) { lexical = c.names }
 
 abbrev pub arrow_step : Layer Arrow-F → PlacedFound
@@ -504,8 +525,11 @@ abbrev pub case_step : Layer Case-F → CaseFound
 case_step x = record { body = x.body; test = λ r. maybe (λ y. y.pairs r) x.test }
 
 -- E5 (13.15.1): a name of the parameter stands twice in it, or is a lexical or var name of the block
+abbrev pub catch_scopes : TargetsFound → List StatementFound → List Pair
+catch_scopes parameter ss = block_scopes ss ++ repeated 5 [] parameter.names ++ shared 5 parameter.names (block_lexical ss ++ block_vars ss)
+
 abbrev pub catch_step : Layer Catch-F → PartFound
-catch_step x = record { vars = block_vars x.body; pairs = λ r. x.parameter.bound r.rights ++ block_pairs x.body r ++ repeated 5 [] x.parameter.names ++ shared 5 x.parameter.names (block_lexical x.body ++ block_vars x.body) }
+catch_step x = record { vars = block_vars x.body; scopes = catch_scopes x.parameter x.body; pairs = λ r. x.parameter.pairs true r.rights ++ statements_pairs x.body r }
 
 abbrev pub class_step : Layer Class-F → ClassFound
 class_step x = record { begin = x.span.begin; names = some_name x.name; pairs = λ r. joined bound (some_name x.name) ++ maybe (λ h. h.pairs r) x.heritage ++ members_pairs (is_some x.heritage) false x.members r }
@@ -514,7 +538,7 @@ abbrev pub class_member_step : Layer ClassMember-F → MemberFound
 class_member_step x = record { is_static = x.is_static; method = x.method }
 
 abbrev pub condition_step : Layer Condition-F → PartFound
-condition_step x = record { vars = x.body.vars; pairs = λ r. x.test.pairs r.rights ++ x.body.pairs r }
+condition_step x = record { vars = x.body.vars; scopes = x.body.scopes; pairs = λ r. x.test.pairs r.rights ++ x.body.pairs r }
 
 abbrev pub function_step : Layer Function-F → FunctionFound
 function_step x = record { begin = x.span.begin; name = x.name; pairs = λ r. joined bound (some_name x.name) ++ parameters_pairs x.parameters (with_parameters x.is_generator r) ++ body_pairs x.parameters x.body r }
@@ -526,7 +550,7 @@ abbrev pub operand_step : Layer Operand-F → Inside
 operand_step x = x.value.pairs
 
 abbrev pub part_step : Layer Part-F → TargetsFound
-part_step x = record { names = x.pattern.names; bound = λ r. x.pattern.bound r ++ maybe (λ y. y.pairs r) x.default; assigned = λ r. x.pattern.assigned r ++ maybe (λ y. y.pairs r) x.default; updated = x.pattern.updated; misfit = x.pattern.misfit; is_name = x.pattern.is_name; has_default = is_some x.default }
+part_step x = record { names = x.pattern.names; pairs = λ binds r. x.pattern.pairs binds r ++ maybe (λ y. y.pairs r) x.default; updated = x.pattern.updated; misfit = x.pattern.misfit; is_name = x.pattern.is_name; has_default = is_some x.default }
 
 abbrev pub template_step : Layer Template-F → PlacedFound
 template_step x = record { begin = x.span.begin; pairs = λ r. joined (λ p. p r) x.rest }
@@ -534,141 +558,90 @@ template_step x = record { begin = x.span.begin; pairs = λ r. joined (λ p. p r
 abbrev pub template_part_step : Layer TemplatePart-F → Inside
 template_part_step x = x.value.pairs
 
--- what each kind of node gives
+-- what each kind of node gives, by the steps above
+abbrev pub by_steps : {Node Result : Type 0} → ((Layer Argument-F → ArgumentFound) → (Layer ArrayPart-F → TargetsFound) → (Layer ArrowBody-F → BodyFound) → (Layer Element-F → ArgumentFound) → (Layer Expression-F → Found) → (Layer ForFirst-F → HeadFound) → (Layer ForTarget-F → HeadFound) → (Layer Key-F → KeyFound) → (Layer Link-F → LinkFound) → (Layer ObjectPart-F → TargetsFound) → (Layer Parameter-F → TargetsFound) → (Layer Pattern-F → TargetsFound) → (Layer Property-F → PropertyFound) → (Layer Statement-F → StatementFound) → (Layer Arrow-F → PlacedFound) → (Layer Block-F → List StatementFound) → (Layer Case-F → CaseFound) → (Layer Catch-F → PartFound) → (Layer Class-F → ClassFound) → (Layer ClassMember-F → MemberFound) → (Layer Condition-F → PartFound) → (Layer Function-F → FunctionFound) → (Layer Method-F → MethodFound) → (Layer Operand-F → Inside) → (Layer Part-F → TargetsFound) → (Layer Template-F → PlacedFound) → (Layer TemplatePart-F → Inside) → Node → Result) → Node → Result
+by_steps fold_ = fold_ argument_step array_part_step arrow_body_step element_step expression_step for_first_step for_target_step key_step link_step object_part_step parameter_step pattern_step property_step statement_step arrow_step block_step case_step catch_step class_step class_member_step condition_step function_step method_step operand_step part_step template_step template_part_step
+
 abbrev pub argument_found : Argument → ArgumentFound
-argument_found =
-    fold-Argument ArgumentFound TargetsFound BodyFound ArgumentFound Found HeadFound HeadFound KeyFound LinkFound TargetsFound TargetsFound TargetsFound PropertyFound StatementFound PlacedFound (List StatementFound) CaseFound PartFound ClassFound MemberFound PartFound FunctionFound MethodFound Inside TargetsFound PlacedFound Inside
-    argument_step array_part_step arrow_body_step element_step expression_step for_first_step for_target_step key_step link_step object_part_step parameter_step pattern_step property_step statement_step arrow_step block_step case_step catch_step class_step class_member_step condition_step function_step method_step operand_step part_step template_step template_part_step
+argument_found = by_steps (fold-Argument ArgumentFound TargetsFound BodyFound ArgumentFound Found HeadFound HeadFound KeyFound LinkFound TargetsFound TargetsFound TargetsFound PropertyFound StatementFound PlacedFound (List StatementFound) CaseFound PartFound ClassFound MemberFound PartFound FunctionFound MethodFound Inside TargetsFound PlacedFound Inside)
 
 abbrev pub array_part_found : ArrayPart → TargetsFound
-array_part_found =
-    fold-ArrayPart ArgumentFound TargetsFound BodyFound ArgumentFound Found HeadFound HeadFound KeyFound LinkFound TargetsFound TargetsFound TargetsFound PropertyFound StatementFound PlacedFound (List StatementFound) CaseFound PartFound ClassFound MemberFound PartFound FunctionFound MethodFound Inside TargetsFound PlacedFound Inside
-    argument_step array_part_step arrow_body_step element_step expression_step for_first_step for_target_step key_step link_step object_part_step parameter_step pattern_step property_step statement_step arrow_step block_step case_step catch_step class_step class_member_step condition_step function_step method_step operand_step part_step template_step template_part_step
+array_part_found = by_steps (fold-ArrayPart ArgumentFound TargetsFound BodyFound ArgumentFound Found HeadFound HeadFound KeyFound LinkFound TargetsFound TargetsFound TargetsFound PropertyFound StatementFound PlacedFound (List StatementFound) CaseFound PartFound ClassFound MemberFound PartFound FunctionFound MethodFound Inside TargetsFound PlacedFound Inside)
 
 abbrev pub arrow_body_found : ArrowBody → BodyFound
-arrow_body_found =
-    fold-ArrowBody ArgumentFound TargetsFound BodyFound ArgumentFound Found HeadFound HeadFound KeyFound LinkFound TargetsFound TargetsFound TargetsFound PropertyFound StatementFound PlacedFound (List StatementFound) CaseFound PartFound ClassFound MemberFound PartFound FunctionFound MethodFound Inside TargetsFound PlacedFound Inside
-    argument_step array_part_step arrow_body_step element_step expression_step for_first_step for_target_step key_step link_step object_part_step parameter_step pattern_step property_step statement_step arrow_step block_step case_step catch_step class_step class_member_step condition_step function_step method_step operand_step part_step template_step template_part_step
+arrow_body_found = by_steps (fold-ArrowBody ArgumentFound TargetsFound BodyFound ArgumentFound Found HeadFound HeadFound KeyFound LinkFound TargetsFound TargetsFound TargetsFound PropertyFound StatementFound PlacedFound (List StatementFound) CaseFound PartFound ClassFound MemberFound PartFound FunctionFound MethodFound Inside TargetsFound PlacedFound Inside)
 
 abbrev pub element_found : Element → ArgumentFound
-element_found =
-    fold-Element ArgumentFound TargetsFound BodyFound ArgumentFound Found HeadFound HeadFound KeyFound LinkFound TargetsFound TargetsFound TargetsFound PropertyFound StatementFound PlacedFound (List StatementFound) CaseFound PartFound ClassFound MemberFound PartFound FunctionFound MethodFound Inside TargetsFound PlacedFound Inside
-    argument_step array_part_step arrow_body_step element_step expression_step for_first_step for_target_step key_step link_step object_part_step parameter_step pattern_step property_step statement_step arrow_step block_step case_step catch_step class_step class_member_step condition_step function_step method_step operand_step part_step template_step template_part_step
+element_found = by_steps (fold-Element ArgumentFound TargetsFound BodyFound ArgumentFound Found HeadFound HeadFound KeyFound LinkFound TargetsFound TargetsFound TargetsFound PropertyFound StatementFound PlacedFound (List StatementFound) CaseFound PartFound ClassFound MemberFound PartFound FunctionFound MethodFound Inside TargetsFound PlacedFound Inside)
 
 abbrev pub expression_found : Expression → Found
-expression_found =
-    fold-Expression ArgumentFound TargetsFound BodyFound ArgumentFound Found HeadFound HeadFound KeyFound LinkFound TargetsFound TargetsFound TargetsFound PropertyFound StatementFound PlacedFound (List StatementFound) CaseFound PartFound ClassFound MemberFound PartFound FunctionFound MethodFound Inside TargetsFound PlacedFound Inside
-    argument_step array_part_step arrow_body_step element_step expression_step for_first_step for_target_step key_step link_step object_part_step parameter_step pattern_step property_step statement_step arrow_step block_step case_step catch_step class_step class_member_step condition_step function_step method_step operand_step part_step template_step template_part_step
+expression_found = by_steps (fold-Expression ArgumentFound TargetsFound BodyFound ArgumentFound Found HeadFound HeadFound KeyFound LinkFound TargetsFound TargetsFound TargetsFound PropertyFound StatementFound PlacedFound (List StatementFound) CaseFound PartFound ClassFound MemberFound PartFound FunctionFound MethodFound Inside TargetsFound PlacedFound Inside)
 
 abbrev pub for_first_found : ForFirst → HeadFound
-for_first_found =
-    fold-ForFirst ArgumentFound TargetsFound BodyFound ArgumentFound Found HeadFound HeadFound KeyFound LinkFound TargetsFound TargetsFound TargetsFound PropertyFound StatementFound PlacedFound (List StatementFound) CaseFound PartFound ClassFound MemberFound PartFound FunctionFound MethodFound Inside TargetsFound PlacedFound Inside
-    argument_step array_part_step arrow_body_step element_step expression_step for_first_step for_target_step key_step link_step object_part_step parameter_step pattern_step property_step statement_step arrow_step block_step case_step catch_step class_step class_member_step condition_step function_step method_step operand_step part_step template_step template_part_step
+for_first_found = by_steps (fold-ForFirst ArgumentFound TargetsFound BodyFound ArgumentFound Found HeadFound HeadFound KeyFound LinkFound TargetsFound TargetsFound TargetsFound PropertyFound StatementFound PlacedFound (List StatementFound) CaseFound PartFound ClassFound MemberFound PartFound FunctionFound MethodFound Inside TargetsFound PlacedFound Inside)
 
 abbrev pub for_target_found : ForTarget → HeadFound
-for_target_found =
-    fold-ForTarget ArgumentFound TargetsFound BodyFound ArgumentFound Found HeadFound HeadFound KeyFound LinkFound TargetsFound TargetsFound TargetsFound PropertyFound StatementFound PlacedFound (List StatementFound) CaseFound PartFound ClassFound MemberFound PartFound FunctionFound MethodFound Inside TargetsFound PlacedFound Inside
-    argument_step array_part_step arrow_body_step element_step expression_step for_first_step for_target_step key_step link_step object_part_step parameter_step pattern_step property_step statement_step arrow_step block_step case_step catch_step class_step class_member_step condition_step function_step method_step operand_step part_step template_step template_part_step
+for_target_found = by_steps (fold-ForTarget ArgumentFound TargetsFound BodyFound ArgumentFound Found HeadFound HeadFound KeyFound LinkFound TargetsFound TargetsFound TargetsFound PropertyFound StatementFound PlacedFound (List StatementFound) CaseFound PartFound ClassFound MemberFound PartFound FunctionFound MethodFound Inside TargetsFound PlacedFound Inside)
 
 abbrev pub key_found : Key → KeyFound
-key_found =
-    fold-Key ArgumentFound TargetsFound BodyFound ArgumentFound Found HeadFound HeadFound KeyFound LinkFound TargetsFound TargetsFound TargetsFound PropertyFound StatementFound PlacedFound (List StatementFound) CaseFound PartFound ClassFound MemberFound PartFound FunctionFound MethodFound Inside TargetsFound PlacedFound Inside
-    argument_step array_part_step arrow_body_step element_step expression_step for_first_step for_target_step key_step link_step object_part_step parameter_step pattern_step property_step statement_step arrow_step block_step case_step catch_step class_step class_member_step condition_step function_step method_step operand_step part_step template_step template_part_step
+key_found = by_steps (fold-Key ArgumentFound TargetsFound BodyFound ArgumentFound Found HeadFound HeadFound KeyFound LinkFound TargetsFound TargetsFound TargetsFound PropertyFound StatementFound PlacedFound (List StatementFound) CaseFound PartFound ClassFound MemberFound PartFound FunctionFound MethodFound Inside TargetsFound PlacedFound Inside)
 
 abbrev pub link_found : Link → LinkFound
-link_found =
-    fold-Link ArgumentFound TargetsFound BodyFound ArgumentFound Found HeadFound HeadFound KeyFound LinkFound TargetsFound TargetsFound TargetsFound PropertyFound StatementFound PlacedFound (List StatementFound) CaseFound PartFound ClassFound MemberFound PartFound FunctionFound MethodFound Inside TargetsFound PlacedFound Inside
-    argument_step array_part_step arrow_body_step element_step expression_step for_first_step for_target_step key_step link_step object_part_step parameter_step pattern_step property_step statement_step arrow_step block_step case_step catch_step class_step class_member_step condition_step function_step method_step operand_step part_step template_step template_part_step
+link_found = by_steps (fold-Link ArgumentFound TargetsFound BodyFound ArgumentFound Found HeadFound HeadFound KeyFound LinkFound TargetsFound TargetsFound TargetsFound PropertyFound StatementFound PlacedFound (List StatementFound) CaseFound PartFound ClassFound MemberFound PartFound FunctionFound MethodFound Inside TargetsFound PlacedFound Inside)
 
 abbrev pub object_part_found : ObjectPart → TargetsFound
-object_part_found =
-    fold-ObjectPart ArgumentFound TargetsFound BodyFound ArgumentFound Found HeadFound HeadFound KeyFound LinkFound TargetsFound TargetsFound TargetsFound PropertyFound StatementFound PlacedFound (List StatementFound) CaseFound PartFound ClassFound MemberFound PartFound FunctionFound MethodFound Inside TargetsFound PlacedFound Inside
-    argument_step array_part_step arrow_body_step element_step expression_step for_first_step for_target_step key_step link_step object_part_step parameter_step pattern_step property_step statement_step arrow_step block_step case_step catch_step class_step class_member_step condition_step function_step method_step operand_step part_step template_step template_part_step
+object_part_found = by_steps (fold-ObjectPart ArgumentFound TargetsFound BodyFound ArgumentFound Found HeadFound HeadFound KeyFound LinkFound TargetsFound TargetsFound TargetsFound PropertyFound StatementFound PlacedFound (List StatementFound) CaseFound PartFound ClassFound MemberFound PartFound FunctionFound MethodFound Inside TargetsFound PlacedFound Inside)
 
 abbrev pub parameter_found : Parameter → TargetsFound
-parameter_found =
-    fold-Parameter ArgumentFound TargetsFound BodyFound ArgumentFound Found HeadFound HeadFound KeyFound LinkFound TargetsFound TargetsFound TargetsFound PropertyFound StatementFound PlacedFound (List StatementFound) CaseFound PartFound ClassFound MemberFound PartFound FunctionFound MethodFound Inside TargetsFound PlacedFound Inside
-    argument_step array_part_step arrow_body_step element_step expression_step for_first_step for_target_step key_step link_step object_part_step parameter_step pattern_step property_step statement_step arrow_step block_step case_step catch_step class_step class_member_step condition_step function_step method_step operand_step part_step template_step template_part_step
+parameter_found = by_steps (fold-Parameter ArgumentFound TargetsFound BodyFound ArgumentFound Found HeadFound HeadFound KeyFound LinkFound TargetsFound TargetsFound TargetsFound PropertyFound StatementFound PlacedFound (List StatementFound) CaseFound PartFound ClassFound MemberFound PartFound FunctionFound MethodFound Inside TargetsFound PlacedFound Inside)
 
 abbrev pub pattern_found : Pattern → TargetsFound
-pattern_found =
-    fold-Pattern ArgumentFound TargetsFound BodyFound ArgumentFound Found HeadFound HeadFound KeyFound LinkFound TargetsFound TargetsFound TargetsFound PropertyFound StatementFound PlacedFound (List StatementFound) CaseFound PartFound ClassFound MemberFound PartFound FunctionFound MethodFound Inside TargetsFound PlacedFound Inside
-    argument_step array_part_step arrow_body_step element_step expression_step for_first_step for_target_step key_step link_step object_part_step parameter_step pattern_step property_step statement_step arrow_step block_step case_step catch_step class_step class_member_step condition_step function_step method_step operand_step part_step template_step template_part_step
+pattern_found = by_steps (fold-Pattern ArgumentFound TargetsFound BodyFound ArgumentFound Found HeadFound HeadFound KeyFound LinkFound TargetsFound TargetsFound TargetsFound PropertyFound StatementFound PlacedFound (List StatementFound) CaseFound PartFound ClassFound MemberFound PartFound FunctionFound MethodFound Inside TargetsFound PlacedFound Inside)
 
 abbrev pub property_found : Property → PropertyFound
-property_found =
-    fold-Property ArgumentFound TargetsFound BodyFound ArgumentFound Found HeadFound HeadFound KeyFound LinkFound TargetsFound TargetsFound TargetsFound PropertyFound StatementFound PlacedFound (List StatementFound) CaseFound PartFound ClassFound MemberFound PartFound FunctionFound MethodFound Inside TargetsFound PlacedFound Inside
-    argument_step array_part_step arrow_body_step element_step expression_step for_first_step for_target_step key_step link_step object_part_step parameter_step pattern_step property_step statement_step arrow_step block_step case_step catch_step class_step class_member_step condition_step function_step method_step operand_step part_step template_step template_part_step
+property_found = by_steps (fold-Property ArgumentFound TargetsFound BodyFound ArgumentFound Found HeadFound HeadFound KeyFound LinkFound TargetsFound TargetsFound TargetsFound PropertyFound StatementFound PlacedFound (List StatementFound) CaseFound PartFound ClassFound MemberFound PartFound FunctionFound MethodFound Inside TargetsFound PlacedFound Inside)
 
 abbrev pub statement_found : Statement → StatementFound
-statement_found =
-    fold-Statement ArgumentFound TargetsFound BodyFound ArgumentFound Found HeadFound HeadFound KeyFound LinkFound TargetsFound TargetsFound TargetsFound PropertyFound StatementFound PlacedFound (List StatementFound) CaseFound PartFound ClassFound MemberFound PartFound FunctionFound MethodFound Inside TargetsFound PlacedFound Inside
-    argument_step array_part_step arrow_body_step element_step expression_step for_first_step for_target_step key_step link_step object_part_step parameter_step pattern_step property_step statement_step arrow_step block_step case_step catch_step class_step class_member_step condition_step function_step method_step operand_step part_step template_step template_part_step
+statement_found = by_steps (fold-Statement ArgumentFound TargetsFound BodyFound ArgumentFound Found HeadFound HeadFound KeyFound LinkFound TargetsFound TargetsFound TargetsFound PropertyFound StatementFound PlacedFound (List StatementFound) CaseFound PartFound ClassFound MemberFound PartFound FunctionFound MethodFound Inside TargetsFound PlacedFound Inside)
 
 abbrev pub arrow_found : Arrow → PlacedFound
-arrow_found =
-    fold-Arrow ArgumentFound TargetsFound BodyFound ArgumentFound Found HeadFound HeadFound KeyFound LinkFound TargetsFound TargetsFound TargetsFound PropertyFound StatementFound PlacedFound (List StatementFound) CaseFound PartFound ClassFound MemberFound PartFound FunctionFound MethodFound Inside TargetsFound PlacedFound Inside
-    argument_step array_part_step arrow_body_step element_step expression_step for_first_step for_target_step key_step link_step object_part_step parameter_step pattern_step property_step statement_step arrow_step block_step case_step catch_step class_step class_member_step condition_step function_step method_step operand_step part_step template_step template_part_step
+arrow_found = by_steps (fold-Arrow ArgumentFound TargetsFound BodyFound ArgumentFound Found HeadFound HeadFound KeyFound LinkFound TargetsFound TargetsFound TargetsFound PropertyFound StatementFound PlacedFound (List StatementFound) CaseFound PartFound ClassFound MemberFound PartFound FunctionFound MethodFound Inside TargetsFound PlacedFound Inside)
 
 abbrev pub block_found : Block → List StatementFound
-block_found =
-    fold-Block ArgumentFound TargetsFound BodyFound ArgumentFound Found HeadFound HeadFound KeyFound LinkFound TargetsFound TargetsFound TargetsFound PropertyFound StatementFound PlacedFound (List StatementFound) CaseFound PartFound ClassFound MemberFound PartFound FunctionFound MethodFound Inside TargetsFound PlacedFound Inside
-    argument_step array_part_step arrow_body_step element_step expression_step for_first_step for_target_step key_step link_step object_part_step parameter_step pattern_step property_step statement_step arrow_step block_step case_step catch_step class_step class_member_step condition_step function_step method_step operand_step part_step template_step template_part_step
+block_found = by_steps (fold-Block ArgumentFound TargetsFound BodyFound ArgumentFound Found HeadFound HeadFound KeyFound LinkFound TargetsFound TargetsFound TargetsFound PropertyFound StatementFound PlacedFound (List StatementFound) CaseFound PartFound ClassFound MemberFound PartFound FunctionFound MethodFound Inside TargetsFound PlacedFound Inside)
 
 abbrev pub case_found : Case → CaseFound
-case_found =
-    fold-Case ArgumentFound TargetsFound BodyFound ArgumentFound Found HeadFound HeadFound KeyFound LinkFound TargetsFound TargetsFound TargetsFound PropertyFound StatementFound PlacedFound (List StatementFound) CaseFound PartFound ClassFound MemberFound PartFound FunctionFound MethodFound Inside TargetsFound PlacedFound Inside
-    argument_step array_part_step arrow_body_step element_step expression_step for_first_step for_target_step key_step link_step object_part_step parameter_step pattern_step property_step statement_step arrow_step block_step case_step catch_step class_step class_member_step condition_step function_step method_step operand_step part_step template_step template_part_step
+case_found = by_steps (fold-Case ArgumentFound TargetsFound BodyFound ArgumentFound Found HeadFound HeadFound KeyFound LinkFound TargetsFound TargetsFound TargetsFound PropertyFound StatementFound PlacedFound (List StatementFound) CaseFound PartFound ClassFound MemberFound PartFound FunctionFound MethodFound Inside TargetsFound PlacedFound Inside)
 
 abbrev pub catch_found : Catch → PartFound
-catch_found =
-    fold-Catch ArgumentFound TargetsFound BodyFound ArgumentFound Found HeadFound HeadFound KeyFound LinkFound TargetsFound TargetsFound TargetsFound PropertyFound StatementFound PlacedFound (List StatementFound) CaseFound PartFound ClassFound MemberFound PartFound FunctionFound MethodFound Inside TargetsFound PlacedFound Inside
-    argument_step array_part_step arrow_body_step element_step expression_step for_first_step for_target_step key_step link_step object_part_step parameter_step pattern_step property_step statement_step arrow_step block_step case_step catch_step class_step class_member_step condition_step function_step method_step operand_step part_step template_step template_part_step
+catch_found = by_steps (fold-Catch ArgumentFound TargetsFound BodyFound ArgumentFound Found HeadFound HeadFound KeyFound LinkFound TargetsFound TargetsFound TargetsFound PropertyFound StatementFound PlacedFound (List StatementFound) CaseFound PartFound ClassFound MemberFound PartFound FunctionFound MethodFound Inside TargetsFound PlacedFound Inside)
 
 abbrev pub class_found : Class → ClassFound
-class_found =
-    fold-Class ArgumentFound TargetsFound BodyFound ArgumentFound Found HeadFound HeadFound KeyFound LinkFound TargetsFound TargetsFound TargetsFound PropertyFound StatementFound PlacedFound (List StatementFound) CaseFound PartFound ClassFound MemberFound PartFound FunctionFound MethodFound Inside TargetsFound PlacedFound Inside
-    argument_step array_part_step arrow_body_step element_step expression_step for_first_step for_target_step key_step link_step object_part_step parameter_step pattern_step property_step statement_step arrow_step block_step case_step catch_step class_step class_member_step condition_step function_step method_step operand_step part_step template_step template_part_step
+class_found = by_steps (fold-Class ArgumentFound TargetsFound BodyFound ArgumentFound Found HeadFound HeadFound KeyFound LinkFound TargetsFound TargetsFound TargetsFound PropertyFound StatementFound PlacedFound (List StatementFound) CaseFound PartFound ClassFound MemberFound PartFound FunctionFound MethodFound Inside TargetsFound PlacedFound Inside)
 
 abbrev pub class_member_found : ClassMember → MemberFound
-class_member_found =
-    fold-ClassMember ArgumentFound TargetsFound BodyFound ArgumentFound Found HeadFound HeadFound KeyFound LinkFound TargetsFound TargetsFound TargetsFound PropertyFound StatementFound PlacedFound (List StatementFound) CaseFound PartFound ClassFound MemberFound PartFound FunctionFound MethodFound Inside TargetsFound PlacedFound Inside
-    argument_step array_part_step arrow_body_step element_step expression_step for_first_step for_target_step key_step link_step object_part_step parameter_step pattern_step property_step statement_step arrow_step block_step case_step catch_step class_step class_member_step condition_step function_step method_step operand_step part_step template_step template_part_step
+class_member_found = by_steps (fold-ClassMember ArgumentFound TargetsFound BodyFound ArgumentFound Found HeadFound HeadFound KeyFound LinkFound TargetsFound TargetsFound TargetsFound PropertyFound StatementFound PlacedFound (List StatementFound) CaseFound PartFound ClassFound MemberFound PartFound FunctionFound MethodFound Inside TargetsFound PlacedFound Inside)
 
 abbrev pub condition_found : Condition → PartFound
-condition_found =
-    fold-Condition ArgumentFound TargetsFound BodyFound ArgumentFound Found HeadFound HeadFound KeyFound LinkFound TargetsFound TargetsFound TargetsFound PropertyFound StatementFound PlacedFound (List StatementFound) CaseFound PartFound ClassFound MemberFound PartFound FunctionFound MethodFound Inside TargetsFound PlacedFound Inside
-    argument_step array_part_step arrow_body_step element_step expression_step for_first_step for_target_step key_step link_step object_part_step parameter_step pattern_step property_step statement_step arrow_step block_step case_step catch_step class_step class_member_step condition_step function_step method_step operand_step part_step template_step template_part_step
+condition_found = by_steps (fold-Condition ArgumentFound TargetsFound BodyFound ArgumentFound Found HeadFound HeadFound KeyFound LinkFound TargetsFound TargetsFound TargetsFound PropertyFound StatementFound PlacedFound (List StatementFound) CaseFound PartFound ClassFound MemberFound PartFound FunctionFound MethodFound Inside TargetsFound PlacedFound Inside)
 
 abbrev pub function_found : Function → FunctionFound
-function_found =
-    fold-Function ArgumentFound TargetsFound BodyFound ArgumentFound Found HeadFound HeadFound KeyFound LinkFound TargetsFound TargetsFound TargetsFound PropertyFound StatementFound PlacedFound (List StatementFound) CaseFound PartFound ClassFound MemberFound PartFound FunctionFound MethodFound Inside TargetsFound PlacedFound Inside
-    argument_step array_part_step arrow_body_step element_step expression_step for_first_step for_target_step key_step link_step object_part_step parameter_step pattern_step property_step statement_step arrow_step block_step case_step catch_step class_step class_member_step condition_step function_step method_step operand_step part_step template_step template_part_step
+function_found = by_steps (fold-Function ArgumentFound TargetsFound BodyFound ArgumentFound Found HeadFound HeadFound KeyFound LinkFound TargetsFound TargetsFound TargetsFound PropertyFound StatementFound PlacedFound (List StatementFound) CaseFound PartFound ClassFound MemberFound PartFound FunctionFound MethodFound Inside TargetsFound PlacedFound Inside)
 
 abbrev pub method_found : Method → MethodFound
-method_found =
-    fold-Method ArgumentFound TargetsFound BodyFound ArgumentFound Found HeadFound HeadFound KeyFound LinkFound TargetsFound TargetsFound TargetsFound PropertyFound StatementFound PlacedFound (List StatementFound) CaseFound PartFound ClassFound MemberFound PartFound FunctionFound MethodFound Inside TargetsFound PlacedFound Inside
-    argument_step array_part_step arrow_body_step element_step expression_step for_first_step for_target_step key_step link_step object_part_step parameter_step pattern_step property_step statement_step arrow_step block_step case_step catch_step class_step class_member_step condition_step function_step method_step operand_step part_step template_step template_part_step
+method_found = by_steps (fold-Method ArgumentFound TargetsFound BodyFound ArgumentFound Found HeadFound HeadFound KeyFound LinkFound TargetsFound TargetsFound TargetsFound PropertyFound StatementFound PlacedFound (List StatementFound) CaseFound PartFound ClassFound MemberFound PartFound FunctionFound MethodFound Inside TargetsFound PlacedFound Inside)
 
 abbrev pub operand_found : Operand → Inside
-operand_found =
-    fold-Operand ArgumentFound TargetsFound BodyFound ArgumentFound Found HeadFound HeadFound KeyFound LinkFound TargetsFound TargetsFound TargetsFound PropertyFound StatementFound PlacedFound (List StatementFound) CaseFound PartFound ClassFound MemberFound PartFound FunctionFound MethodFound Inside TargetsFound PlacedFound Inside
-    argument_step array_part_step arrow_body_step element_step expression_step for_first_step for_target_step key_step link_step object_part_step parameter_step pattern_step property_step statement_step arrow_step block_step case_step catch_step class_step class_member_step condition_step function_step method_step operand_step part_step template_step template_part_step
+operand_found = by_steps (fold-Operand ArgumentFound TargetsFound BodyFound ArgumentFound Found HeadFound HeadFound KeyFound LinkFound TargetsFound TargetsFound TargetsFound PropertyFound StatementFound PlacedFound (List StatementFound) CaseFound PartFound ClassFound MemberFound PartFound FunctionFound MethodFound Inside TargetsFound PlacedFound Inside)
 
 abbrev pub part_found : Part → TargetsFound
-part_found =
-    fold-Part ArgumentFound TargetsFound BodyFound ArgumentFound Found HeadFound HeadFound KeyFound LinkFound TargetsFound TargetsFound TargetsFound PropertyFound StatementFound PlacedFound (List StatementFound) CaseFound PartFound ClassFound MemberFound PartFound FunctionFound MethodFound Inside TargetsFound PlacedFound Inside
-    argument_step array_part_step arrow_body_step element_step expression_step for_first_step for_target_step key_step link_step object_part_step parameter_step pattern_step property_step statement_step arrow_step block_step case_step catch_step class_step class_member_step condition_step function_step method_step operand_step part_step template_step template_part_step
+part_found = by_steps (fold-Part ArgumentFound TargetsFound BodyFound ArgumentFound Found HeadFound HeadFound KeyFound LinkFound TargetsFound TargetsFound TargetsFound PropertyFound StatementFound PlacedFound (List StatementFound) CaseFound PartFound ClassFound MemberFound PartFound FunctionFound MethodFound Inside TargetsFound PlacedFound Inside)
 
 abbrev pub template_found : Template → PlacedFound
-template_found =
-    fold-Template ArgumentFound TargetsFound BodyFound ArgumentFound Found HeadFound HeadFound KeyFound LinkFound TargetsFound TargetsFound TargetsFound PropertyFound StatementFound PlacedFound (List StatementFound) CaseFound PartFound ClassFound MemberFound PartFound FunctionFound MethodFound Inside TargetsFound PlacedFound Inside
-    argument_step array_part_step arrow_body_step element_step expression_step for_first_step for_target_step key_step link_step object_part_step parameter_step pattern_step property_step statement_step arrow_step block_step case_step catch_step class_step class_member_step condition_step function_step method_step operand_step part_step template_step template_part_step
+template_found = by_steps (fold-Template ArgumentFound TargetsFound BodyFound ArgumentFound Found HeadFound HeadFound KeyFound LinkFound TargetsFound TargetsFound TargetsFound PropertyFound StatementFound PlacedFound (List StatementFound) CaseFound PartFound ClassFound MemberFound PartFound FunctionFound MethodFound Inside TargetsFound PlacedFound Inside)
 
 abbrev pub template_part_found : TemplatePart → Inside
-template_part_found =
-    fold-TemplatePart ArgumentFound TargetsFound BodyFound ArgumentFound Found HeadFound HeadFound KeyFound LinkFound TargetsFound TargetsFound TargetsFound PropertyFound StatementFound PlacedFound (List StatementFound) CaseFound PartFound ClassFound MemberFound PartFound FunctionFound MethodFound Inside TargetsFound PlacedFound Inside
-    argument_step array_part_step arrow_body_step element_step expression_step for_first_step for_target_step key_step link_step object_part_step parameter_step pattern_step property_step statement_step arrow_step block_step case_step catch_step class_step class_member_step condition_step function_step method_step operand_step part_step template_step template_part_step
+template_part_found = by_steps (fold-TemplatePart ArgumentFound TargetsFound BodyFound ArgumentFound Found HeadFound HeadFound KeyFound LinkFound TargetsFound TargetsFound TargetsFound PropertyFound StatementFound PlacedFound (List StatementFound) CaseFound PartFound ClassFound MemberFound PartFound FunctionFound MethodFound Inside TargetsFound PlacedFound Inside)
 
 -- the names that an import binds (15.2.2)
 abbrev pub more_names : ImportedNames → List Identifier
@@ -677,23 +650,24 @@ more_names (Namespace n) = n ∷ []
 more_names (Listed ns) = joined (λ n. n.local ∷ []) ns
 
 -- What an item gives: the lexical and var names that it declares, the names that it exports, the local names that it exports,
--- and the pairs in it. At the top level of a module a function is a lexical name (15.2.1.11).
+-- the pairs of the scopes in it and its other pairs. At the top level of a module a function is a lexical name (15.2.1.11).
 pub record ItemFound : Type 0 where
   pub lexical : List Identifier
   pub vars : List Identifier
   pub exported : List Identifier
   pub local : List Identifier
+  pub scopes : List Pair
   pub pairs : List Pair
 
 abbrev pub of_statement : StatementFound → ItemFound
-of_statement s = record { lexical = s.lexical ++ s.functions; vars = s.vars; exported = []; local = []; pairs = s.pairs (in_body rights_at_top) }
+of_statement s = record { lexical = s.lexical ++ s.functions; vars = s.vars; exported = []; local = []; scopes = s.scopes; pairs = s.pairs (in_body rights_at_top) }
 
 -- what `export` before a declaration exports
 abbrev pub exporting : ItemFound → ItemFound
 exporting x = record x { exported = x.lexical ++ x.vars }
 
 abbrev pub default_item : List Identifier → List Pair → Span → ItemFound
-default_item names pairs word = record { lexical = names; vars = []; exported = record { span = word; name = codes "default" } ∷ []; local = []; pairs = pairs }
+default_item names pairs word = record { lexical = names; vars = []; exported = record { span = word; name = codes "default" } ∷ []; local = []; scopes = []; pairs = pairs }
 
 abbrev pub default_found : DefaultExport → Span → ItemFound
 default_found (DefaultFunction f) word = default_item (some_name (function_found f).name) ((function_found f).pairs (rights_of_function false false)) word
@@ -705,9 +679,9 @@ own_names None ns = joined (λ n. n.local ∷ []) ns
 own_names (Some from) ns = []
 
 abbrev pub item_found : Item → ItemFound
-item_found (item.Import span default_ names from) = let locals = some_name default_ ++ more_names names in record { lexical = locals; vars = []; exported = []; local = []; pairs = joined bound locals }
-item_found (item.ExportNames span names from) = record { lexical = []; vars = []; exported = joined (λ n. n.exported ∷ []) names; local = own_names from names; pairs = [] }
-item_found (item.ExportAll span from) = record { lexical = []; vars = []; exported = []; local = []; pairs = [] }
+item_found (item.Import span default_ names from) = let locals = some_name default_ ++ more_names names in record { lexical = locals; vars = []; exported = []; local = []; scopes = []; pairs = joined bound locals }
+item_found (item.ExportNames span names from) = record { lexical = []; vars = []; exported = joined (λ n. n.exported ∷ []) names; local = own_names from names; scopes = []; pairs = [] }
+item_found (item.ExportAll span from) = record { lexical = []; vars = []; exported = []; local = []; scopes = []; pairs = [] }
 item_found (item.ExportDeclaration span s) = exporting (of_statement (statement_found s))
 item_found (item.ExportDefault span word x) = default_found x word
 item_found (item.Statement s) = of_statement (statement_found s)
@@ -721,7 +695,7 @@ abbrev pub module_pairs : List ItemFound → List Pair
 module_pairs found =
     let lexical = joined (λ x. x.lexical) found in
     let vars = joined (λ x. x.vars) found in
-    joined (λ x. x.pairs) found ++ scope_pairs lexical vars ++ repeated 23 [] (joined (λ x. x.exported) found) ++ undeclared (lexical ++ vars) (joined (λ x. x.local) found)
+    joined (λ x. x.pairs) found ++ (joined (λ x. x.scopes) found ++ scope_pairs lexical vars) ++ repeated 23 [] (joined (λ x. x.exported) found) ++ undeclared (lexical ++ vars) (joined (λ x. x.local) found)
 
 abbrev pub early_pairs : Module → List Pair
 early_pairs m = module_pairs (map item_found m.items)

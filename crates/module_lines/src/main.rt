@@ -11,13 +11,15 @@ mod goal;
 mod kept;
 mod parts;
 
-use early_errors::{Finding, first_early, first_outside};
+use early_errors::first_early;
+use early_findings::Finding;
 use es6_ast::Module;
 use es6_lexer::{Token, lex6};
 use es6_module::parse_module;
 use fault::{show_fault, show_place};
 use goal::Goal;
 use kept::kept;
+use outside_constructs::first_outside;
 use std::alloc::{AllocError, Global};
 use std::env;
 use std::io::{self, BufReader, BufWriter, Read, Write};

@@ -41,7 +41,7 @@ no-repeated m e =
     let lexical : List Identifier = joined (λ x. x.lexical) found in
     let vars : List Identifier = joined (λ x. x.vars) found in
     let twice : List Pair = repeated 23 [] (joined (λ x. x.exported) found) in
-    let first : List Pair = joined (λ x. x.pairs) found ++ scope_pairs lexical vars in
+    let first : List Pair = joined (λ x. x.pairs) found ++ (joined (λ x. x.scopes) found ++ scope_pairs lexical vars) in
     let last : List Pair = undeclared (lexical ++ vars) (joined (λ x. x.local) found) in
     nil-right first twice (nil-left (first ++ twice) last e)
 

@@ -1,0 +1,4 @@
+pub mod Layers
+pub mod None
+pub mod Passing
+pub mod Tables

@@ -1,0 +1,3 @@
+pub mod Rules
+pub mod Since
+pub mod Tried

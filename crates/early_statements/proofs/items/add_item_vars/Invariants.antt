@@ -1,7 +1,0 @@
-use Rattle.std.proofs.Common.{◌≡◌, ◌++◌, drop, map}
-use Rattle.es6_static_semantics.specs.Findings.{joined}
-use Rattle.es6_static_semantics.specs.Early.{item_found}
-use Rattle.early_statements.proofs.items.add_item_vars.Given as goal
-
-abbrev pub invariant-loop-item : goal.invariant-loop-item
-invariant-loop-item l = l.names.items ++ joined (λ x. x.vars) (map item_found (drop l.item-index l.items)) ≡ l.initial.names.items ++ joined (λ x. x.vars) (map item_found l.items)

@@ -1,3 +1,0 @@
-pub mod Late
-pub mod Order
-mod Stacks
