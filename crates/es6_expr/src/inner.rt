@@ -6,11 +6,10 @@ ghost use Rattle.es6_cursor.specs.Reads.{Reads};
 ghost use Rattle.es6_cursor.specs.Nested.{nested_of};
 
 use crate::limits::nested_at_limit;
-use crate::nested::nested;
+use crate::nested::{listed, nested};
 use crate::statement_limit::statement_at_limit;
 use es6_ast::Statement;
 use es6_cursor::{Cursor, Flags, Halt, Nested, Stand};
-use es6_read_statements::statement;
 use es6_trees::{Reading, Trees};
 
 /// An expression one construct deeper.
@@ -52,7 +51,7 @@ pub fn inner_statement(
     if room == 0 {
         statement_at_limit::<Trees>(cursor, flags, stand)
     } else {
-        statement::<Trees, _, _>(
+        listed::<Trees, _, _>(
             cursor,
             room - 1,
             flags,

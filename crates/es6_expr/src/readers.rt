@@ -7,6 +7,7 @@ ghost use Rattle.es6_reading.specs.Expressions.{sequence};
 ghost use Rattle.es6_reading.specs.Statements.{statement};
 
 use crate::inner::{inner_statement, nested_expression};
+use crate::nested::{listed, whole};
 use es6_ast::Statement;
 use es6_cursor::{Cursor, Flags, Halt, Stand};
 use es6_trees::{Reading, Trees};
@@ -16,13 +17,7 @@ use es6_trees::{Reading, Trees};
 pub fn sequence(cursor: &mut Cursor, room: u16, flags: Flags) -> Result<Reading, Halt>
     ensures { Reads (sequence (inner room) flags cursor.old) result cursor.new }
 {
-    es6_read_expressions::sequence::<Trees, _, _>(
-        cursor,
-        room,
-        flags,
-        &nested_expression,
-        &inner_statement,
-    )
+    whole::<Trees, _, _>(cursor, room, flags, &nested_expression, &inner_statement)
 }
 
 /// A statement, or what else may stand there (13).
@@ -36,7 +31,7 @@ pub fn statement(
     requires below { room < 65535 }
     ensures { Reads (statement (inner room) flags stand cursor.old) result cursor.new }
 {
-    es6_read_statements::statement::<Trees, _, _>(
+    listed::<Trees, _, _>(
         cursor,
         room,
         flags,

@@ -8,7 +8,7 @@ use Rattle.es6_ast.specs.Grammar.{with_in}
 use Rattle.es6_reading.specs.Parser.{Input, Inner, after, take_as, mark, made}
 use Rattle.es6_reading.specs.Expressions.{branches, other}
 use Rattle.es6_read_expressions.specs.Branches.{other_branch}
-use Rattle.es6_read_expressions.proofs.Follows.{after_after, after_same}
+use Rattle.es6_read_primaries.proofs.Follows.{after_after, after_same}
 
 pub branches_is : (i : Inner) (f : Flags) (at : ℕ) (test : Expression) (c : Input) → branches i f at test c ≡ after (i.assignment (with_in f) c) (λ x d. after (other_branch i f d) (λ y. made at (λ span. other (expr.Conditional span test x.value y.value))))
 unfolding branches other_branch

@@ -18,7 +18,7 @@ use Rattle.es6_cursor.specs.declared.halt.Halt.{Halt}
 use Rattle.es6_cursor.specs.declared.halt.Halt.TheVariants.{Stopped, OutOfMemory}
 use Rattle.es6_cursor.specs.Takes.{known_as, next_binary, passed, TakesAs, unless_in}
 use Rattle.es6_cursor.proofs.Choices.{on_as, off_as}
-use Rattle.es6_read_expressions.proofs.Follows.{after_after, after_same}
+use Rattle.es6_read_primaries.proofs.Follows.{after_after, after_same}
 use Rattle.es6_read_expressions.specs.Levels.{Waiting, climb, operand_after, with_operand, closed, completed, level_of, resumed, top, IsRising, standing, IsSilent}
 
 after_returns : {A : Type 0} (o : Outcome A) → after o (λ x. returns x) ≡ o

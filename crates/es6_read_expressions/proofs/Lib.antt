@@ -1,14 +1,5 @@
 pub mod Arrows
 pub mod Branches
-pub mod Elements
-pub mod Follows
-pub mod Groups
-pub mod HeldParts
-pub mod Inside
 pub mod Levels
-pub mod Links
-pub mod ListTurns
-pub mod Primaries
-pub mod Shorthands
-pub mod TemplateLists
+pub mod Sequences
 pub mod Waits

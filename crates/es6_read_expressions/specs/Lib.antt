@@ -1,10 +1,5 @@
 pub mod Branches
-pub mod Groups
 pub mod Levels
-pub mod Links
-pub mod Lists
 pub mod Powers
-pub mod Primaries
-pub mod Properties
 pub mod Waits
 pub mod Yields

@@ -4,17 +4,17 @@
 ghost use Rattle.std.specs.Prelude.{◌≡◌, ◌-◌, ◌<◌, ◌≤◌, ℕ, IfOk, Some, [], map};
 ghost use Rattle.es6_ast.specs.Grammar.{binary_level};
 ghost use Rattle.es6_ast.specs.declared.settings.Flags.{Flags as GrammarFlags};
-ghost use Rattle.es6_cursor.specs.Nests.{ReadsExpressions, ReadsStatements};
 ghost use Rattle.es6_cursor.specs.Readers.{inner};
 ghost use Rattle.es6_cursor.specs.Reads.{ReadsAs};
 ghost use Rattle.es6_cursor.specs.Takes.{known_as};
+ghost use Rattle.es6_read_parts.specs.Handed.{HasExpressions, HasStatements};
 ghost use Rattle.es6_read_expressions.specs.Levels.{IsRising, IsSilent, closed, level_of, operand_after, resumed, standing, top, with_operand};
 ghost use Rattle.es6_read_expressions.specs.Waits.{seen_waiting, stacked};
 ghost use Rattle.es6_reading.specs.Expressions.{binary_from};
 ghost use Rattle.es6_ast.specs.declared.settings.Role.TheVariants.{Among, Leading};
 ghost use Rattle.es6_reading.specs.Words.{binary_at};
 
-use crate::operators::power;
+use crate::readers::Expressions;
 use es6_ast::BinaryOperator;
 use es6_cursor::operators::binary_level;
 use es6_cursor::{Cursor, Flags, Halt, Nested, Role, Stand, TURNS};
@@ -42,36 +42,32 @@ struct Begun<R> {
     value: R,
 }
 
-/// An expression of operators between operands.
-pub fn binary<
+impl<
     G: MakesExpressions,
     E: Fn(&mut Cursor, u16, Flags, Nested) -> Result<G::Reading, Halt>,
     S: Fn(&mut Cursor, u16, Flags, Stand) -> Result<G::Statement, Halt>,
->(
-    cursor: &mut Cursor,
-    room: u16,
-    flags: Flags,
-    expression: &E,
-    statement: &S,
-) -> Result<G::Reading, Halt>
-    requires expressions { ReadsExpressions G.seen room (E.pre expression.now) (E.post expression.now) }
-    requires statements { ReadsStatements G.seen_statement room (S.pre statement.now) (S.post statement.now) }
-    ensures { ReadsAs G.seen (binary_from (inner room) flags Leading 10 3 cursor.old) result cursor.new }
-{
-    let mut stack = Items::new(cursor.alloc());
-    let mut role = Role::Leading;
-    for turn in 0..TURNS {
-        let begin = cursor.begin();
-        let value = power::<G, E, S>(cursor, room, flags, role, expression, statement)?;
-        let next = cursor.next_binary(flags);
-        let operand = settle::<G>(cursor, &mut stack, level(next), Begun { begin, value })?;
-        let Some(operator) = next else {
-            return Ok(operand.value);
-        };
-        wait::<G>(cursor, &mut stack, operand, operator)?;
-        role = Role::Among;
+> Expressions<'_, G, E, S> {
+    /// An expression of operators between operands.
+    pub fn binary(&self, cursor: &mut Cursor) -> Result<G::Reading, Halt>
+        requires expressions { HasExpressions G.seen E.pre E.post self.now.here }
+        requires statements { HasStatements G.seen_statement S.pre S.post self.now.here }
+        ensures { ReadsAs G.seen (binary_from (inner self.now.here.room) self.now.here.flags Leading 10 3 cursor.old) result cursor.new }
+    {
+        let mut stack = Items::new(cursor.alloc());
+        let mut role = Role::Leading;
+        for turn in 0..TURNS {
+            let begin = cursor.begin();
+            let value = self.power(cursor, role)?;
+            let next = cursor.next_binary(self.here.flags);
+            let operand = settle::<G>(cursor, &mut stack, level(next), Begun { begin, value })?;
+            let Some(operator) = next else {
+                return Ok(operand.value);
+            };
+            wait::<G>(cursor, &mut stack, operand, operator)?;
+            role = Role::Among;
+        }
+        Err(Halt::OutOfMemory)
     }
-    Err(Halt::OutOfMemory)
 }
 
 /// The level of an operator, or one below all where there is none.

@@ -1,14 +1,15 @@
 //! Exports (ECMA-262, 6th edition, 15.2.3).
 
-ghost use Rattle.std.specs.Prelude.{◌+◌, ◌<◌, ◌≡◌};
+ghost use Rattle.std.specs.Prelude.{◌<◌, ◌≡◌};
 ghost use Rattle.es6_ast.specs.Grammar.{of_module};
-ghost use Rattle.es6_cursor.specs.Nests.{ReadsExpressions, ReadsStatements};
 ghost use Rattle.es6_cursor.specs.Readers.{inner, turns};
 ghost use Rattle.es6_cursor.specs.Reads.{Reads, ReadsAs};
+ghost use Rattle.es6_read_parts.specs.Handed.{HasOuterExpressions, HasOuterStatements};
 ghost use Rattle.es6_read_modules.specs.Exports.{after_names, default_class, default_function};
 ghost use Rattle.es6_reading.specs.Expressions.{assignment};
 ghost use Rattle.es6_reading.specs.Modules.{are_own, default_value, export_all, export_declaration, export_default, export_item, export_names, exported_declaration, exports, one_export, own_names};
 
+use crate::readers::ModuleItems;
 use crate::specifier::{copy, from_clause};
 use es_text::Span;
 use es6_ast::{ExportName, VariableKind};
@@ -18,8 +19,8 @@ use es6_makers::{
     MakesClassExports, MakesDeclarations, MakesExports, MakesFunctionExports, MakesItems,
     MakesReadings, MakesValueExports,
 };
-use es6_read_parts::{class_after_word, function_after_word};
-use es6_read_statements::{class_declaration, function_declaration, variables_statement};
+use es6_read_parts::{Here, class_after_word, function_after_word};
+use es6_read_statements::Statements;
 use sqlite_items::Items;
 
 /// A name, and the one that it is exported as, which follows `as`.
@@ -128,210 +129,204 @@ fn export_all<G: MakesItems>(cursor: &mut Cursor, room: u16, begin: u32) -> Resu
     Ok(G::export_all(span, from))
 }
 
-/// AssignmentExpression, which the reader of what stands one construct deeper reads where one construct more may open.
-#[tactic(auto, using(crate::proofs::Inside::assignment_next))]
-fn value_after_default<
+impl<
     G: MakesReadings,
     E: Fn(&mut Cursor, u16, Flags, Nested) -> Result<G::Reading, Halt>,
->(cursor: &mut Cursor, room: u16, expression: &E) -> Result<G::Reading, Halt>
-    requires below { room < 65535 }
-    requires expressions { ReadsExpressions G.seen (room + 1) (E.pre expression.now) (E.post expression.now) }
-    ensures { ReadsAs G.seen (assignment (inner room) of_module cursor.old) result cursor.new }
-{
-    expression(cursor, room + 1, Flags::of_module(), Nested::Assignment)
+    S,
+> ModuleItems<'_, G, E, S> {
+    /// AssignmentExpression, which the reader of what stands one construct deeper reads where one construct more may open.
+    #[tactic(auto, using(crate::proofs::Inside::assignment_next))]
+    fn value_after_default(&self, cursor: &mut Cursor) -> Result<G::Reading, Halt>
+        requires below { self.now.here.room < 65535 }
+        requires expressions { HasOuterExpressions G.seen E.pre E.post self.now.here }
+        ensures { ReadsAs G.seen (assignment (inner self.now.here.room) of_module cursor.old) result cursor.new }
+    {
+        (self.here.expression)(
+            cursor,
+            self.here.room + 1,
+            Flags::of_module(),
+            Nested::Assignment,
+        )
+    }
 }
 
-/// An expression after `default`, which has the span.
-#[tactic(auto, using(es6_cursor::proofs::Rules::statements), unfolding(es6_reading::specs::Modules::default_value))]
-fn default_value<
+impl<
     G: MakesValueExports,
     E: Fn(&mut Cursor, u16, Flags, Nested) -> Result<G::Reading, Halt>,
->(cursor: &mut Cursor, room: u16, begin: u32, word: Span, expression: &E) -> Result<G::Item, Halt>
-    requires below { room < 65535 }
-    requires expressions { ReadsExpressions G.seen (room + 1) (E.pre expression.now) (E.post expression.now) }
-    ensures { ReadsAs G.seen_item (default_value (inner room) begin word cursor.old) result cursor.new }
-{
-    let value = value_after_default::<G, E>(cursor, room, expression)?;
-    cursor.semicolon()?;
-    let span = cursor.span_from(begin);
-    Ok(G::export_value(span, word, value))
+    S,
+> ModuleItems<'_, G, E, S> {
+    /// An expression after `default`, which has the span.
+    #[tactic(auto, using(es6_cursor::proofs::Rules::statements), unfolding(es6_reading::specs::Modules::default_value))]
+    fn default_value(&self, cursor: &mut Cursor, begin: u32, word: Span) -> Result<G::Item, Halt>
+        requires below { self.now.here.room < 65535 }
+        requires expressions { HasOuterExpressions G.seen E.pre E.post self.now.here }
+        ensures { ReadsAs G.seen_item (default_value (inner self.now.here.room) begin word cursor.old) result cursor.new }
+    {
+        let value = self.value_after_default(cursor)?;
+        cursor.semicolon()?;
+        let span = cursor.span_from(begin);
+        Ok(G::export_value(span, word, value))
+    }
 }
 
-/// A function after `export default function`; the word `default` has the span.
-#[tactic(auto, using(es6_cursor::proofs::Rules::groups, es6_cursor::proofs::Nests::fewer_expressions, es6_cursor::proofs::Nests::fewer_statements), unfolding(crate::specs::Exports::default_function))]
-fn default_function<
+impl<
     G: MakesFunctionExports,
     E: Fn(&mut Cursor, u16, Flags, Nested) -> Result<G::Reading, Halt>,
     S: Fn(&mut Cursor, u16, Flags, Stand) -> Result<G::Statement, Halt>,
->(
-    cursor: &mut Cursor,
-    room: u16,
-    begin: u32,
-    word: Span,
-    inside: u32,
-    expression: &E,
-    statement: &S,
-) -> Result<G::Item, Halt>
-    requires below { room < 65535 }
-    requires expressions { ReadsExpressions G.seen (room + 1) (E.pre expression.now) (E.post expression.now) }
-    requires statements { ReadsStatements G.seen_statement (room + 1) (S.pre statement.now) (S.post statement.now) }
-    ensures { ReadsAs G.seen_item (default_function (inner room) begin word inside cursor.old) result cursor.new }
-{
-    let function = function_after_word::<G, E, S>(
-        cursor, room, true, inside, expression, statement,
-    )?;
-    let span = cursor.span_from(begin);
-    Ok(G::export_function(cursor.alloc(), span, word, function)?)
+> ModuleItems<'_, G, E, S> {
+    /// A function after `export default function`; the word `default` has the span.
+    #[tactic(auto, using(es6_cursor::proofs::Rules::groups, es6_read_parts::proofs::Outer::outer), unfolding(crate::specs::Exports::default_function))]
+    fn default_function(
+        &self,
+        cursor: &mut Cursor,
+        begin: u32,
+        word: Span,
+        inside: u32,
+    ) -> Result<G::Item, Halt>
+        requires below { self.now.here.room < 65535 }
+        requires expressions { HasOuterExpressions G.seen E.pre E.post self.now.here }
+        requires statements { HasOuterStatements G.seen_statement S.pre S.post self.now.here }
+        ensures { ReadsAs G.seen_item (default_function (inner self.now.here.room) begin word inside cursor.old) result cursor.new }
+    {
+        let function = function_after_word::<G, E, S>(
+            cursor,
+            self.here.room,
+            true,
+            inside,
+            self.here.expression,
+            self.here.statement,
+        )?;
+        let span = cursor.span_from(begin);
+        Ok(G::export_function(cursor.alloc(), span, word, function)?)
+    }
 }
 
-/// A class after `export default class`.
-#[tactic(auto, using(es6_cursor::proofs::Rules::groups, es6_cursor::proofs::Nests::fewer_expressions, es6_cursor::proofs::Nests::fewer_statements), unfolding(crate::specs::Exports::default_class))]
-fn default_class<
+impl<
     G: MakesClassExports,
     E: Fn(&mut Cursor, u16, Flags, Nested) -> Result<G::Reading, Halt>,
     S: Fn(&mut Cursor, u16, Flags, Stand) -> Result<G::Statement, Halt>,
->(
-    cursor: &mut Cursor,
-    room: u16,
-    begin: u32,
-    word: Span,
-    inside: u32,
-    expression: &E,
-    statement: &S,
-) -> Result<G::Item, Halt>
-    requires below { room < 65535 }
-    requires expressions { ReadsExpressions G.seen (room + 1) (E.pre expression.now) (E.post expression.now) }
-    requires statements { ReadsStatements G.seen_statement (room + 1) (S.pre statement.now) (S.post statement.now) }
-    ensures { ReadsAs G.seen_item (default_class (inner room) begin word inside cursor.old) result cursor.new }
-{
-    let class = class_after_word::<G, E, S>(
-        cursor,
-        room,
-        Flags::of_module(),
-        true,
-        inside,
-        expression,
-        statement,
-    )?;
-    let span = cursor.span_from(begin);
-    Ok(G::export_class(cursor.alloc(), span, word, class)?)
+> ModuleItems<'_, G, E, S> {
+    /// A class after `export default class`.
+    #[tactic(auto, using(es6_cursor::proofs::Rules::groups, es6_read_parts::proofs::Outer::outer), unfolding(crate::specs::Exports::default_class))]
+    fn default_class(
+        &self,
+        cursor: &mut Cursor,
+        begin: u32,
+        word: Span,
+        inside: u32,
+    ) -> Result<G::Item, Halt>
+        requires below { self.now.here.room < 65535 }
+        requires expressions { HasOuterExpressions G.seen E.pre E.post self.now.here }
+        requires statements { HasOuterStatements G.seen_statement S.pre S.post self.now.here }
+        ensures { ReadsAs G.seen_item (default_class (inner self.now.here.room) begin word inside cursor.old) result cursor.new }
+    {
+        let class = class_after_word::<G, E, S>(
+            cursor,
+            self.here.room,
+            Flags::of_module(),
+            true,
+            inside,
+            self.here.expression,
+            self.here.statement,
+        )?;
+        let span = cursor.span_from(begin);
+        Ok(G::export_class(cursor.alloc(), span, word, class)?)
+    }
 }
 
-/// What follows `default`, which has the span.
-#[tactic(auto, using(es6_cursor::proofs::Rules::groups), unfolding(es6_reading::specs::Modules::export_default, crate::specs::Exports::default_function, crate::specs::Exports::default_class))]
-fn export_default<
+impl<
     G: MakesExports,
     E: Fn(&mut Cursor, u16, Flags, Nested) -> Result<G::Reading, Halt>,
     S: Fn(&mut Cursor, u16, Flags, Stand) -> Result<G::Statement, Halt>,
->(
-    cursor: &mut Cursor,
-    room: u16,
-    begin: u32,
-    word: Span,
-    expression: &E,
-    statement: &S,
-) -> Result<G::Item, Halt>
-    requires below { room < 65535 }
-    requires expressions { ReadsExpressions G.seen (room + 1) (E.pre expression.now) (E.post expression.now) }
-    requires statements { ReadsStatements G.seen_statement (room + 1) (S.pre statement.now) (S.post statement.now) }
-    ensures { ReadsAs G.seen_item (export_default (inner room) begin word cursor.old) result cursor.new }
-{
-    let inside = cursor.begin();
-    if cursor.take_word(b"function") {
-        return default_function::<G, E, S>(
-            cursor, room, begin, word, inside, expression, statement,
-        );
+> ModuleItems<'_, G, E, S> {
+    /// What follows `default`, which has the span.
+    #[tactic(auto, using(es6_cursor::proofs::Rules::groups), unfolding(es6_reading::specs::Modules::export_default, crate::specs::Exports::default_function, crate::specs::Exports::default_class))]
+    fn export_default(&self, cursor: &mut Cursor, begin: u32, word: Span) -> Result<G::Item, Halt>
+        requires below { self.now.here.room < 65535 }
+        requires expressions { HasOuterExpressions G.seen E.pre E.post self.now.here }
+        requires statements { HasOuterStatements G.seen_statement S.pre S.post self.now.here }
+        ensures { ReadsAs G.seen_item (export_default (inner self.now.here.room) begin word cursor.old) result cursor.new }
+    {
+        let inside = cursor.begin();
+        if cursor.take_word(b"function") {
+            return self.default_function(cursor, begin, word, inside);
+        }
+        if cursor.take_word(b"class") {
+            return self.default_class(cursor, begin, word, inside);
+        }
+        self.default_value(cursor, begin, word)
     }
-    if cursor.take_word(b"class") {
-        return default_class::<G, E, S>(cursor, room, begin, word, inside, expression, statement);
-    }
-    default_value::<G, E>(cursor, room, begin, word, expression)
 }
 
-/// Variables, a function or a class.
-#[tactic(auto, using(es6_cursor::proofs::Rules::groups, es6_cursor::proofs::Nests::fewer_expressions, es6_cursor::proofs::Nests::fewer_statements), unfolding(es6_reading::specs::Modules::exported_declaration, es6_reading::specs::Parser::refused))]
-fn exported_declaration<
+impl<
     G: MakesDeclarations,
     E: Fn(&mut Cursor, u16, Flags, Nested) -> Result<G::Reading, Halt>,
     S: Fn(&mut Cursor, u16, Flags, Stand) -> Result<G::Statement, Halt>,
->(cursor: &mut Cursor, room: u16, expression: &E, statement: &S) -> Result<G::Statement, Halt>
-    requires below { room < 65535 }
-    requires expressions { ReadsExpressions G.seen (room + 1) (E.pre expression.now) (E.post expression.now) }
-    requires statements { ReadsStatements G.seen_statement (room + 1) (S.pre statement.now) (S.post statement.now) }
-    ensures { ReadsAs G.seen_statement (exported_declaration (inner room) cursor.old) result cursor.new }
-{
-    let begin = cursor.begin();
-    let flags = Flags::of_module();
-    if cursor.take_word(b"var") {
-        return variables_statement::<G, E>(
-            cursor,
-            room,
-            flags,
-            begin,
-            VariableKind::Var,
-            expression,
-        );
-    }
-    if cursor.take_word(b"function") {
-        return function_declaration::<G, E, S>(cursor, room, begin, expression, statement);
-    }
-    if cursor.take_word(b"class") {
-        return class_declaration::<G, E, S>(cursor, room, flags, begin, expression, statement);
-    }
-    match cursor.take_lexical_kind() {
-        Some(kind) => variables_statement::<G, E>(cursor, room, flags, begin, kind, expression),
-        None => Err(Halt::Stopped(cursor.refused())),
+> ModuleItems<'_, G, E, S> {
+    /// Variables, a function or a class.
+    #[tactic(auto, using(es6_cursor::proofs::Rules::groups, es6_read_parts::proofs::Outer::outer), unfolding(es6_reading::specs::Modules::exported_declaration, es6_reading::specs::Parser::refused))]
+    fn exported_declaration(&self, cursor: &mut Cursor) -> Result<G::Statement, Halt>
+        requires below { self.now.here.room < 65535 }
+        requires expressions { HasOuterExpressions G.seen E.pre E.post self.now.here }
+        requires statements { HasOuterStatements G.seen_statement S.pre S.post self.now.here }
+        ensures { ReadsAs G.seen_statement (exported_declaration (inner self.now.here.room) cursor.old) result cursor.new }
+    {
+        let begin = cursor.begin();
+        let here = Here {
+            flags: Flags::of_module(),
+            ..self.here
+        };
+        let statements = Statements { here };
+        if cursor.take_word(b"var") {
+            return statements.variables_statement(cursor, begin, VariableKind::Var);
+        }
+        if cursor.take_word(b"function") {
+            return statements.function_declaration(cursor, begin);
+        }
+        if cursor.take_word(b"class") {
+            return statements.class_declaration(cursor, begin);
+        }
+        match cursor.take_lexical_kind() {
+            Some(kind) => statements.variables_statement(cursor, begin, kind),
+            None => Err(Halt::Stopped(cursor.refused())),
+        }
     }
 }
 
-#[tactic(auto, using(es6_cursor::proofs::Rules::groups), unfolding(es6_reading::specs::Modules::export_declaration))]
-fn export_declaration<
+impl<
     G: MakesExports,
     E: Fn(&mut Cursor, u16, Flags, Nested) -> Result<G::Reading, Halt>,
     S: Fn(&mut Cursor, u16, Flags, Stand) -> Result<G::Statement, Halt>,
->(
-    cursor: &mut Cursor,
-    room: u16,
-    begin: u32,
-    expression: &E,
-    statement: &S,
-) -> Result<G::Item, Halt>
-    requires below { room < 65535 }
-    requires expressions { ReadsExpressions G.seen (room + 1) (E.pre expression.now) (E.post expression.now) }
-    requires statements { ReadsStatements G.seen_statement (room + 1) (S.pre statement.now) (S.post statement.now) }
-    ensures { ReadsAs G.seen_item (export_declaration (inner room) begin cursor.old) result cursor.new }
-{
-    let declaration = exported_declaration::<G, E, S>(cursor, room, expression, statement)?;
-    let span = cursor.span_from(begin);
-    Ok(G::export_declaration(span, declaration))
-}
+> ModuleItems<'_, G, E, S> {
+    #[tactic(auto, using(es6_cursor::proofs::Rules::groups), unfolding(es6_reading::specs::Modules::export_declaration))]
+    fn export_declaration(&self, cursor: &mut Cursor, begin: u32) -> Result<G::Item, Halt>
+        requires below { self.now.here.room < 65535 }
+        requires expressions { HasOuterExpressions G.seen E.pre E.post self.now.here }
+        requires statements { HasOuterStatements G.seen_statement S.pre S.post self.now.here }
+        ensures { ReadsAs G.seen_item (export_declaration (inner self.now.here.room) begin cursor.old) result cursor.new }
+    {
+        let declaration = self.exported_declaration(cursor)?;
+        let span = cursor.span_from(begin);
+        Ok(G::export_declaration(span, declaration))
+    }
 
-/// What follows `export`, which begins at the offset.
-#[tactic(auto, using(es6_cursor::proofs::Rules::groups, crate::proofs::Names::default_at, crate::proofs::Names::default_missed), unfolding(es6_reading::specs::Modules::export_item))]
-pub fn export_item<
-    G: MakesExports,
-    E: Fn(&mut Cursor, u16, Flags, Nested) -> Result<G::Reading, Halt>,
-    S: Fn(&mut Cursor, u16, Flags, Stand) -> Result<G::Statement, Halt>,
->(
-    cursor: &mut Cursor,
-    room: u16,
-    begin: u32,
-    expression: &E,
-    statement: &S,
-) -> Result<G::Item, Halt>
-    requires below { room < 65535 }
-    requires expressions { ReadsExpressions G.seen (room + 1) (E.pre expression.now) (E.post expression.now) }
-    requires statements { ReadsStatements G.seen_statement (room + 1) (S.pre statement.now) (S.post statement.now) }
-    ensures { ReadsAs G.seen_item (export_item (inner room) begin cursor.old) result cursor.new }
-{
-    if cursor.take_mark(Punctuator::Star) {
-        return export_all::<G>(cursor, room, begin);
+    /// What follows `export`, which begins at the offset.
+    #[tactic(auto, using(es6_cursor::proofs::Rules::groups, crate::proofs::Names::default_at, crate::proofs::Names::default_missed), unfolding(es6_reading::specs::Modules::export_item))]
+    pub fn export_item(&self, cursor: &mut Cursor, begin: u32) -> Result<G::Item, Halt>
+        requires below { self.now.here.room < 65535 }
+        requires expressions { HasOuterExpressions G.seen E.pre E.post self.now.here }
+        requires statements { HasOuterStatements G.seen_statement S.pre S.post self.now.here }
+        ensures { ReadsAs G.seen_item (export_item (inner self.now.here.room) begin cursor.old) result cursor.new }
+    {
+        if cursor.take_mark(Punctuator::Star) {
+            return export_all::<G>(cursor, self.here.room, begin);
+        }
+        if let Some(word) = cursor.take_word_at(b"default") {
+            return self.export_default(cursor, begin, word);
+        }
+        if cursor.next_is_mark(Punctuator::LeftBrace) {
+            return export_names::<G>(cursor, self.here.room, begin);
+        }
+        self.export_declaration(cursor, begin)
     }
-    if let Some(word) = cursor.take_word_at(b"default") {
-        return export_default::<G, E, S>(cursor, room, begin, word, expression, statement);
-    }
-    if cursor.next_is_mark(Punctuator::LeftBrace) {
-        return export_names::<G>(cursor, room, begin);
-    }
-    export_declaration::<G, E, S>(cursor, room, begin, expression, statement)
 }

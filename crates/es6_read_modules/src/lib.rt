@@ -5,6 +5,7 @@
 mod export;
 mod import;
 mod items;
+mod readers;
 mod specifier;
 
 pub use items::whole_module;

@@ -1,4 +1,5 @@
 pub mod Accessors
 pub mod Classes
+pub mod Handed
 pub mod Patterns
 pub mod Signatures

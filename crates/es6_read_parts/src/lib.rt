@@ -16,6 +16,7 @@ mod keys;
 mod method;
 mod parameters;
 mod patterns;
+mod readers;
 mod signature;
 
 pub use argument_list::{argument, arguments};
@@ -27,3 +28,4 @@ pub use inner::{inner_block, inner_part, inner_target, inner_variable};
 pub use keys::key;
 pub use method::{accessor, accessor_name, generator_method, method_after_key};
 pub use patterns::initialized;
+pub use readers::Here;

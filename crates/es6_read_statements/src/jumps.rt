@@ -1,14 +1,15 @@
 //! Jumps, and the statement `debugger` (ECMA-262, 6th edition, 13.8 to 13.10, 13.14, 13.16).
 
-ghost use Rattle.es6_cursor.specs.Nests.{ReadsExpressions};
 ghost use Rattle.es6_cursor.specs.Readers.{inner};
 ghost use Rattle.es6_cursor.specs.Reads.{ReadsAs};
+ghost use Rattle.es6_read_parts.specs.Handed.{HasOuterExpressions};
 ghost use Rattle.es6_reading.specs.Statements.{break_statement, continue_statement, debugger_statement, return_statement, returned, throw_statement};
-ghost use Rattle.std.specs.Prelude.{◌+◌, ◌<◌};
+ghost use Rattle.std.specs.Prelude.{◌<◌};
 
-use crate::sequence::sequence;
+use crate::readers::Statements;
 use es6_cursor::{Cursor, Flags, Halt, Nested};
 use es6_makers::{MakesExpressionStatements, MakesOptionals, MakesReturns, MakesSimpleStatements};
+use es6_read_parts::Here;
 
 /// What follows the word `continue` (13.8).
 #[tactic(auto, using(es6_cursor::proofs::Rules::statements), unfolding(es6_reading::specs::Statements::continue_statement))]
@@ -40,70 +41,73 @@ pub fn break_statement<G: MakesSimpleStatements>(
     Ok(G::break_statement(cursor.span_from(begin), label))
 }
 
-/// The value of a `return`, if it has one.
-#[tactic(auto, using(es6_cursor::proofs::Rules::groups), unfolding(es6_reading::specs::Statements::returned))]
-fn returned<G: MakesOptionals, E: Fn(&mut Cursor, u16, Flags, Nested) -> Result<G::Reading, Halt>>(
-    cursor: &mut Cursor,
-    room: u16,
-    flags: Flags,
-    expression: &E,
-) -> Result<G::Optional, Halt>
-    requires below { room < 65535 }
-    requires expressions { ReadsExpressions G.seen (room + 1) (E.pre expression.now) (E.post expression.now) }
-    ensures { ReadsAs G.seen_optional (returned (inner room) flags cursor.old) result cursor.new }
-{
-    if cursor.next_goes_on() {
-        let value = sequence::<G, E>(cursor, room, flags.with_in(), expression)?;
-        return Ok(G::present(value));
+impl<
+    G: MakesOptionals,
+    E: Fn(&mut Cursor, u16, Flags, Nested) -> Result<G::Reading, Halt>,
+    S,
+> Statements<'_, G, E, S> {
+    /// The value of a `return`, if it has one.
+    #[tactic(auto, using(es6_cursor::proofs::Rules::groups), unfolding(es6_reading::specs::Statements::returned))]
+    fn returned(&self, cursor: &mut Cursor) -> Result<G::Optional, Halt>
+        requires below { self.now.here.room < 65535 }
+        requires expressions { HasOuterExpressions G.seen E.pre E.post self.now.here }
+        ensures { ReadsAs G.seen_optional (returned (inner self.now.here.room) self.now.here.flags cursor.old) result cursor.new }
+    {
+        if cursor.next_goes_on() {
+            let here = Here {
+                flags: self.here.flags.with_in(),
+                ..self.here
+            };
+            let value = Statements { here }.sequence(cursor)?;
+            return Ok(G::present(value));
+        }
+        Ok(G::absent())
     }
-    Ok(G::absent())
 }
 
-/// What follows the word `return` (13.10).
-#[tactic(auto, using(es6_cursor::proofs::Rules::statements), unfolding(es6_reading::specs::Statements::return_statement))]
-#[inline(never)]
-pub fn return_statement<
+impl<
     G: MakesReturns,
     E: Fn(&mut Cursor, u16, Flags, Nested) -> Result<G::Reading, Halt>,
->(
-    cursor: &mut Cursor,
-    room: u16,
-    flags: Flags,
-    begin: u32,
-    expression: &E,
-) -> Result<G::Statement, Halt>
-    requires below { room < 65535 }
-    requires expressions { ReadsExpressions G.seen (room + 1) (E.pre expression.now) (E.post expression.now) }
-    ensures { ReadsAs G.seen_statement (return_statement (inner room) flags begin cursor.old) result cursor.new }
-{
-    let value = returned::<G, E>(cursor, room, flags, expression)?;
-    cursor.semicolon()?;
-    Ok(G::return_statement(cursor.span_from(begin), value))
+    S,
+> Statements<'_, G, E, S> {
+    /// What follows the word `return` (13.10).
+    #[tactic(auto, using(es6_cursor::proofs::Rules::statements), unfolding(es6_reading::specs::Statements::return_statement))]
+    #[inline(never)]
+    pub fn return_statement(&self, cursor: &mut Cursor, begin: u32) -> Result<G::Statement, Halt>
+        requires below { self.now.here.room < 65535 }
+        requires expressions { HasOuterExpressions G.seen E.pre E.post self.now.here }
+        ensures { ReadsAs G.seen_statement (return_statement (inner self.now.here.room) self.now.here.flags begin cursor.old) result cursor.new }
+    {
+        let value = self.returned(cursor)?;
+        cursor.semicolon()?;
+        Ok(G::return_statement(cursor.span_from(begin), value))
+    }
 }
 
-/// What follows the word `throw`, on its line (13.14).
-#[tactic(auto, using(es6_cursor::proofs::Rules::statements), unfolding(es6_reading::specs::Statements::throw_statement, es6_reading::specs::Parser::refused))]
-#[inline(never)]
-pub fn throw_statement<
+impl<
     G: MakesExpressionStatements,
     E: Fn(&mut Cursor, u16, Flags, Nested) -> Result<G::Reading, Halt>,
->(
-    cursor: &mut Cursor,
-    room: u16,
-    flags: Flags,
-    begin: u32,
-    expression: &E,
-) -> Result<G::Statement, Halt>
-    requires below { room < 65535 }
-    requires expressions { ReadsExpressions G.seen (room + 1) (E.pre expression.now) (E.post expression.now) }
-    ensures { ReadsAs G.seen_statement (throw_statement (inner room) flags begin cursor.old) result cursor.new }
-{
-    if cursor.next_begins_line() {
-        return Err(Halt::Stopped(cursor.refused()));
+    S,
+> Statements<'_, G, E, S> {
+    /// What follows the word `throw`, on its line (13.14).
+    #[tactic(auto, using(es6_cursor::proofs::Rules::statements), unfolding(es6_reading::specs::Statements::throw_statement, es6_reading::specs::Parser::refused))]
+    #[inline(never)]
+    pub fn throw_statement(&self, cursor: &mut Cursor, begin: u32) -> Result<G::Statement, Halt>
+        requires below { self.now.here.room < 65535 }
+        requires expressions { HasOuterExpressions G.seen E.pre E.post self.now.here }
+        ensures { ReadsAs G.seen_statement (throw_statement (inner self.now.here.room) self.now.here.flags begin cursor.old) result cursor.new }
+    {
+        if cursor.next_begins_line() {
+            return Err(Halt::Stopped(cursor.refused()));
+        }
+        let here = Here {
+            flags: self.here.flags.with_in(),
+            ..self.here
+        };
+        let value = Statements { here }.sequence(cursor)?;
+        cursor.semicolon()?;
+        Ok(G::throw(cursor.span_from(begin), value))
     }
-    let value = sequence::<G, E>(cursor, room, flags.with_in(), expression)?;
-    cursor.semicolon()?;
-    Ok(G::throw(cursor.span_from(begin), value))
 }
 
 /// What follows the word `debugger` (13.16).

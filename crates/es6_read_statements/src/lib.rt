@@ -7,15 +7,14 @@
 #![tactic(auto)]
 
 mod cases;
+mod choice;
 mod conditions;
 mod declarations;
 mod handlers;
 mod jumps;
 mod loops;
+mod readers;
 mod sequence;
-mod statements;
 mod variables;
 
-pub use declarations::{class_declaration, function_declaration};
-pub use statements::statement;
-pub use variables::variables_statement;
+pub use readers::Statements;

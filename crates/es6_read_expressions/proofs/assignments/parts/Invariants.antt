@@ -1,7 +1,0 @@
-use Rattle.std.proofs.Common.{◌≡◌, ◌-◌}
-use Rattle.es6_reading.specs.Expressions.{parts}
-use Rattle.es6_cursor.specs.Readers.{inner, turns, before}
-use Rattle.es6_read_expressions.proofs.assignments.parts.Given as goal
-
-abbrev pub invariant-loop-turn : goal.invariant-loop-turn
-invariant-loop-turn g l = parts (inner l.room) l.flags (inner l.room).fuel l.initial.cursor ≡ before (g.G.MakesGroups.seen_expressions l.list) (parts (inner l.room) l.flags (turns - l.turn) l.cursor)

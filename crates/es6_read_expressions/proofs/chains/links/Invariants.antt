@@ -1,7 +1,0 @@
-use Rattle.std.proofs.Common.{◌≡◌, ◌-◌}
-use Rattle.es6_reading.specs.Expressions.{links}
-use Rattle.es6_cursor.specs.Readers.{inner, turns, before}
-use Rattle.es6_read_expressions.proofs.chains.links.Given as goal
-
-abbrev pub invariant-loop-turn : goal.invariant-loop-turn
-invariant-loop-turn g l = links (inner l.room) l.flags l.calls (inner l.room).fuel l.initial.cursor ≡ before (g.G.MakesLinks.seen_links l.list) (links (inner l.room) l.flags l.calls (turns - l.turn) l.cursor)

@@ -1,8 +1,0 @@
-use Rattle.std.proofs.Common.{◌≡◌, ◌-◌}
-use Rattle.es6_reading.specs.Expressions.{elements}
-use Rattle.es6_read_expressions.specs.Lists.{before_listing}
-use Rattle.es6_cursor.specs.Readers.{inner, turns}
-use Rattle.es6_read_expressions.proofs.lists.elements.Given as goal
-
-abbrev pub invariant-loop-turn : goal.invariant-loop-turn
-invariant-loop-turn g l = elements (inner l.room) l.flags (inner l.room).fuel l.initial.cursor ≡ before_listing (g.G.MakesElements.seen_elements l.list) (elements (inner l.room) l.flags (turns - l.turn) l.cursor)

@@ -1,7 +1,0 @@
-use Rattle.std.proofs.Common.{◌≡◌, ◌-◌}
-use Rattle.es6_reading.specs.Parts.{template_parts}
-use Rattle.es6_cursor.specs.Readers.{inner, turns, before}
-use Rattle.es6_read_expressions.proofs.template_parts.template_parts.Given as goal
-
-abbrev pub invariant-loop-turn : goal.invariant-loop-turn
-invariant-loop-turn g l = template_parts (inner l.room) l.flags (inner l.room).fuel l.initial.cursor ≡ before (g.G.MakesTemplates.seen_template_parts l.list) (template_parts (inner l.room) l.flags (turns - l.turn) l.cursor)

@@ -1,0 +1,10 @@
+pub mod Composed
+pub mod Elements
+pub mod Follows
+pub mod Groups
+pub mod HeldParts
+pub mod Inside
+pub mod Links
+pub mod PropertyLists
+pub mod Shorthands
+pub mod TemplateLists

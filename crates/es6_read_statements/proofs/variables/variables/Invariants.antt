@@ -1,8 +1,0 @@
-use Rattle.std.proofs.Common.{◌≡◌, ◌-◌, true}
-use Rattle.es6_reading.specs.Parts.{initialized}
-use Rattle.es6_reading.specs.Statements.{variables}
-use Rattle.es6_cursor.specs.Readers.{inner, turns, before}
-use Rattle.es6_read_statements.proofs.variables.variables.Given as goal
-
-abbrev pub invariant-loop-turn : goal.invariant-loop-turn
-invariant-loop-turn g l = variables (initialized (inner l.room) l.flags l.flags) (inner l.room).fuel l.initial.cursor ≡ before (g.G.MakesVariables.seen_parts l.list) (variables (initialized (inner l.room) l.flags l.flags) (turns - l.turn) l.cursor)
