@@ -15,11 +15,12 @@ const peer = (text) => {
   try { return { tree: acorn.parse(text, { ecmaVersion: 5, preserveParens: true }) }; } catch (error) { return { message: error.message.replace(/ \(\d+:\d+\)$/, ''), at: Buffer.byteLength(text.slice(0, error.pos)) }; }
 };
 
-// what the program answers to each text
-function answers(texts) {
+// what the program answers to each text, on a stack of so many KiB where that is given
+function answers(texts, stack) {
   const input = [];
   for (const text of texts) { const bytes = Buffer.from(text); input.push(Buffer.from(bytes.length + '\n'), bytes); }
-  const run = spawnSync(program, { input: Buffer.concat(input), maxBuffer: 1 << 30 });
+  const limited = stack ? ['sh', ['-c', 'ulimit -s ' + stack + '; exec "$0"', program]] : [program, []];
+  const run = spawnSync(...limited, { input: Buffer.concat(input), maxBuffer: 1 << 30 });
   if (run.status !== 0) throw new Error('the program ended with ' + (run.status || run.signal) + ': ' + run.stderr);
   const out = run.stdout, list = [];
   for (let at = 0; at < out.length;) {
@@ -162,13 +163,18 @@ function compiled(engine, texts) {
   fs.rmSync(folder, { recursive: true });
 }
 
-// 2,048 constructs may be open at once.
+// 2,048 constructs may be open at once, of each kind, on a stack of 4 MiB.
 function depths() {
-  const nested = ([begin, middle, end, last, each = 1], count) => directive + begin.repeat(Math.floor(count / each)) + middle + end.repeat(Math.floor(count / each)) + last;
+  const numbered = (part, count) => { let number = 0; return part.repeat(count).replace(/#/g, () => number++); };
+  const nested = ([begin, middle, end, last], count) => directive + numbered(begin, count) + middle + end.repeat(count) + last;
   const texts = [], wanted = [];
-  for (const kind of deep) for (const count of [2, 2046, 2050]) { texts.push(nested(kind, count)); wanted.push(count < 2049 ? 'script' : 'Depth5'); }
-  const list = answers(texts);
+  for (const kind of deep) {
+    const most = Math.floor(2048 / (kind[4] || 1));
+    for (const count of [1, most, most + 1]) { texts.push(nested(kind, count)); wanted.push(count <= most ? 'script' : 'Depth5'); }
+  }
+  const list = answers(texts, 4096);
   for (const [i, ours] of list.entries()) if ((ours.text !== undefined ? 'script' : ours.fault) !== wanted[i]) report('wanted ' + wanted[i], texts[i].slice(0, 60), ours);
+  console.log('scripts: ' + deep.length + ' kinds of nesting, each up to its limit and one further, on a stack of 4 MiB');
 }
 
 const random = numbers(20111219);

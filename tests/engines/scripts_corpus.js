@@ -94,8 +94,29 @@ const singles = [
 ];
 
 // constructs of one kind in one another: how a text of so many begins and ends
+// Nestings: what stands before and behind each, what stands inside all, what stands behind all, and how many constructs open at once in
+// each. A `#` is a number of its own.
 const deep = [
-  ['(', 'a', ')', ';'], ['[', '', ']', ';'], ['f(', 'a', ')', ';'], ['a[', '0', ']', ';'], ['- ', 'a', '', ';'], ['new ', 'a', '', ';'], ['a = ', 'a', '', ';'], ['a ? ', 'a', ' : a', ';'], ['a ? a : ', 'a', '', ';'], ['{', '', '}', ''], ['if (a) ', ';', '', ''], ['while (a) ', ';', '', ''], ['do ', ';', ' while (a);', ''], ['for (;;) ', ';', '', ''], ['a = {b: ', '1', '}', ';', 2], ['a = function () {', '', '}', ';', 2],
+  // brackets, literals, members, calls
+  ['(', 'a', ')', ';'], ['[', '', ']', ';'], ['[,', '', ',]', ';'], ['a[', '0', ']', ';'], ['a.b[', '0', ']', ';'], ['f(', 'a', ')', ';'], ['f(0, ', 'a', ', 1)', ';'],
+  ['new a(', 'a', ')', ';'], ['new (', 'a', ')()', ';', 2], ['new ', 'a', '', ';'], ['(', 'a', ').b', ';'], ['(', 'a', ')()', ';'], ['(', 'a', ', b)', ';'], ['(a, ', 'a', ')', ';'],
+  ['[{b: ', '1', '}]', ';', 2], ['f({b: ', '1', '})', ';', 2], ['({b: ', '1', '})', ';', 2], ['a = {b: ', '1', '}', ';', 2],
+  // operators
+  ['- ', 'a', '', ';'], ['! ', 'a', '', ';'], ['typeof ', 'a', '', ';'], ['delete ', 'a.b', '', ';'], ['void ', 'a', '', ';'], ['++ a[', '0', ']', ';', 2],
+  ['(', 'a', ' + a)', ';'], ['(a * ', 'a', ')', ';'], ['(a || a && a | a ^ a & a == a < a << a + a * ', 'a', ')', ';'],
+  ['a = ', 'a', '', ';'], ['a.b += ', 'a', '', ';'], ['a ? ', 'a', ' : a', ';'], ['a ? a : ', 'a', '', ';'], ['(a ? ', 'a', ' : a)', ';', 2],
+  // functions
+  ['a = function () {', '', '}', ';', 2], ['function f() {', '', '}', ''], ['function f() {return ', '0', '}', ''], ['throw function () {', '', '}', ''], ['a, function () {', '', '}', ';'], ['a + function () {', '', '}', ';'],
+  ['f(function () {', '', '})', ';', 2], ['(function () {', '', '})()', ';', 2], ['new a(function () {', '', '})', ';', 2], ['[function () {', '', '}]', ';', 2], ['a[function () {', '', '}]', ';', 2], ['! function () {', '', '}', ';', 2],
+  ['var a = function () {', '', '}', ';', 2], ['throw {get a() {', '', '}}', '', 2], ['throw {set a(b) {', '', '}}', '', 2], ['throw {a: function () {', '', '}}', '', 2], ['throw function f(a) {', '', '}', ''],
+  // statements
+  ['{', '', '}', ''], ['if (a) ', ';', '', ''], ['if (a) {} else {', '', '}', '', 2], ['if (a) ; else if (a) {', '', '}', '', 2], ['if (a) ; else while (a) ', ';', '', '', 2],
+  ['while (a) ', ';', '', ''], ['do ', ';', ' while (a);', ''], ['for (;;) ', ';', '', ''], ['for (var a, b; a; a++) ', ';', '', ''], ['for (a; a; a) ', ';', '', ''], ['l#: ', ';', '', ''],
+  ['try {', '', '} catch (e) {}', ''], ['try {} catch (e) {', '', '}', ''], ['try {', '', '} finally {}', ''], ['try {} finally {', '', '}', ''], ['try {} catch (e) {} finally {', '', '}', ''],
+  ['switch (a) {case 0: ', '', '}', ''], ['switch (a) {default: ', '', '}', ''], ['switch (a) {case 0: ; default: ', '', ' case 1:}', ''],
+  // functions in the heads of statements
+  ['if (function () {', '', '}) ;', '', 2], ['while (function () {', '', '}) ;', '', 2], ['do ; while (function () {', '', '});', '', 2], ['for (a = function () {', '', '};;) ;', '', 3], ['for (; function () {', '', '};) ;', '', 2], ['for (;; function () {', '', '}) ;', '', 2],
+  ['for (var a = function () {', '', '};;) ;', '', 3], ['switch (function () {', '', '}) {}', '', 2], ['switch (a) {case function () {', '', '}:}', '', 2],
 ];
 
 module.exports = { numbers, wholes, edits, singles, deep, spaced, tokensOf, directive };

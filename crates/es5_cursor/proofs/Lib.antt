@@ -1,4 +1,11 @@
-pub mod Marks
 pub mod Choices
-pub mod Tables
+pub mod Endings
 pub mod Ends
+pub mod Groups
+pub mod Loops
+pub mod Marks
+pub mod Nests
+pub mod Parameters
+pub mod Rooms
+pub mod Rules
+pub mod Tables

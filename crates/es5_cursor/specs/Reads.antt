@@ -27,3 +27,13 @@ Reads outcome (Err halt) c = Halts outcome halt c.tokens
 abbrev pub Skips : {A : Type 0} → Outcome5 A → Result (Unit {0}) Halt → Input5 → Type 0
 Skips {A = A} outcome (Ok x) c = (y : A) × (outcome ≡ Took y c)
 Skips outcome (Err halt) c = Halts outcome halt c.tokens
+
+-- the same where the model has what is made of the answer
+abbrev pub ReadsAs : {A B : Type 0} → (A → B) → Outcome5 B → Result A Halt → Input5 → Type 0
+ReadsAs made outcome (Ok x) c = outcome ≡ Took (made x) c
+ReadsAs made outcome (Err halt) c = Halts outcome halt c.tokens
+
+-- the same of a reader that puts what it reads into a list
+abbrev pub ReadsInto : {A : Type 0} → Outcome5 (List A) → Result (Unit {0}) Halt → List A → Input5 → Type 0
+ReadsInto outcome (Ok x) list c = outcome ≡ Took list c
+ReadsInto outcome (Err halt) list c = Halts outcome halt c.tokens

@@ -90,6 +90,7 @@ impl<'a> Cursor<'a> {
     }
 
     /// Whether the next token is the word.
+    #[inline(never)]
     pub fn next_is_word(&self, name: &[u8]) -> bool
         ensures { result ≡ next_is (next_word name.now) self.now.tokens }
     {
@@ -139,6 +140,7 @@ impl<'a> Cursor<'a> {
     }
 
     /// Takes the next token if it is the word.
+    #[inline(never)]
     pub fn take_word(&mut self, name: &[u8]) -> bool
         ensures { Takes (next_word name.now) self.old result self.new }
     {
@@ -160,6 +162,7 @@ impl<'a> Cursor<'a> {
     }
 
     /// Takes the mark.
+    #[inline(never)]
     pub fn expect_mark(&mut self, punctuator: Punctuator) -> Result<(), Halt>
         ensures { Skips (take_as (mark (spelling punctuator)) self.old) result self.new }
     {
@@ -171,6 +174,7 @@ impl<'a> Cursor<'a> {
     }
 
     /// Takes the word.
+    #[inline(never)]
     pub fn expect_word(&mut self, name: &[u8]) -> Result<(), Halt>
         ensures { Skips (take_as (word name.now) self.old) result self.new }
     {
@@ -215,6 +219,7 @@ impl<'a> Cursor<'a> {
     }
 
     /// Takes an identifier, if one is next (7.6).
+    #[inline(never)]
     pub fn take_free_name(&mut self) -> Result<Option<Name>, AllocError>
         ensures { IfOk result (λ answer. TakesAs free_name self.old answer self.new) }
     {
@@ -227,6 +232,7 @@ impl<'a> Cursor<'a> {
     }
 
     /// Takes an identifier (7.6).
+    #[inline(never)]
     pub fn expect_free_name(&mut self) -> Result<Name, Halt>
         ensures { Reads (take_as free_name self.old) result self.new }
     {
@@ -249,6 +255,7 @@ impl<'a> Cursor<'a> {
     }
 
     /// Takes an identifier or a reserved word (7.6).
+    #[inline(never)]
     pub fn expect_any_name(&mut self) -> Result<Name, Halt>
         ensures { Reads (take_as any_name self.old) result self.new }
     {
@@ -271,6 +278,7 @@ impl<'a> Cursor<'a> {
     }
 
     /// Takes the name of a property (11.1.5).
+    #[inline(never)]
     pub fn expect_key(&mut self) -> Result<Key5, Halt>
         ensures { Reads (take_as key_at self.old) result self.new }
     {
@@ -281,6 +289,7 @@ impl<'a> Cursor<'a> {
     }
 
     /// Takes a literal, if one is next (7.8).
+    #[inline(never)]
     pub fn take_literal(&mut self) -> Result<Option<Literal5>, AllocError>
         ensures { IfOk result (λ answer. TakesAs literal_at self.old answer self.new) }
     {

@@ -82,6 +82,7 @@ impl Finder {
     }
 
     #[cycle(walk)]
+    #[inline(never)]
     fn expressions(&mut self, expressions: &[Expr5], inside: bool) -> Result<(), AllocError>
         ensures { OnOk result (self.new ≡ least_with self.old (joined (λ x. x.pairs inside) (map found expressions.now))) }
     {
@@ -92,6 +93,7 @@ impl Finder {
     }
 
     #[cycle(walk)]
+    #[inline(never)]
     fn elements(&mut self, elements: &[Element5], inside: bool) -> Result<(), AllocError>
         ensures { OnOk result (self.new ≡ least_with self.old (joined (λ e. e inside) (map element_pairs elements.now))) }
     {
@@ -112,6 +114,7 @@ impl Finder {
     }
 
     #[cycle(walk)]
+    #[inline(never)]
     fn links(&mut self, links: &[Link5], inside: bool) -> Result<(), AllocError>
         ensures { OnOk result (self.new ≡ least_with self.old (joined (λ l. l.1 inside) (map linked links.now))) }
     {
@@ -133,6 +136,7 @@ impl Finder {
     }
 
     #[cycle(walk)]
+    #[inline(never)]
     fn operands(&mut self, operands: &[Operand5], inside: bool) -> Result<(), AllocError>
         ensures { OnOk result (self.new ≡ least_with self.old (joined (λ o. o inside) (map operand_pairs operands.now))) }
     {
@@ -144,6 +148,7 @@ impl Finder {
 
     /// Properties, with F4 at a name that clashes with an earlier one (11.1.5).
     #[cycle(walk)]
+    #[inline(never)]
     fn properties(&mut self, properties: &[Property5], inside: bool) -> Result<(), AllocError>
         ensures { OnOk result (self.new ≡ least_with self.old (property_pairs [] (map held properties.now) inside)) }
     {
@@ -155,6 +160,7 @@ impl Finder {
     }
 
     #[cycle(walk)]
+    #[inline(never)]
     fn property(
         &mut self,
         property: &Property5,
@@ -181,6 +187,7 @@ impl Finder {
     }
 
     /// The name of a property that is read, as data and getters are, or written, as data and setters are.
+    #[inline(never)]
     fn key(
         &mut self,
         key: &PlacedKey5,
@@ -202,6 +209,7 @@ impl Finder {
 
     /// A function, in which no label or loop round it counts (13.1).
     #[cycle(walk)]
+    #[inline(never)]
     pub(crate) fn function(&mut self, function: &Function5) -> Result<(), AllocError>
         ensures { OnOk result (self.new ≡ least_with self.old (whole function.now).pairs) }
     {
@@ -214,6 +222,7 @@ impl Finder {
     }
 
     /// Parameters, with F1 at a name that stands before (13.1).
+    #[inline(never)]
     fn parameters(&mut self, parameters: &[Identifier5]) -> Result<(), AllocError>
         ensures { OnOk result (self.new ≡ least_with self.old (parameter_pairs [] parameters.now)) }
     {

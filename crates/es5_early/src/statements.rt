@@ -110,6 +110,7 @@ impl Finder {
 
     /// The statement under a loop, whose labels are those directly before it (12.6, 12.12).
     #[cycle(walk)]
+    #[inline(never)]
     fn loop_body(
         &mut self,
         body: &Stat5,
@@ -127,6 +128,7 @@ impl Finder {
 
     /// A statement behind a label, with F6 where the label is round it already (12.12).
     #[cycle(walk)]
+    #[inline(never)]
     fn labelled(
         &mut self,
         label: &Identifier5,
@@ -151,6 +153,7 @@ impl Finder {
     }
 
     /// F7 at a `break` or `continue`, of which these are the labels, or which may stand there without one (12.7, 12.8).
+    #[inline(never)]
     fn jump(
         &mut self,
         label: &Option<Identifier5>,
@@ -183,6 +186,7 @@ impl Finder {
     }
 
     #[cycle(walk)]
+    #[inline(never)]
     fn conditions(
         &mut self,
         conditions: &[Condition5],
@@ -199,6 +203,7 @@ impl Finder {
     }
 
     #[cycle(walk)]
+    #[inline(never)]
     fn condition(
         &mut self,
         condition: &Condition5,
@@ -213,6 +218,7 @@ impl Finder {
     }
 
     #[cycle(walk)]
+    #[inline(never)]
     fn cases(
         &mut self,
         cases: &[Case5],
@@ -289,6 +295,7 @@ impl Finder {
     }
 
     #[cycle(walk)]
+    #[inline(never)]
     fn for_first(
         &mut self,
         first: &ForFirst5,
@@ -305,6 +312,7 @@ impl Finder {
     }
 
     #[cycle(walk)]
+    #[inline(never)]
     fn declarations(&mut self, declared: &[Declared5], inside: bool) -> Result<(), AllocError>
         ensures { OnOk result (self.new ≡ least_with self.old (joined (λ d. d inside) (map declared_pairs declared.now))) }
     {

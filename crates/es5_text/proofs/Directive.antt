@@ -8,7 +8,7 @@ use Rattle.es5_ast.specs.Depth.{most_open}
 use Rattle.es5_reading.specs.Programs.{readers, program, is_directive, continues, second_fault, directive_fault, unless_fault, script}
 use Rattle.es5_cursor.specs.Takes.{passed}
 use Rattle.es5_text.specs.Directive.{continues_behind}
-use Rattle.es5_text.specs.Readers.{turns, inner}
+use Rattle.es5_cursor.specs.Readers.{turns, inner}
 
 pub no_directive : (ts : List Token5) → next_is is_directive ts ≡ false → directive_fault ts ≡ Some (Outside 1, ts)
 no_directive [] h = refl

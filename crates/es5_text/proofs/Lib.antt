@@ -1,16 +1,7 @@
 pub mod Answered
 pub mod Aside
 pub mod Directive
-pub mod Endings
-pub mod Groups
 pub mod Inside
 pub mod LastToken
-pub mod Levels
-pub mod Links
-pub mod ListTurns
-pub mod Loops
 pub mod Parsed
-pub mod Rooms
-pub mod Rules
-pub mod StatementEnds
-pub mod StatementLists
+pub mod Programs

@@ -1,9 +1,6 @@
 pub mod Directive
-pub mod Endings
 pub mod Faults
-pub mod Groups
-pub mod Levels
 pub mod Parsed
-pub mod Readers
 pub mod Answer
 pub mod Read
+pub mod Tie

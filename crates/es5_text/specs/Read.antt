@@ -13,7 +13,7 @@ use Rattle.es5_text.specs.declared.fault.Fault5.{Fault5}
 use Rattle.es5_text.specs.declared.fault.Fault5.TheVariants.{Lexical5, OutOfMemory}
 use Rattle.es5_text.specs.Answer.{answer_of, of_pair}
 use Rattle.es5_text.specs.Faults.{Lexed5}
-use Rattle.es5_text.specs.Readers.{turns}
+use Rattle.es5_cursor.specs.Readers.{turns}
 
 -- the statements that the model reads of the tokens, or the fault
 abbrev pub statements_of : {bytes : List ℕ} → Lexed5 bytes → Result (List Stat5) Fault5

@@ -1,62 +1,13 @@
 //! What the next tokens are, without taking them.
 
 ghost use Rattle.std.specs.Prelude.{◌≡◌, codes, map, true};
-ghost use Rattle.es5_reading.specs.Parser.{is_insertable, next_is};
-ghost use Rattle.es5_reading.specs.Statements.{begins_line, ends_case, goes_on};
+ghost use Rattle.es5_reading.specs.Parser.{next_is};
 ghost use Rattle.es5_reading.specs.Programs.{continues, is_directive, is_text};
 ghost use Rattle.es5_text.specs.Directive.{continues_behind};
 ghost use Rattle.es5_tokens.specs.Tokens.{kind5, token5};
 
-use es5_cursor::{is_mark, is_word, operators};
+use es5_cursor::{is_mark, operators};
 use es5_tokens::{Punctuator, Token, TokenKind};
-
-/// Whether a semicolon may be inserted before these tokens (ECMA-262, 5.1 edition, 7.9.1).
-pub fn is_insertable(tokens: &[Token]) -> bool
-    ensures { result ≡ is_insertable (map token5 tokens.now) }
-{
-    match tokens.first() {
-        Some(token) => token.after_line || is_mark(&token.kind, Punctuator::RightBrace),
-        None => true,
-    }
-}
-
-/// Whether there is a next token, on a line of its own.
-pub fn begins_line(tokens: &[Token]) -> bool
-    ensures { result ≡ next_is begins_line (map token5 tokens.now) }
-{
-    match tokens.first() {
-        Some(token) => token.after_line,
-        None => false,
-    }
-}
-
-/// Whether the value of a `return` may begin with the next token (12.9).
-pub fn goes_on(tokens: &[Token]) -> bool
-    ensures { result ≡ next_is goes_on (map token5 tokens.now) }
-{
-    match tokens.first() {
-        Some(token) => {
-            !(token.after_line
-                | is_mark(&token.kind, Punctuator::Semicolon)
-                | is_mark(&token.kind, Punctuator::RightBrace))
-        }
-        None => false,
-    }
-}
-
-/// Whether the statements of a clause end before the next token (12.11).
-pub fn ends_case(tokens: &[Token]) -> bool
-    ensures { result ≡ next_is ends_case (map token5 tokens.now) }
-{
-    match tokens.first() {
-        Some(token) => {
-            is_word(&token.kind, b"case")
-                | is_word(&token.kind, b"default")
-                | is_mark(&token.kind, Punctuator::RightBrace)
-        }
-        None => false,
-    }
-}
 
 /// Whether there is a next token.
 pub fn has_next(tokens: &[Token]) -> bool

@@ -2,29 +2,12 @@
 #![tactic(auto)]
 
 mod ahead;
-mod binary;
-mod cases;
-mod chain;
-mod compound;
-mod ending;
-mod expression;
 mod fault;
-mod function;
-mod group;
-mod handlers;
 mod inner;
-mod iteration;
-mod jumps;
 mod limit;
-mod lists;
-mod names;
+mod nested;
 mod parse;
-mod primary;
 mod program;
-mod property;
-mod statement;
-mod turns;
-mod variables;
 
 pub use fault::Fault5;
 pub use parse::parse5;

@@ -8,7 +8,7 @@ ghost use Rattle.es5_text.specs.Answer.{Answers, answer_of, at_end, of_stop, of_
 ghost use Rattle.es5_text.specs.Faults.{IsFault};
 ghost use Rattle.es5_text.specs.Read.{IsRead};
 ghost use Rattle.es5_text.specs.Parsed.{IsParsed};
-ghost use Rattle.es5_text.specs.Readers.{turns};
+ghost use Rattle.es5_cursor.specs.Readers.{turns};
 ghost use Rattle.es5_tokens.specs.Tokens.{token5};
 
 use crate::fault::Fault5;

@@ -1,23 +1,39 @@
 //! Whole scripts (ECMA-262, 5.1 edition, 14).
 
-ghost use Rattle.std.specs.Prelude.{◌≡◌};
+ghost use Rattle.std.specs.Prelude.{◌≡◌, false, true};
 ghost use Rattle.es5_cursor.specs.Reads.{Reads};
+ghost use Rattle.es5_reading.specs.Statements.{statement};
 ghost use Rattle.es5_reading.specs.Programs.{program, script};
 ghost use Rattle.es5_text.specs.Directive.{Begins};
-ghost use Rattle.es5_text.specs.Readers.{inner, turns};
+ghost use Rattle.es5_cursor.specs.Readers.{inner, turns};
 
 use crate::ahead::{begins_strict, goes_on_behind, has_next};
-use crate::statement::statement;
-use crate::turns::TURNS;
+use crate::inner::{inner_statement, nested_expression};
 use es5_ast::Stat5;
-use es5_cursor::{Cursor, Halt, Stop};
-use sqlite_items::Items;
+use es5_cursor::{Cursor, Halt, Stop, TURNS};
+use es5_nodes::lists::push;
+use es5_read_statements::statement;
+use sqlite_items::{Boxed, Items};
 
 /// How many constructs may be open at one token.
 const MOST_OPEN: u16 = 2_048;
 
+/// A statement of a script, or a declaration of a function.
+fn listed(cursor: &mut Cursor, room: u16) -> Result<Boxed<Stat5>, Halt>
+    ensures { Reads (statement (inner room) false true cursor.old) result cursor.new }
+{
+    statement::<_, _>(
+        cursor,
+        room,
+        false,
+        true,
+        &nested_expression,
+        &inner_statement,
+    )
+}
+
 /// The statements up to the end.
-#[tactic(auto, using(crate::proofs::Rules::lists, crate::proofs::StatementLists::program_turn, crate::proofs::StatementLists::program_more), unfolding(es5_reading::specs::Programs::program))]
+#[tactic(auto, using(es5_cursor::proofs::Rules::lists, crate::proofs::Programs::program_turn, crate::proofs::Programs::program_more), unfolding(es5_reading::specs::Programs::program))]
 fn program(cursor: &mut Cursor, room: u16) -> Result<Items<Stat5>, Halt>
     ensures { Reads (program (inner room) (inner room).fuel cursor.old) result cursor.new }
 {
@@ -26,7 +42,7 @@ fn program(cursor: &mut Cursor, room: u16) -> Result<Items<Stat5>, Halt>
         if !has_next(cursor.rest()) {
             return Ok(list);
         }
-        list.push(statement(cursor, room, false, true)?)?;
+        push(&mut list, listed(cursor, room)?)?;
     }
     Err(Halt::Stopped(Stop::Endless))
 }

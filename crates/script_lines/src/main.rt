@@ -6,6 +6,7 @@ use es5_printer::print5;
 use es5_text::{Fault5, parse5};
 use std::alloc::{AllocError, Global};
 use std::io::{self, BufReader, BufWriter, Read, Write};
+use std::mem::forget;
 
 /// The most bytes of a script.
 const LIMIT: usize = 67_108_864;
@@ -41,6 +42,8 @@ fn printed(alloc: Global, text: &[u8]) -> Result<Result<Vec<u8>, Fault5>, AllocE
     match parse5(alloc, text) {
         Ok(script) => {
             let (bytes, _marks) = print5(alloc, &script)?;
+            // To let it go would take a deeper stack than to read it.
+            forget(script);
             Ok(Ok(bytes))
         }
         Err(fault) => Ok(Err(fault)),

@@ -1,7 +1,7 @@
 use Rattle.std.proofs.Common.{◌∙◌, sym, ap, true, arith}
 use Rattle.es5_reading.specs.Parser.{next_is}
-use Rattle.es5_text.proofs.StatementEnds.{program_end}
-use Rattle.es5_text.proofs.Loops.{turns_is}
+use Rattle.es5_text.proofs.Programs.{program_end}
+use Rattle.es5_cursor.proofs.Loops.{turns_is}
 use Rattle.es5_text.proofs.program.program.Goals as goal
 
 pub returns-then-not-has_next : goal.returns-then-not-has_next

@@ -1,6 +1,6 @@
 use Rattle.std.proofs.Common.{◌≡◌, ◌-◌}
 use Rattle.es5_reading.specs.Programs.{program}
-use Rattle.es5_text.specs.Readers.{inner, turns, before}
+use Rattle.es5_cursor.specs.Readers.{inner, turns, before}
 use Rattle.es5_text.proofs.program.program.Given as goal
 
 abbrev pub invariant-loop-turn : goal.invariant-loop-turn

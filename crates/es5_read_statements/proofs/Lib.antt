@@ -1,0 +1,4 @@
+pub mod ForIn
+pub mod Inside
+pub mod StatementEnds
+pub mod StatementLists
