@@ -8,7 +8,7 @@ use Rattle.es5_tokens.specs.Tokens.{token5}
 use Rattle.es5_tokens.proofs.Widths.{width_chars}
 use Rattle.es5_text.specs.Faults.{IsFault, Lexed5}
 use Rattle.es5_text.specs.Read.{IsRefused, paired, statements_of}
-use Rattle.es5_text.specs.Readers.{turns}
+use Rattle.es5_cursor.specs.Readers.{turns}
 use Rattle.es5_text.proofs.Answered.{answer_is, answered, derived_answer, lexed_of, not_text, pair_is, refused}
 use Rattle.es5_text.proofs.Parsed.{parsed_of}
 use Rattle.es5_text.proofs.parse.parse5.Goals as goal
