@@ -161,7 +161,6 @@ fn files_are_missing_or_too_long(rt: HostRuntime) -> Result<(), Fail> {
 fn words_are_no_command(rt: HostRuntime) -> Result<(), Fail> {
     let alloc = rt.alloc();
     for words in [
-        [].as_slice(),
         ["build"].as_slice(),
         ["run"].as_slice(),
         ["run", "--steps=0", "main.js"].as_slice(),
