@@ -1,18 +1,18 @@
 -- By induction over the tree, each node that fits is made of pieces.
-use Rattle.std.proofs.Common.{◌≡◌, sym, subst}
-use Rattle.es5_ast.specs.declared.tree.Element5.{Element5, roll-Element5}
-use Rattle.es5_ast.specs.declared.tree.Expr5.{Expr5, roll-Expr5}
-use Rattle.es5_ast.specs.declared.tree.ForFirst5.{ForFirst5, roll-ForFirst5}
-use Rattle.es5_ast.specs.declared.tree.Link5.{Link5, roll-Link5}
-use Rattle.es5_ast.specs.declared.tree.Property5.{Property5, roll-Property5}
+use Rattle.std.proofs.Common.{sym, subst}
+use Rattle.es5_ast.specs.declared.tree.Element5.{roll-Element5}
+use Rattle.es5_ast.specs.declared.tree.Expr5.{roll-Expr5}
+use Rattle.es5_ast.specs.declared.tree.ForFirst5.{roll-ForFirst5}
+use Rattle.es5_ast.specs.declared.tree.Link5.{roll-Link5}
+use Rattle.es5_ast.specs.declared.tree.Property5.{roll-Property5}
 use Rattle.es5_ast.specs.declared.tree.Stat5.{Stat5, roll-Stat5, ind-Stat5}
-use Rattle.es5_ast.specs.declared.tree.Block5.{Block5, roll-Block5}
-use Rattle.es5_ast.specs.declared.tree.Case5.{Case5, roll-Case5}
-use Rattle.es5_ast.specs.declared.tree.Catch5.{Catch5, roll-Catch5}
-use Rattle.es5_ast.specs.declared.tree.Condition5.{Condition5, roll-Condition5}
-use Rattle.es5_ast.specs.declared.tree.Declared5.{Declared5, roll-Declared5}
-use Rattle.es5_ast.specs.declared.tree.Function5.{Function5, roll-Function5}
-use Rattle.es5_ast.specs.declared.tree.Operand5.{Operand5, roll-Operand5}
+use Rattle.es5_ast.specs.declared.tree.Block5.{roll-Block5}
+use Rattle.es5_ast.specs.declared.tree.Case5.{roll-Case5}
+use Rattle.es5_ast.specs.declared.tree.Catch5.{roll-Catch5}
+use Rattle.es5_ast.specs.declared.tree.Condition5.{roll-Condition5}
+use Rattle.es5_ast.specs.declared.tree.Declared5.{roll-Declared5}
+use Rattle.es5_ast.specs.declared.tree.Function5.{roll-Function5}
+use Rattle.es5_ast.specs.declared.tree.Operand5.{roll-Operand5}
 use Rattle.es5_ast.specs.declared.tree.Element5.TheOpen.{Element5-F, Expr5-F, ForFirst5-F, Link5-F, Property5-F, Stat5-F, Block5-F, Case5-F, Catch5-F, Condition5-F, Declared5-F, Function5-F, Operand5-F}
 use Rattle.es5_printable.proofs.Shapes.{ElementOf, OfElement, ExprOf, OfExpr, ForFirstOf, OfForFirst, LinkOf, OfLink, PropertyOf, OfProperty, StatOf, OfStat, BlockOf, OfBlock, CaseOf, OfCase, CatchOf, OfCatch, ConditionOf, OfCondition, DeclaredOf, OfDeclared, FunctionOf, OfFunction, OperandOf, OfOperand, grouped}
 use Rattle.es5_printable.proofs.Layers.{Shown, bare_element, element-roll, bare_expr, expr-roll, bare_for_first, for_first-roll, bare_link, link-roll, bare_property, property-roll, bare_stat, stat-roll, bare_block, block-roll, bare_case, case-roll, bare_catch, catch-roll, bare_condition, condition-roll, bare_declared, declared-roll, bare_function, function-roll, bare_operand, operand-roll}

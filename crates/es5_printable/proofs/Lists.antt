@@ -1,18 +1,17 @@
 -- Lists of nodes, each with what is shown of it.
-use Rattle.std.proofs.Common.{◌≡◌, ℕ, ◌+◌, ◌≤◌, Bool, true, false, ◌&&◌, ◌||◌, not, ◌==◌, List, [], ◌∷◌, ◌++◌, length, map, Option, Some, None, refl, sym, ap, subst, ◌∙◌, arith}
+use Rattle.std.proofs.Common.{◌≡◌, ℕ, ◌+◌, Bool, true, false, ◌&&◌, ◌||◌, not, ◌==◌, List, [], ◌∷◌, length, map, Option, Some, None, refl, sym, ap, ◌∙◌}
 use Rattle.std.specs.Prelude.{codes}
 use Rattle.std.specs.Option.{option_map}
 use Rattle.std.specs.List.{list_all}
 use Rattle.std.proofs.lemmas.Bool.{false≢true, and_parts, eqb-true}
 use Rattle.es5_ast.specs.declared.tree.Identifier5.{Identifier5}
-use Rattle.es5_ast.specs.declared.tree.Stat5.{Stat5}
 use Rattle.es5_ast.specs.Lexical.{Word, is_identifier_name}
 use Rattle.es5_ast.specs.Grammar as g
 use Rattle.es5_ast.specs.Grammar.{Aside, AreParameters, AreElements, AreProperties, AreLinks, AreArguments, AreOperands, AreParts, AreStats, AreDeclared, AreCases, AreInCase, IsIf, IsLabel, IsOptional, IsClosed, IsReturned, level_assignment, is_identifier}
-use Rattle.es5_printer.specs.Pieces.{Piece, Lexeme, word, mark}
-use Rattle.es5_printer.proofs.Tokens.{Spots, AreSpelled, sign}
-use Rattle.es5_printable.specs.Printable.{is_name, names_fit, label_fits, option_fits, every, some_every, exprs_fit, parts_fit, sites_in, stats_fit, cases_fit, if_fits, ends_open, element_fit, expr_fit, link_fit, property_fit, stat_fit, case_fit, condition_fit, declared_fit, operand_fit}
-use Rattle.es5_printable.proofs.Shapes.{toks, Made, MadeAfter, MadeClosed, NotFirst, ExprMade, LinksMade, OfElement, OfExpr, OfLink, OfProperty, OfStat, OfCase, OfCondition, OfDeclared, OfOperand, placed, identifier_made}
+use Rattle.es5_printer.specs.Pieces.{Piece, word, mark}
+use Rattle.es5_printer.proofs.Tokens.{sign}
+use Rattle.es5_printable.specs.Printable.{is_name, names_fit, label_fits, option_fits, every, some_every, exprs_fit, sites_in, stats_fit, cases_fit, if_fits, ends_open, element_fit, expr_fit, link_fit, property_fit, stat_fit, case_fit, condition_fit, declared_fit, operand_fit}
+use Rattle.es5_printable.proofs.Shapes.{Made, MadeAfter, MadeClosed, NotFirst, LinksMade, OfElement, OfExpr, OfLink, OfProperty, OfStat, OfCase, OfCondition, OfDeclared, OfOperand, placed, identifier_made}
 use Rattle.es5_printable.proofs.Layers.{With}
 
 pub not_true : (b : Bool) → not b ≡ true → b ≡ false

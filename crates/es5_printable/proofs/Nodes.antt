@@ -1,43 +1,38 @@
 -- Each node that fits is made of pieces, by what is shown of its parts.
-use Rattle.std.proofs.Common.{◌≡◌, ℕ, suc, zero, ◌+◌, ◌≤◌, ◌<◌, Bool, true, false, ◌&&◌, ◌||◌, not, nat_le, ◌==◌, List, [], ◌∷◌, ◌++◌, length, map, Option, Some, None, refl, sym, ap, subst, ◌∙◌, arith, length-append}
+use Rattle.std.proofs.Common.{◌≡◌, ℕ, suc, ◌+◌, ◌≤◌, ◌<◌, Bool, true, false, ◌&&◌, not, nat_le, ◌==◌, List, [], ◌∷◌, length, map, Option, Some, None, refl, sym, subst, arith, length-append}
 use Rattle.std.specs.Prelude.{codes, is_some}
-use Rattle.std.specs.Option.{option_map}
 use Rattle.std.specs.List.{list_all}
 use Rattle.std.proofs.lemmas.Bool.{false≢true, and_parts, leb-true, eqb-true}
 use Rattle.es_text.specs.declared.Span.{Span}
-use Rattle.es_outside.specs.declared.events.Site.{Site}
 use Rattle.es5_ast.specs.declared.operators.UpdateOperator5.{UpdateOperator5}
 use Rattle.es5_ast.specs.declared.tree.Identifier5.{Identifier5}
-use Rattle.es5_ast.specs.declared.tree.PlacedKey5.{PlacedKey5}
-use Rattle.es5_ast.specs.declared.tree.Element5.{Element5, roll-Element5}
+use Rattle.es5_ast.specs.declared.tree.Element5.{roll-Element5}
 use Rattle.es5_ast.specs.declared.tree.Element5.TheVariants as element
-use Rattle.es5_ast.specs.declared.tree.Expr5.{Expr5, roll-Expr5}
+use Rattle.es5_ast.specs.declared.tree.Expr5.{roll-Expr5}
 use Rattle.es5_ast.specs.declared.tree.Expr5.TheVariants as expr
-use Rattle.es5_ast.specs.declared.tree.ForFirst5.{ForFirst5, roll-ForFirst5}
+use Rattle.es5_ast.specs.declared.tree.ForFirst5.{roll-ForFirst5}
 use Rattle.es5_ast.specs.declared.tree.ForFirst5.TheVariants as for_first
 use Rattle.es5_ast.specs.declared.tree.Link5.{Link5, roll-Link5, out-roll-Link5}
 use Rattle.es5_ast.specs.declared.tree.Link5.TheVariants as link
-use Rattle.es5_ast.specs.declared.tree.Property5.{Property5, roll-Property5}
+use Rattle.es5_ast.specs.declared.tree.Property5.{roll-Property5}
 use Rattle.es5_ast.specs.declared.tree.Property5.TheVariants as property
-use Rattle.es5_ast.specs.declared.tree.Stat5.{Stat5, roll-Stat5}
-use Rattle.es5_ast.specs.declared.tree.Stat5.TheVariants as stat
-use Rattle.es5_ast.specs.declared.tree.Block5.{Block5, roll-Block5}
-use Rattle.es5_ast.specs.declared.tree.Case5.{Case5, roll-Case5}
-use Rattle.es5_ast.specs.declared.tree.Catch5.{Catch5, roll-Catch5}
-use Rattle.es5_ast.specs.declared.tree.Condition5.{Condition5, roll-Condition5}
-use Rattle.es5_ast.specs.declared.tree.Declared5.{Declared5, roll-Declared5}
+use Rattle.es5_ast.specs.declared.tree.Block5.{roll-Block5}
+use Rattle.es5_ast.specs.declared.tree.Case5.{roll-Case5}
+use Rattle.es5_ast.specs.declared.tree.Catch5.{roll-Catch5}
+use Rattle.es5_ast.specs.declared.tree.Condition5.{roll-Condition5}
+use Rattle.es5_ast.specs.declared.tree.Declared5.{roll-Declared5}
 use Rattle.es5_ast.specs.declared.tree.Function5.{Function5, roll-Function5}
-use Rattle.es5_ast.specs.declared.tree.Operand5.{Operand5, roll-Operand5}
+use Rattle.es5_ast.specs.declared.tree.Operand5.{roll-Operand5}
 use Rattle.es5_ast.specs.declared.tree.Element5.TheOpen as layer
 use Rattle.es5_ast.specs.declared.tree.Element5.TheOpen.{Element5-F, Expr5-F, ForFirst5-F, Link5-F, Property5-F, Stat5-F, Block5-F, Case5-F, Catch5-F, Condition5-F, Declared5-F, Function5-F, Operand5-F}
-use Rattle.es5_ast.specs.Lexical.{Word, Punctuator, is_identifier_name}
+use Rattle.es5_ast.specs.Lexical.{Word}
 use Rattle.es5_ast.specs.Grammar as g
 use Rattle.es5_ast.specs.Grammar.{Aside, AreElements, AreLinks, IsExpr, IsNode, IsFunction, IsAccessor, AreCases, AreOperands, IsStat, is_before, update_kind, unary_kind, assign_kind, binary_kind, binary_level, literal_kind, key_kind, some_site, level_sequence, level_assignment}
 use Rattle.es5_printer.specs.Pieces.{Piece, Lexeme, word, mark}
-use Rattle.es5_printer.proofs.Tokens.{Spots, AreSpelled, sign, unary_spelled, update_spelled, binary_spelled, assign_spelled, free_else, free_if}
-use Rattle.es5_printable.specs.Printable.{is_name, names_fit, label_fits, is_literal, is_key, option_fits, every, some_every, exprs_fit, parts_fit, sites_in, links_fit, operands_fit, stats_fit, cases_fit, if_fits, ends_fit, ends_open, element_fit, expr_fit, link_fit, stat_fit, block_fit, catch_fit, case_fit, condition_fit, function_fit, operand_fit, for_first_fit, declared_fit, property_fit, element_step, expr_step, for_first_step, link_step, property_step, stat_step, block_step, case_step, catch_step, condition_step, declared_step, function_step, operand_step}
-use Rattle.es5_printable.proofs.Shapes.{toks, Made, MadeAfter, MadeClosed, NotFirst, IsPlaced, ExprMade, NodeMade, LinksMade, StatMade, IsNamed, ElementOf, ExprOf, ForFirstOf, LinkOf, PropertyOf, StatOf, BlockOf, CaseOf, CatchOf, ConditionOf, DeclaredOf, FunctionOf, OperandOf, OfElement, OfExpr, OfForFirst, OfLink, OfProperty, OfStat, OfBlock, OfCase, OfCatch, OfCondition, OfDeclared, OfFunction, OfOperand, grouped, placed, literal_known, key_known, key_made, identifier_made}
-use Rattle.es5_printable.proofs.Layers.{With, Open, Shown, bare_element, fit_element, element-roll, bare_expr, fit_expr, expr-roll, bare_for_first, fit_for_first, for_first-roll, bare_link, fit_link, link-roll, bare_property, fit_property, property-roll, bare_stat, fit_stat, stat-roll, bare_block, fit_block, block-roll, bare_case, fit_case, case-roll, bare_catch, fit_catch, catch-roll, bare_condition, fit_condition, condition-roll, bare_declared, fit_declared, declared-roll, bare_function, fit_function, function-roll, bare_operand, fit_operand, operand-roll}
+use Rattle.es5_printer.proofs.Tokens.{sign, unary_spelled, update_spelled, binary_spelled, assign_spelled}
+use Rattle.es5_printable.specs.Printable.{is_name, names_fit, label_fits, is_key, exprs_fit, parts_fit, sites_in, links_fit, operands_fit, stats_fit, expr_fit, link_fit, stat_fit, block_fit, function_fit, operand_fit, element_step, expr_step, for_first_step, link_step, property_step, block_step, case_step, catch_step, condition_step, declared_step, function_step, operand_step}
+use Rattle.es5_printable.proofs.Shapes.{toks, Made, MadeAfter, NodeMade, LinksMade, IsNamed, ElementOf, ForFirstOf, PropertyOf, BlockOf, CaseOf, CatchOf, ConditionOf, DeclaredOf, FunctionOf, OperandOf, OfExpr, OfLink, OfStat, OfOperand, placed, literal_known, key_known, key_made, identifier_made}
+use Rattle.es5_printable.proofs.Layers.{With, Open, Shown, bare_element, fit_element, bare_expr, fit_expr, bare_for_first, fit_for_first, bare_link, fit_link, bare_property, fit_property, bare_block, fit_block, bare_case, fit_case, bare_catch, fit_catch, bare_condition, fit_condition, bare_declared, fit_declared, bare_function, fit_function, bare_operand, fit_operand}
 use Rattle.es5_printable.proofs.Lists as l
 use Rattle.es5_printable.proofs.Lists.{nodes, named, not_true}
 

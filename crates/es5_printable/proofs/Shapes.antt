@@ -1,5 +1,5 @@
 -- What is shown of each node that fits: before any pieces that follow, pieces exist whose tokens are the node, wherever they stand.
-use Rattle.std.proofs.Common.{◌≡◌, ℕ, ◌+◌, ◌≤◌, Bool, true, false, ◌&&◌, ◌||◌, not, List, [], ◌∷◌, ◌++◌, length, map, Option, Some, None, refl, sym, ap, subst, ◌∙◌, arith}
+use Rattle.std.proofs.Common.{◌≡◌, ℕ, ◌+◌, ◌≤◌, Bool, true, false, ◌&&◌, ◌||◌, not, List, ◌∷◌, length, Some, refl, arith}
 use Rattle.std.specs.Prelude.{codes}
 use Rattle.std.proofs.lemmas.Bool.{leb-true}
 use Rattle.es_text.specs.declared.Span.{Span}
@@ -27,7 +27,7 @@ use Rattle.es5_ast.specs.Grammar as g
 use Rattle.es5_ast.specs.Grammar.{Aside, is_word, begins, literal_kind, key_kind, is_identifier, IsIdentifier, IsKey, AreParameters, IsExpr, IsNode, AreElements, IsProperty, IsAccessor, AreLinks, AreOperands, IsFunction, IsStat, IsBlock, AreCases, IsCatch, IsCondition, IsForFirst, IsDeclared, IsLabel}
 use Rattle.es5_printer.specs.Pieces.{Piece, Lexeme, word, mark}
 use Rattle.es5_printer.proofs.Tokens.{Spots, tokens, IsSpelled, AreSpelled, sign}
-use Rattle.es5_printable.specs.Printable.{FitExpr, FitLink, FitOperand, FitFunction, FitStat, FitCase, FitCondition, is_name, names_fit, label_fits, is_integer, is_literal, is_key, element_fit, expr_fit, for_first_fit, link_fit, property_fit, stat_fit, block_fit, case_fit, catch_fit, condition_fit, declared_fit, function_fit, operand_fit}
+use Rattle.es5_printable.specs.Printable.{FitExpr, FitLink, FitOperand, FitFunction, FitStat, FitCase, FitCondition, is_literal, is_key, element_fit, expr_fit, for_first_fit, link_fit, property_fit, stat_fit, block_fit, case_fit, catch_fit, condition_fit, declared_fit, function_fit, operand_fit}
 
 abbrev pub toks : Spots → List Piece → List Token5
 toks spots ps = tokens spots false ps

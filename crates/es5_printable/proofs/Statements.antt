@@ -1,10 +1,9 @@
 -- Each statement that fits is made of pieces, by what is shown of its parts.
-use Rattle.std.proofs.Common.{◌≡◌, ℕ, Bool, true, false, ◌&&◌, ◌||◌, not, List, [], ◌∷◌, map, Option, Some, None, refl, sym, ap, subst, ◌∙◌}
+use Rattle.std.proofs.Common.{◌≡◌, Bool, true, false, ◌&&◌, List, ◌∷◌, map, Option, Some, None, refl, sym, ap, subst, ◌∙◌}
 use Rattle.std.specs.Prelude.{codes}
 use Rattle.std.specs.Option.{option_map}
 use Rattle.std.proofs.lemmas.Bool.{false≢true, and_parts}
 use Rattle.es_text.specs.declared.Span.{Span}
-use Rattle.es5_ast.specs.declared.tree.Identifier5.{Identifier5}
 use Rattle.es5_ast.specs.declared.tree.Stat5.{Stat5, roll-Stat5}
 use Rattle.es5_ast.specs.declared.tree.Stat5.TheVariants as stat
 use Rattle.es5_ast.specs.declared.tree.Element5.TheOpen as layer
@@ -13,9 +12,9 @@ use Rattle.es5_ast.specs.Lexical.{Kind5, Word, Punctuator}
 use Rattle.es5_ast.specs.Grammar as g
 use Rattle.es5_ast.specs.Grammar.{Aside, is_word, IsFunction, IsStat, level_sequence}
 use Rattle.es5_printer.specs.Pieces.{Piece, Lexeme, word, mark}
-use Rattle.es5_printer.proofs.Tokens.{IsSpelled, AreSpelled, sign, free_else, free_if}
-use Rattle.es5_printable.specs.Printable.{is_name, option_fits, cases_fit, ends_fit, expr_fit, stat_fit, block_fit, case_fit, catch_fit, function_fit, for_first_fit, stat_step}
-use Rattle.es5_printable.proofs.Shapes.{toks, Made, MadeAfter, NotFirst, StatMade, StatOf, OfExpr, OfForFirst, OfStat, OfBlock, OfCatch, placed, identifier_made}
+use Rattle.es5_printer.proofs.Tokens.{IsSpelled, sign, free_else, free_if}
+use Rattle.es5_printable.specs.Printable.{is_name, option_fits, cases_fit, expr_fit, stat_fit, block_fit, case_fit, catch_fit, function_fit, for_first_fit, stat_step}
+use Rattle.es5_printable.proofs.Shapes.{toks, MadeAfter, NotFirst, StatMade, StatOf, OfExpr, OfForFirst, OfStat, placed, identifier_made}
 use Rattle.es5_printable.proofs.Layers.{With, Shown, bare_stat, fit_stat}
 use Rattle.es5_printable.proofs.Lists as l
 use Rattle.es5_printable.proofs.Lists.{nodes, named}

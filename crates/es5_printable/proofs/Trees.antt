@@ -1,7 +1,7 @@
 -- A script is printable exactly where it may be printed.
-use Rattle.std.proofs.Common.{◌≡◌, ℕ, ◌+◌, Bool, true, false, ◌&&◌, List, [], ◌∷◌, ◌++◌, map, refl, sym, ap, subst, ◌∙◌, arith}
+use Rattle.std.proofs.Common.{◌≡◌, ◌+◌, true, false, ◌&&◌, List, [], ◌∷◌, ◌++◌, map, refl, sym, ap, subst, ◌∙◌, arith}
 use Rattle.std.specs.Prelude.{codes}
-use Rattle.std.specs.Str.{chars, IsAscii}
+use Rattle.std.specs.Str.{IsAscii}
 use Rattle.std.proofs.lemmas.Bool.{false≢true, and_parts}
 use Rattle.std.proofs.lemmas.Str.{chars-IsAscii, IsUtf8-from_ascii}
 use Rattle.std.proofs.lemmas.Slice.Eq.{bytes_eq-Decides}
@@ -12,13 +12,12 @@ use Rattle.es5_ast.specs.declared.tree.Expr5.{Expr5, roll-Expr5, out-Expr5, roll
 use Rattle.es5_ast.specs.declared.tree.Expr5.TheVariants as expr
 use Rattle.es5_ast.specs.declared.tree.Stat5.{Stat5, roll-Stat5, out-Stat5, roll-out-Stat5}
 use Rattle.es5_ast.specs.declared.tree.Stat5.TheVariants as stat
-use Rattle.es5_ast.specs.declared.tree.Script.{Script}
 use Rattle.es5_ast.specs.declared.tree.Element5.TheOpen as layer
 use Rattle.es5_ast.specs.declared.tree.Element5.TheOpen.{Expr5-F, Stat5-F}
 use Rattle.es5_ast.specs.Lexical.{Text, Token5, Tokens5}
 use Rattle.es5_ast.specs.Grammar as g
 use Rattle.es5_ast.specs.Grammar.{Aside, IsProgram}
-use Rattle.es5_ast.specs.Script.{Fills, keeps, at_end, IsStrict, SpellsAside, IsTree}
+use Rattle.es5_ast.specs.Script.{Fills, keeps, at_end, IsTree}
 use Rattle.es5_ast.specs.Early.{Pair5, script_pairs}
 use Rattle.es5_printer.specs.Pieces.{Piece, Lexeme, LineEnd, mark}
 use Rattle.es5_printer.specs.Layout.{written, blank}
