@@ -117,9 +117,16 @@ class Parser extends acorn.Parser {
     // A function behind a label is in the grammar, and an early error. Behind labels alone its name is declared (13.2.5, 13.13.6).
     if (this.type === tokTypes._function && context && /label$/.test(context)) {
       this.note([13], this.labelAt);
-      return this.parseFunctionStatement(this.startNode(), false, context === 'label');
+      return this.parseFunctionStatement(this.startNode(), false, context === 'label' && !this.isBeforeStar());
     }
     return super.parseStatement(context, topLevel, exports);
+  }
+
+  // A generator stands behind no label (13.13), which acorn finds out only of a function that isn't declared.
+  isBeforeStar() {
+    const gap = /(?:\s|\/\/.*|\/\*[^]*?\*\/)*/y;
+    gap.lastIndex = this.end;
+    return this.input[this.end + gap.exec(this.input)[0].length] === '*';
   }
   parseLabeledStatement(node, name, label, context) {
     const outer = this.labelAt;
