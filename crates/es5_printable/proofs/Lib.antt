@@ -5,3 +5,5 @@ pub mod Nodes
 pub mod Statements
 pub mod Every
 pub mod Trees
+pub mod Converse
+pub mod Printed

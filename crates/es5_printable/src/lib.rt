@@ -4,9 +4,14 @@
 //! nothing when they run. Whoever builds a script shows by them that it meets the condition of `es5_printer::print5`.
 #![tactic(auto)]
 
-ghost use Rattle.es5_printable.specs.Laws.{PrintableAreTrees};
+ghost use Rattle.es5_printable.specs.Laws.{PrintableAreTrees, TreesArePrintable};
 
 /// A script that is printable is, spans and sites aside, the tree of some text.
 pub fn printable_scripts_are_trees()
     ensures { PrintableAreTrees }
+{}
+
+/// The tree of a text is printable, whatever its spans and sites.
+pub fn trees_are_printable()
+    ensures { TreesArePrintable }
 {}
