@@ -1,0 +1,6 @@
+//! Tagged templates.
+#![tactic(auto)]
+
+mod templates;
+
+pub use templates::{lower_tagged, template_object};
