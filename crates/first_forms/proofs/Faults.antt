@@ -21,9 +21,12 @@ use Rattle.first_forms.specs.declared.reader.SumOwner.TheVariants as sum_owner
 use Rattle.first_forms.specs.declared.reader.OpenSum.{OpenSum}
 use Rattle.first_forms.specs.declared.reader.State.{State}
 use Rattle.first_forms.specs.declared.reader.State.TheVariants as state
+use Rattle.first_forms.specs.declared.reader.ReadFault.{ReadFault}
+use Rattle.first_forms.specs.declared.reader.ReadFault.TheVariants as fault
+use Rattle.first_forms.specs.Faults.{IsFault}
 use Rattle.first_forms.specs.Names.{is_one_of}
 use Rattle.first_forms.specs.Modules.{Spells, IsAlive, IsDead, StopsAt, IsClosed}
-use Rattle.first_forms.specs.Reading.{Outcome, run, step, term_at, with_term, term_step, with_argument, call_open, argument_step, first_argument, with_declaration, with_call, call_end, after_declaration, after_argument, sum_end, after_term, initializer_at, declaration_equals, declaration_name, item_at, import_open, import_name, import_next, import_from, import_host, import_end, start, module_of, with_name, is_bindable}
+use Rattle.first_forms.specs.Reading.{Outcome, run, step, term_at, with_term, term_step, with_argument, call_open, argument_step, first_argument, with_declaration, with_call, call_end, after_declaration, after_argument, sum_end, after_term, initializer_at, declaration_equals, declaration_name, item_at, import_open, import_name, import_next, import_from, import_host, import_end, start, module_of, with_name, is_bindable, ReadsTo, StopsWith}
 use Rattle.first_forms.proofs.Scopes.{test-bindable, fresh, some-left, importable-new, and_both, AllNew}
 use Rattle.first_forms.proofs.Completeness.{name-read, Reads, spelled-read}
 use Rattle.first_forms.proofs.Front.{IsKept, AtState}
@@ -196,10 +199,20 @@ stops-at hosts tokens i t r s h is e n = record {
   dead = refused-dead hosts (take i tokens) t r s e n;
 }
 
+-- where the reader stops at the i-th token, a fault stands there
+pub stop-fault : (hosts : List (List ℕ)) (tokens : List Token) (i : ℕ) (t : Token) (r : Reader) (s : State) (e : ReadFault) → i < length tokens → t ≡ get_or tokens i t
+    → run (start hosts) state.Start (take i tokens) ≡ Some (r, s) → StopsWith (step r s t) t.at e → IsFault hosts tokens e
+stop-fault hosts tokens i t r s (fault.NotBuilt stop) h is e n = subst (StopsAt hosts tokens) (sym n.0) (stops-at hosts tokens i t r s h is e n.1)
+stop-fault hosts tokens i t r s fault.OutOfMemory h is e n = tt
+
 -- where a fault stands, nothing is spelled
 pub stopped-unspelled : (hosts : List (List ℕ)) (tokens : List Token) (place : ℕ) (m : Module) → StopsAt hosts tokens place → Spells hosts tokens m → ⊥
 stopped-unspelled hosts tokens place m f s =
     f.dead f.after m (subst (λ ts. Spells hosts ts m) (f.split ∙ sym (append_assoc f.before (f.token ∷ []) f.after)) s)
+
+pub spelled-memory : (hosts : List (List ℕ)) (tokens : List Token) (m : Module) (e : ReadFault) → IsFault hosts tokens e → Spells hosts tokens m → e ≡ fault.OutOfMemory
+spelled-memory hosts tokens m (fault.NotBuilt stop) f s = absurd (stopped-unspelled hosts tokens stop m f s)
+spelled-memory hosts tokens m fault.OutOfMemory f s = refl
 
 -- one more token is read
 pub run-more : (hosts : List (List ℕ)) (tokens : List Token) (i : ℕ) (t : Token) (r : Reader) (s : State) (r' : Reader) (s' : State) → i < length tokens → t ≡ get_or tokens i t
@@ -261,9 +274,12 @@ run-done (t ∷ u ∷ ts) r s r' s' c e =
       | Some n ↦ λ e. run-done (u ∷ ts) n.0 n.1 r' s' c e
     ] e
 
+-- where as many tokens are read as there are, all are
+pub reads-all : (hosts : List (List ℕ)) (tokens : List Token) (i : ℕ) (r : Reader) (s : State) → length tokens ≤ i
+    → run (start hosts) state.Start (take i tokens) ≡ Some (r, s) → ReadsTo hosts tokens r
+reads-all hosts tokens i r s h e = (s, ap (run (start hosts) state.Start) (sym (take_all i tokens h)) ∙ e)
+
 -- a closed list that is read is spelled
-pub closed-spelled : (hosts : List (List ℕ)) (tokens : List Token) (i : ℕ) (r : Reader) (s : State) → IsClosed tokens → length tokens ≤ i
-    → run (start hosts) state.Start (take i tokens) ≡ Some (r, s) → Spells hosts tokens (module_of r)
-closed-spelled hosts tokens i r s c h e =
-    let f : run (start hosts) state.Start tokens ≡ Some (r, s) = ap (run (start hosts) state.Start) (sym (take_all i tokens h)) ∙ e in
-    read-spelled hosts tokens r (subst (λ x. run (start hosts) state.Start tokens ≡ Some (r, x)) (run-done tokens (start hosts) state.Start r s c f) f)
+pub closed-spelled : (hosts : List (List ℕ)) (tokens : List Token) (r : Reader) → IsClosed tokens → ReadsTo hosts tokens r → Spells hosts tokens (module_of r)
+closed-spelled hosts tokens r c f =
+    read-spelled hosts tokens r (subst (λ x. run (start hosts) state.Start tokens ≡ Some (r, x)) (run-done tokens (start hosts) state.Start r f.0 c f.1) f.1)

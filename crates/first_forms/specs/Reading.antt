@@ -1,5 +1,5 @@
 -- What the reader does with a token. Nobody has to believe this: the contract of `read_module` is over the spelling alone.
-use Rattle.std.specs.Prelude.{ℕ, Bool, true, false, ◌&&◌, not, List, [], ◌∷◌, ◌++◌, Option, Some, None, if◌then◌else◌, nat_le, nat_lt, length, fold, codes}
+use Rattle.std.specs.Prelude.{◌≡◌, ℕ, Bool, true, false, ◌&&◌, not, List, [], ◌∷◌, ◌++◌, Option, Some, None, if◌then◌else◌, nat_le, nat_lt, length, fold, codes}
 use Rattle.std.specs.Option.{option_and_then}
 use Rattle.std.specs.List.{list_all}
 use Rattle.std.specs.Str.{bytes_eq}
@@ -28,6 +28,8 @@ use Rattle.first_forms.specs.declared.reader.SumOwner.TheVariants as sum_owner
 use Rattle.first_forms.specs.declared.reader.OpenSum.{OpenSum}
 use Rattle.first_forms.specs.declared.reader.State.{State}
 use Rattle.first_forms.specs.declared.reader.State.TheVariants as state
+use Rattle.first_forms.specs.declared.reader.ReadFault.{ReadFault}
+use Rattle.first_forms.specs.declared.reader.ReadFault.TheVariants as fault
 
 abbrev pub is_bindable : List ℕ → Bool
 is_bindable name = is_identifier_name name && not (is_one_of name unbindable_names)
@@ -250,3 +252,12 @@ module_of r = record { items = import_items r.imported ++ r.items }
 abbrev pub run : Reader → State → List Token → Outcome
 run r s [] = Some (r, s)
 run r s (t ∷ ts) = option_and_then (λ next. run next.0 next.1 ts) (step r s t)
+
+-- this reader has read all these tokens
+abbrev pub ReadsTo : List (List ℕ) → List Token → Reader → Type 0
+ReadsTo hosts tokens r = (s : State) × (run (start hosts) state.Start tokens ≡ Some (r, s))
+
+-- why a token at this place isn't read, by what the reader does with it
+abbrev pub StopsWith : Outcome → ℕ → ReadFault → Type 0
+StopsWith outcome place (fault.NotBuilt stop) = (stop ≡ place) × (outcome ≡ None)
+StopsWith outcome place fault.OutOfMemory = Unit {0}

@@ -1,5 +1,5 @@
 //! Tokens to a tree, one token at a time: the state says which tokens may come next, so that a fault is known at its first token.
-ghost use Rattle.std.specs.Prelude.{◌≡◌, ℕ, List, codes, nat_le, if◌then◌else◌, IfOk, IfErr, OnOk, MatchResult};
+ghost use Rattle.std.specs.Prelude.{◌≡◌, ℕ, List, Some, codes, nat_le, if◌then◌else◌, IfOk, IfErr, OnOk, MatchResult};
 ghost use Rattle.first_trees.specs.declared.Module.{Module};
 ghost use Rattle.first_forms.specs.declared.token.Token.{Token};
 ghost use Rattle.first_forms.specs.Modules.{IsClosed, Spells};
@@ -8,7 +8,7 @@ ghost use Rattle.std.specs.List.{list_all};
 ghost use Rattle.std.specs.Str.{bytes_eq};
 ghost use Rattle.first_forms.specs.Names.{is_one_of};
 ghost use Rattle.first_forms.specs.WellFormed.{is_text_unit, max_integer};
-ghost use Rattle.first_forms.specs.Reading.{after, term_of, first_term, next_term, term_step, new_call, call_open, argument_step, first_argument, with_argument, with_declaration, with_call, call_end, after_declaration, after_argument, sum_end, after_term, initializer_step, declaration_equals, declaration_name, can_declare, item_name, item_step, start_step, is_import, import_step, import_open, import_name, import_next, import_from, import_host, import_end, step, start, import_items, with_term, module_of};
+ghost use Rattle.first_forms.specs.Reading.{after, term_of, first_term, next_term, term_step, new_call, call_open, argument_step, first_argument, with_argument, with_declaration, with_call, call_end, after_declaration, after_argument, sum_end, after_term, initializer_step, declaration_equals, declaration_name, can_declare, item_name, item_step, start_step, is_import, import_step, import_open, import_name, import_next, import_from, import_host, import_end, step, start, import_items, with_term, module_of, ReadsTo, StopsWith};
 
 use crate::lexer::{MAX_INTEGER, is_text_unit};
 use crate::names::{NameSet, is_bindable};
@@ -47,14 +47,7 @@ pub fn read_module(alloc: Global, tokens: &[Token], hosts: &[Name]) -> Result<Mo
     ensures complete { (m : Module) → Spells hosts.now tokens.now m
         → MatchResult result (λ n. n ≡ m) (λ e. e ≡ ReadFault.OutOfMemory) }
 {
-    let mut reader = Reader::new(alloc, hosts)?;
-    let mut state = State::Start;
-    for token in tokens {
-        let Some(next) = reader.step(alloc, state, token)? else {
-            return Err(ReadFault::NotBuilt { at: token.at });
-        };
-        state = next;
-    }
+    let reader = Reader::after_all(alloc, tokens, hosts)?;
     Ok(reader.into_module(alloc)?)
 }
 
@@ -159,6 +152,28 @@ impl Reader {
             declared: NameSet::new(alloc),
             items: Items::new(alloc),
         })
+    }
+
+    /// The reader after all the tokens.
+    fn after_all(alloc: Global, tokens: &[Token], hosts: &[Name]) -> Result<Reader, ReadFault>
+        ensures read { IfOk result (λ r. ReadsTo hosts.now tokens.now r) }
+        ensures fault { IfErr result (λ e. IsFault hosts.now tokens.now e) }
+    {
+        let mut reader = Reader::new(alloc, hosts)?;
+        let mut state = State::Start;
+        for token in tokens {
+            state = reader.next_state(alloc, state, token)?;
+        }
+        Ok(reader)
+    }
+
+    /// The state after a token, or that no module goes on with it.
+    fn next_state(&mut self, alloc: Global, state: State, token: &Token) -> Result<State, ReadFault>
+        ensures read { IfOk result (λ next. step self.old state token.now ≡ Some (self.new, next)) }
+        ensures fault { IfErr result (λ e. StopsWith (step self.old state token.now) token.now.at e) }
+    {
+        self.step(alloc, state, token)?
+            .ok_or(ReadFault::NotBuilt { at: token.at })
     }
 
     /// Reads a token: the state after it, or nothing where no module goes on with it.
