@@ -1,0 +1,250 @@
+-- The readers tied into one another look at no token past the first one that they don't take, and read the same where more may open and
+-- loops have more turns. So a fault stands at a token with which no script goes on.
+use Rattle.std.proofs.Common.{◌≡◌, ◌∙◌, ℕ, zero, suc, ◌+◌, ◌≤◌, arith, Bool, true, false, List, [], ◌∷◌, ◌++◌, Option, Some, None, cond, refl, sym, ap, subst}
+use Rattle.std.proofs.lemmas.Bool.{false≢true}
+use Rattle.std.proofs.lemmas.List.{append_cancel_right}
+use Rattle.es5_ast.specs.declared.tree.Stat5.{Stat5}
+use Rattle.es5_ast.specs.Lexical.{Token5}
+use Rattle.es5_ast.specs.Grammar.{Mode5, IsProgram}
+use Rattle.es5_ast.specs.Script.{IsStrict}
+use Rattle.es5_ast.specs.Depth.{most_open}
+use Rattle.es5_reading.specs.Parser.{Input5, Stop5, Syntax, Depth, Outside, Endless, Outcome5, Took, Fault, Inner5}
+use Rattle.es5_reading.specs.Expressions as e5
+use Rattle.es5_reading.specs.Expressions.{begins_operand, begins_expression}
+use Rattle.es5_reading.specs.Statements as s5
+use Rattle.es5_reading.specs.Statements.{begins_statement}
+use Rattle.es5_reading.specs.Programs.{readers, program, is_directive, continues, second_fault, directive_fault, unless_fault, script}
+use Rattle.es5_reading.specs.Laws.{IsReadInFull}
+use Rattle.es5_reading.proofs.Meanings.{some_same}
+use Rattle.es5_reading.proofs.Follows.{plus, SameHead, nothing, same}
+use Rattle.es5_reading_laws.specs.Laws.{BeginAlike, IsFinal, FaultsAreDead}
+use Rattle.es5_reading_laws.proofs.Locality.{Slack, slack, Local, LocalOf, took_so, stops_so, too_deep, too_long, bind, done, stops, looks, endless, alike, opens_now}
+use Rattle.es5_reading_laws.proofs.LocalReaders as r
+use Rattle.es5_reading_laws.proofs.LocalReaders.{Grown}
+use Rattle.es5_reading_laws.proofs.Directive.{no-fault}
+use Rattle.es5_reading_laws.proofs.LocalLimits.{callee-limit, unary-limit, assignment-limit, sequence-limit, statement-limit, stops_there, at-limit}
+
+-- ## Where no construct may open any more
+
+no-expression : {l : ℕ} (s : Input5) → Local l e5.no_expression e5.no_expression s
+unfolding e5.no_expression
+no-expression s = looks _ _ _ _ _ s stops stops
+
+no-statement : {l : ℕ} (s : Input5) → Local l stops_there stops_there s
+no-statement s = looks _ _ _ _ _ s stops (looks _ _ _ _ _ s stops (looks _ _ _ _ _ s stops stops))
+
+expression-alike : {l : ℕ} (s : Input5) → Local l e5.expression_at_limit e5.expression_at_limit s
+unfolding e5.expression_at_limit
+expression-alike s = looks _ _ _ _ _ s stops (no-expression s)
+
+callee-alike : {l : ℕ} (s : Input5) → Local l e5.callee_at_limit e5.callee_at_limit s
+unfolding e5.callee_at_limit
+callee-alike s = looks _ _ _ _ _ s stops (no-expression s)
+
+statement-alike : {l : ℕ} (inside : Bool) (s : Input5) → Local l (s5.statement_at_limit inside) (s5.statement_at_limit inside) s
+unfolding s5.statement_at_limit
+statement-alike inside s = looks _ _ _ _ _ s stops (no-statement s)
+
+module _ {l : ℕ} (m : Slack l) (j : Inner5) where
+  sequence-now : (k : Bool) (s : Input5) → Local l e5.expression_at_limit (e5.sequence j k) s
+  unfolding e5.expression_at_limit
+  sequence-now k s = at-limit begins_expression e5.no_expression (e5.sequence j k) m (sequence-limit j k) s (no-expression s)
+
+  assignment-now : (k : Bool) (s : Input5) → Local l e5.expression_at_limit (e5.assignment j k) s
+  unfolding e5.expression_at_limit
+  assignment-now k s = at-limit begins_expression e5.no_expression (e5.assignment j k) m (assignment-limit j k) s (no-expression s)
+
+  unary-now : (s : Input5) → Local l e5.expression_at_limit (e5.unary j) s
+  unfolding e5.expression_at_limit
+  unary-now s = at-limit begins_expression e5.no_expression (e5.unary j) m (unary-limit j) s (no-expression s)
+
+  callee-now : (s : Input5) → Local l e5.callee_at_limit (e5.chain j false) s
+  unfolding e5.callee_at_limit
+  callee-now s = at-limit begins_operand e5.no_expression (e5.chain j false) m (callee-limit j) s (no-expression s)
+
+  statement-now : (inside top : Bool) → (top ≡ true → false ≡ true) → (s : Input5) → Local l (s5.statement_at_limit inside) (s5.statement j inside top) s
+  unfolding s5.statement_at_limit
+  statement-now inside true w s = absurd (false≢true (w refl))
+  statement-now inside false w s = at-limit (begins_statement inside) stops_there (s5.statement j inside false) m (statement-limit j inside) s (no-statement s)
+
+-- ## All readers
+
+grown : (mode : Bool) (fuel room l : ℕ) → Grown l (readers mode fuel room) (readers mode (plus fuel l) (plus room l))
+unfolding readers
+grown mode fuel zero zero = record {
+  mode = refl;
+  turns = refl;
+  opens = alike;
+  sequence = λ k s. expression-alike s;
+  assignment = λ k s. expression-alike s;
+  unary = λ s. expression-alike s;
+  callee = λ s. callee-alike s;
+  property = λ s. stops;
+  declared = λ k s. stops;
+  statement = λ inside top w s. statement-alike inside s;
+}
+grown mode fuel zero (suc l) =
+    let j : Inner5 = readers mode (plus fuel (suc l)) l in
+    record {
+      mode = refl;
+      turns = refl;
+      opens = opens_now slack;
+      sequence = sequence-now slack j;
+      assignment = assignment-now slack j;
+      unary = unary-now slack j;
+      callee = callee-now slack j;
+      property = λ s. too_deep slack;
+      declared = λ k s. too_deep slack;
+      statement = λ inside top w s. statement-now slack j inside top w s;
+    }
+grown mode fuel (suc room) l =
+    let i : Inner5 = readers mode fuel room in
+    let j : Inner5 = readers mode (plus fuel l) (plus room l) in
+    let deeper : Grown l i j = grown mode fuel room l in
+    record {
+      mode = refl;
+      turns = refl;
+      opens = alike;
+      sequence = λ k s. r.sequence l i j deeper k s;
+      assignment = λ k s. r.assignment l i j deeper k s;
+      unary = λ s. r.unary l i j deeper s;
+      callee = λ s. r.chain l i j deeper false s;
+      property = λ s. r.property l i j deeper s;
+      declared = λ k s. r.declared l i j deeper k s;
+      statement = λ inside top w s. r.statement l i j deeper inside top s;
+    }
+
+programs : (l : ℕ) (i j : Inner5) → Grown l i j → (n : ℕ) (s : Input5) → Local l (program i n) (program j (plus n l)) s
+unfolding program
+programs l i j h zero s = endless (λ n. program j n) l (λ c. refl) s
+programs l i j h (suc n) s = looks _ _ _ _ _ s (bind _ _ (r.statement l i j h false true s) λ x c. bind _ _ (programs l i j h n c) λ y d. done) done
+
+-- ## Faults
+
+alike-head : (ts us : List Token5) → BeginAlike ts us → SameHead ts us
+alike-head [] us e = subst (λ vs. SameHead [] vs) (sym e) nothing
+alike-head (t ∷ ts) us (rest, e) = subst (λ vs. SameHead (t ∷ ts) vs) (sym e) same
+
+-- a fault of a reader, and what the reader with more gives of other tokens
+record FaultOf (run : List Token5 → Outcome5 (List Stat5)) (ts : List Token5) (stop : Stop5) (us : List Token5) : Type 0 where
+  front : List Token5
+  splits : ts ≡ front ++ us
+  stays : (rest : List Token5) → SameHead us rest → run (front ++ rest) ≡ Fault stop rest
+
+abbrev stopped_at : Stop5 → List Token5 → Outcome5 (List Stat5)
+stopped_at stop us = Fault stop us
+
+fault-of : {l : ℕ} {run : List Token5 → Outcome5 (List Stat5)} {ts us : List Token5} {stop : Stop5} {o : Outcome5 (List Stat5)} → LocalOf l run ts o → o ≡ Fault stop us → IsFinal stop → FaultOf run ts stop us
+fault-of (took_so front e r) h k = absurd (cc)
+fault-of {run = run} {ts = ts} {us = us} {stop = stop} (stops_so front e r) h k = moved (same-stop h) (same-rest h) (record { front = front; splits = e; stays = r })
+  where
+    same-stop : {a b : Stop5} {vs ws : List Token5} → stopped_at a vs ≡ stopped_at b ws → a ≡ b
+    same-stop h = cc
+
+    same-rest : {a b : Stop5} {vs ws : List Token5} → stopped_at a vs ≡ stopped_at b ws → vs ≡ ws
+    same-rest h = cc
+
+    moved : {a b : Stop5} {vs ws : List Token5} → a ≡ b → vs ≡ ws → FaultOf run ts a vs → FaultOf run ts b ws
+    moved {a = a} {ws = ws} e k r = subst (λ v. FaultOf run ts v ws) e (subst (λ v. FaultOf run ts a v) k r)
+fault-of (too_deep m) h k = absurd (subst (λ v. IsFinal v) (at h) k)
+  where
+    at : {b : Stop5} {vs ws : List Token5} → stopped_at Depth vs ≡ stopped_at b ws → b ≡ Depth
+    at h = cc
+fault-of (too_long m) h k = absurd (subst (λ v. IsFinal v) (at h) k)
+  where
+    at : {b : Stop5} {vs ws : List Token5} → stopped_at Endless vs ≡ stopped_at b ws → b ≡ Endless
+    at h = cc
+
+plus-is : (n l : ℕ) → plus n l ≡ n + l
+plus-is zero l = none l
+  where
+    none : (l : ℕ) → l ≡ zero + l
+    none l = omega arith
+plus-is (suc n) l = ap (λ m. suc m) (plus-is n l) ∙ one n l
+  where
+    one : (n l : ℕ) → suc (n + l) ≡ suc n + l
+    one n l = omega arith
+
+with-more : (mode : Bool) (fuel room l : ℕ) (s : Input5) → program (readers mode (fuel + l) (room + l)) (fuel + l) s ≡ program (readers mode (plus fuel l) (plus room l)) (plus fuel l) s
+with-more mode fuel room l s = ap (λ n. program (readers mode n (room + l)) n s) (sym (plus-is fuel l)) ∙ ap (λ n. program (readers mode (plus fuel l) n) (plus fuel l) s) (sym (plus-is room l))
+
+never-both : {x : List Stat5} {c : Input5} {stop : Stop5} {ts : List Token5} {o : Outcome5 (List Stat5)} → o ≡ Took x c → o ≡ Fault stop ts → ⊥
+never-both h k = absurd (cc)
+
+low : (n l : ℕ) → l ≤ n + l
+low n l = omega arith
+
+-- a fault of the reader that inserts semicolons
+record DeadAt (tokens rest : List Token5) : Type 0 where
+  front : List Token5
+  splits : tokens ≡ front ++ rest
+  dead : (mode : Mode5) (others : List Token5) (statements : List Stat5) → BeginAlike rest others → IsProgram mode (front ++ others) statements → ⊥
+
+program-dead : IsReadInFull → (fuel room : ℕ) (tokens : List Token5) (stop : Stop5) (rest : List Token5) → program (readers true fuel room) fuel (record { tokens = tokens; last = 0 }) ≡ Fault stop rest → IsFinal stop → DeadAt tokens rest
+program-dead full fuel room tokens stop rest h k =
+    let f = faults 0 in
+    record { front = f.front; splits = f.splits; dead = λ mode others statements a d. by f.front f.splits mode others statements a d }
+  where
+    faults : (l : ℕ) → FaultOf (λ us. program (readers true (plus fuel l) (plus room l)) (plus fuel l) (record { tokens = us; last = 0 })) tokens stop rest
+    faults l = fault-of (programs l (readers true fuel room) (readers true (plus fuel l) (plus room l)) (grown true fuel room l) fuel (record { tokens = tokens; last = 0 })) h k
+
+    by : (front : List Token5) → tokens ≡ front ++ rest → (mode : Mode5) (others : List Token5) (statements : List Stat5) → BeginAlike rest others → IsProgram mode (front ++ others) statements → ⊥
+    by front e mode others statements a d =
+        let c = full mode (front ++ others) statements d in
+        let t = c.1 (fuel + c.0) (room + c.0) 0 (low fuel c.0) (low room c.0) in
+        let g' = faults c.0 in
+        never-both t.2 (with-more true fuel room c.0 (record { tokens = front ++ others; last = 0 })
+        ∙ ap (λ ts. program (readers true (plus fuel c.0) (plus room c.0)) (plus fuel c.0) (record { tokens = ts ++ others; last = 0 })) (append_cancel_right front g'.front rest (sym e ∙ g'.splits))
+        ∙ g'.stays others (alike-head rest others a))
+
+-- ## The directive
+
+-- where a script that begins so stops before its statements are read, no script begins so
+record Early (tokens rest : List Token5) : Type 0 where
+  front : List Token5
+  splits : tokens ≡ front ++ rest
+  dead : (others : List Token5) → BeginAlike rest others → IsStrict (front ++ others) → ⊥
+
+none-some : {x : Stop5 × List Token5} → None ≡ Some x → ⊥
+none-some e = cc
+
+no-tokens : {t u : Token5} {ts : List Token5} → [] ≡ t ∷ u ∷ ts → ⊥
+no-tokens e = cc
+
+second-early : (t : Token5) (ts : List Token5) (x : Stop5 × List Token5) → is_directive t ≡ true → second_fault ts ≡ Some x → Early (t ∷ ts) x.1
+second-early t [] x k e = absurd (none-some e)
+second-early t (u ∷ us) x k e = by (continues u) refl e
+  where
+    stays : (others : List Token5) → continues u ≡ true → directive_fault (t ∷ u ∷ others) ≡ Some (Syntax, u ∷ others)
+    stays others c = rw (k, c) refl
+
+    by : (b : Bool) → continues u ≡ b → cond b (Some (Syntax, u ∷ us)) None ≡ Some x → Early (t ∷ u ∷ us) x.1
+    by false c e = absurd (none-some e)
+    by true c e = subst (λ z. Early (t ∷ u ∷ us) z.1) (some_same e) (record {
+      front = t ∷ [];
+      splits = refl;
+      dead = λ others a s. none-some (sym (no-fault (t ∷ others) s) ∙ ap (λ z. directive_fault (t ∷ z)) a.1 ∙ stays a.0 c);
+    })
+
+directive-early : (tokens : List Token5) (x : Stop5 × List Token5) → directive_fault tokens ≡ Some x → Early tokens x.1
+directive-early [] x e = subst (λ z. Early [] z.1) (some_same e) (record { front = []; splits = refl; dead = λ others a s. no-tokens (sym a ∙ s.first) })
+directive-early (t ∷ ts) x e = by (is_directive t) refl e
+  where
+    stays : (others : List Token5) → is_directive t ≡ false → directive_fault (t ∷ others) ≡ Some (Outside 1, t ∷ others)
+    stays others k = ap (λ b. cond b (second_fault others) (Some (Outside 1, t ∷ others))) k
+
+    by : (b : Bool) → is_directive t ≡ b → cond b (second_fault ts) (Some (Outside 1, t ∷ ts)) ≡ Some x → Early (t ∷ ts) x.1
+    by false k e = subst (λ z. Early (t ∷ ts) z.1) (some_same e) (record { front = []; splits = refl; dead = λ others a s. none-some (sym (no-fault others s) ∙ ap (λ z. directive_fault z) a.1 ∙ stays a.0 k) })
+    by true k e = second-early t ts x k e
+
+same-places : {a b : Stop5} {vs ws : List Token5} → stopped_at a vs ≡ stopped_at b ws → vs ≡ ws
+same-places h = cc
+
+pub dead-faults : IsReadInFull → FaultsAreDead
+unfolding script
+dead-faults full fuel tokens stop rest h k = by (directive_fault tokens) refl h
+  where
+    by : (o : Option (Stop5 × List Token5)) → directive_fault tokens ≡ o → unless_fault o (program (readers true fuel most_open) fuel (record { tokens = tokens; last = 0 })) ≡ Fault stop rest
+        → (front : List Token5) × (tokens ≡ front ++ rest) × ((mode : Mode5) (others : List Token5) (statements : List Stat5) → BeginAlike rest others → IsStrict (front ++ others) → IsProgram mode (front ++ others) statements → ⊥)
+    by None e h = let d = program-dead full fuel most_open tokens stop rest h k in (d.front, d.splits, λ mode others statements a s p. d.dead mode others statements a p)
+    by (Some x) e h = let d = subst (λ z. Early tokens z) (same-places h) (directive-early tokens x e) in (d.front, d.splits, λ mode others statements a s p. d.dead others a s)

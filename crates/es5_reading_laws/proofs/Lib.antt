@@ -1,0 +1,11 @@
+pub mod Layers
+pub mod Segments
+pub mod Opening
+pub mod Depths
+pub mod Shallow
+pub mod Directive
+pub mod Locality
+pub mod LocalReaders
+pub mod LocalLimits
+pub mod DeadFaults
+pub mod Ordered
