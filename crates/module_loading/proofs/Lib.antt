@@ -1,0 +1,12 @@
+pub mod Added
+pub mod Arrived
+pub mod Asked
+pub mod Coming
+pub mod Contents
+pub mod Ended
+pub mod Follow
+pub mod Grown
+pub mod Lists
+pub mod OneLoad
+pub mod PathLists
+pub mod Waited

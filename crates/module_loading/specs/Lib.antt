@@ -1,0 +1,5 @@
+pub mod Files
+pub mod Loading
+pub mod Reading
+pub mod Requests
+pub mod States
