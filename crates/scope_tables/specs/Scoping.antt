@@ -7,6 +7,7 @@ use Rattle.scope_rules.specs.declared.kinds.ScopeKind.{ScopeKind}
 use Rattle.scope_rules.specs.declared.kinds.ScopeKind.TheVariants as scope
 use Rattle.scope_rules.specs.declared.kinds.Kind.{Kind}
 use Rattle.scope_rules.specs.declared.kinds.Kind.TheVariants.{Variable, Let, Constant, Class, Parameter, Caught, OwnClass, Import, HostImport}
+use Rattle.scope_tables.specs.declared.declarations.Declared.{Declared}
 use Rattle.scope_tables.specs.declared.place.Place.{Place}
 use Rattle.scope_tables.specs.declared.binding.Binding.{Binding}
 use Rattle.scope_tables.specs.declared.reference.Found.{Found}
@@ -92,6 +93,22 @@ all_bindings (m ∷ ms) s bs = all_bindings ms (moved m s) (bound m (top s.place
 abbrev pub module_bindings : List Mark → List Binding
 module_bindings marks = all_bindings marks start []
 
+-- which binding each name declares where it stands, in text order
+abbrev pub declared_as : ℕ → Option ℕ → List Declared
+declared_as at None = []
+declared_as at (Some n) = record { at = at; binding = n } ∷ []
+
+abbrev pub declared_by : List Binding → Mark → Place → List Declared
+declared_by bs (Declares k name at end) p = declared_as at (number_of (declaring_scope k p) name bs)
+declared_by bs _ p = []
+
+abbrev pub all_declared : List Binding → List Mark → Stand → List Declared
+all_declared bs [] s = []
+all_declared bs (m ∷ ms) s = declared_by bs m (top s.places) ++ all_declared bs ms (moved m s)
+
+abbrev pub module_declared : List Mark → List Declared
+module_declared marks = all_declared (module_bindings marks) marks start
+
 -- ---- what is found: the binding of the innermost scope that has the name (8.1.2.1)
 
 abbrev pub nearer : Option ℕ → Place → Option Found → Option Found
@@ -126,11 +143,12 @@ is_counted Parameter in_head = in_head
 is_counted Caught in_head = in_head
 is_counted _ in_head = false
 
-abbrev pub free_reference : ℕ → Reference
-free_reference at = record { at = at; binding = None; is_captured = false; is_certain = false; is_uncertain = false }
+abbrev pub free_reference : List ℕ → ℕ → Reference
+free_reference name at = record { name = name; at = at; binding = None; is_captured = false; is_certain = false; is_uncertain = false }
 
-abbrev pub bound_reference : ℕ → Place → Found → Binding → Reference
-bound_reference at from_ f b = record {
+abbrev pub bound_reference : List ℕ → ℕ → Place → Found → Binding → Reference
+bound_reference name at from_ f b = record {
+  name = name;
   at = at;
   binding = Some f.number;
   is_captured = not (nat_eq f.place.function from_.function);
@@ -138,19 +156,19 @@ bound_reference at from_ f b = record {
   is_uncertain = is_counted b.kind f.place.in_head && not (is_certain at from_ f.place b);
 }
 
-abbrev pub reference_by : ℕ → Place → Found → Option Binding → Reference
-reference_by at from_ f None = free_reference at
-reference_by at from_ f (Some b) = bound_reference at from_ f b
+abbrev pub reference_by : List ℕ → ℕ → Place → Found → Option Binding → Reference
+reference_by name at from_ f None = free_reference name at
+reference_by name at from_ f (Some b) = bound_reference name at from_ f b
 
-abbrev pub reference_to : List Binding → ℕ → Place → Found → Reference
-reference_to bs at from_ f = reference_by at from_ f (slice_get bs f.number)
+abbrev pub reference_to : List Binding → List ℕ → ℕ → Place → Found → Reference
+reference_to bs name at from_ f = reference_by name at from_ f (slice_get bs f.number)
 
-abbrev pub reference_of : List Binding → ℕ → Place → Option Found → Reference
-reference_of bs at from_ None = free_reference at
-reference_of bs at from_ (Some f) = reference_to bs at from_ f
+abbrev pub reference_of : List Binding → List ℕ → ℕ → Place → Option Found → Reference
+reference_of bs name at from_ None = free_reference name at
+reference_of bs name at from_ (Some f) = reference_to bs name at from_ f
 
 abbrev pub reference : List Binding → List ℕ → ℕ → List Place → Reference
-reference bs name at places = reference_of bs at (top places) (found name bs (reverse places))
+reference bs name at places = reference_of bs name at (top places) (found name bs (reverse places))
 
 abbrev pub referred : List Binding → Mark → List Place → List Reference
 referred bs (Refers name at) places = reference bs name at places ∷ []

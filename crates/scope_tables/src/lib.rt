@@ -2,6 +2,7 @@
 #![tactic(auto)]
 
 mod binding;
+mod declarations;
 mod names;
 mod place;
 mod position;
@@ -9,6 +10,7 @@ mod reference;
 mod resolved;
 
 pub use binding::Binding;
+pub use declarations::Declared;
 pub use place::Place;
 pub use reference::Reference;
 pub use resolved::{Resolved, resolve_marks};

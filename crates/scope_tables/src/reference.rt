@@ -5,7 +5,7 @@ ghost use Rattle.scope_tables.specs.Scoping.{bound_reference, free_reference, is
 
 use crate::binding::Binding;
 use crate::place::Place;
-use scope_rules::Kind;
+use scope_rules::{Kind, Spelling};
 
 /// The binding that a name finds, by its number, and the place of its scope.
 #[derive(Clone, Copy, Debug, PartialEq, Eq)]
@@ -15,8 +15,9 @@ pub struct Found {
 }
 
 /// A reference by name.
-#[derive(Clone, Copy, Debug, PartialEq, Eq)]
-pub struct Reference {
+#[derive(Drop)]
+pub struct Reference<'a> {
+    pub name: Spelling<'a>,
     /// where the name begins, an offset in bytes
     pub at: u32,
     /// the binding that it finds, by its number: none where the name is global
@@ -29,12 +30,13 @@ pub struct Reference {
     pub is_uncertain: bool,
 }
 
-impl Reference {
+impl<'a> Reference<'a> {
     /// A reference to a global name.
-    pub(crate) fn free(at: u32) -> Reference
-        ensures { result ≡ free_reference at }
+    pub(crate) fn free(name: &'a [u8], at: u32) -> Reference<'a>
+        ensures { result ≡ free_reference name.now at }
     {
         Reference {
+            name: Spelling::of(name),
             at,
             binding: None,
             is_captured: false,
@@ -44,11 +46,18 @@ impl Reference {
     }
 
     /// A reference from a place to a binding that it finds.
-    pub(crate) fn bound(at: u32, from: Place, found: Found, binding: &Binding) -> Reference
-        ensures { result ≡ bound_reference at from found binding.now }
+    pub(crate) fn bound(
+        name: &'a [u8],
+        at: u32,
+        from: Place,
+        found: Found,
+        binding: &Binding,
+    ) -> Reference<'a>
+        ensures { result ≡ bound_reference name.now at from found binding.now }
     {
         let is_certain = is_certain(at, from, found.place, binding);
         Reference {
+            name: Spelling::of(name),
             at,
             binding: Some(found.number),
             is_captured: found.place.function != from.function,

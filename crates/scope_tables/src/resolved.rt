@@ -1,9 +1,10 @@
 //! The bindings of a module and what its references find.
 
 ghost use Rattle.std.specs.Prelude.{◌≡◌, ◌++◌, IfOk, OnOk};
-ghost use Rattle.scope_tables.specs.Scoping.{all_references, module_bindings, module_references, reference, reference_to, referred, start};
+ghost use Rattle.scope_tables.specs.Scoping.{all_references, module_bindings, module_declared, module_references, reference, reference_to, referred, start};
 
 use crate::binding::Binding;
+use crate::declarations::{Declared, declared_of};
 use crate::names::Names;
 use crate::place::Place;
 use crate::position::Position;
@@ -11,22 +12,27 @@ use crate::reference::{Found, Reference};
 use scope_rules::Mark;
 use std::alloc::{AllocError, Global};
 
-/// The bindings of a module, in the order in which they are declared first, and its references, in text order.
+/// The bindings of a module, in the order in which they are declared first, and where they are declared, and its references, in text
+/// order.
 #[derive(Drop)]
-pub struct Resolved {
+pub struct Resolved<'a> {
     pub bindings: Vec<Binding>,
-    pub references: Vec<Reference>,
+    pub declared: Vec<Declared>,
+    pub references: Vec<Reference<'a>>,
 }
 
-/// What the references of a module find, by its marks. It fails where memory runs out.
-pub fn resolve_marks(alloc: Global, marks: &[Mark]) -> Result<Resolved, AllocError>
+/// What the names of a module declare and find, by its marks. It fails where memory runs out.
+pub fn resolve_marks<'a>(alloc: Global, marks: &[Mark<'a>]) -> Result<Resolved<'a>, AllocError>
     ensures bindings { IfOk result (λ r. r.bindings.items ≡ module_bindings marks.now) }
+    ensures declared { IfOk result (λ r. r.declared.items ≡ module_declared marks.now) }
     ensures references { IfOk result (λ r. r.references.items ≡ module_references marks.now) }
 {
     let names = names_of(alloc, marks)?;
+    let declared = declared_of(alloc, &names, marks)?;
     let references = references_of(alloc, &names, marks)?;
     Ok(Resolved {
         bindings: names.into_bindings(),
+        declared,
         references,
     })
 }
@@ -49,7 +55,7 @@ fn references_of<'a>(
     alloc: Global,
     names: &Names<'a>,
     marks: &[Mark<'a>],
-) -> Result<Vec<Reference>, AllocError>
+) -> Result<Vec<Reference<'a>>, AllocError>
     ensures { IfOk result (λ list. list.items ≡ all_references names.now marks.now start) }
 {
     let mut list = Vec::new(alloc);
@@ -63,7 +69,7 @@ fn references_of<'a>(
 
 /// What a mark refers to.
 fn refer<'a>(
-    list: &mut Vec<Reference>,
+    list: &mut Vec<Reference<'a>>,
     names: &Names<'a>,
     position: &Position,
     mark: &Mark<'a>,
@@ -80,20 +86,26 @@ fn refer<'a>(
 }
 
 /// A reference from a position.
-fn reference<'a>(names: &Names<'a>, name: &'a [u8], at: u32, position: &Position) -> Reference
+fn reference<'a>(names: &Names<'a>, name: &'a [u8], at: u32, position: &Position) -> Reference<'a>
     ensures { result ≡ reference names.now name.now at position.now.places }
 {
     match names.find(name, position.places()) {
-        None => Reference::free(at),
-        Some(found) => reference_to(names, at, position.top(), found),
+        None => Reference::free(name, at),
+        Some(found) => reference_to(names, name, at, position.top(), found),
     }
 }
 
-fn reference_to(names: &Names, at: u32, from: Place, found: Found) -> Reference
-    ensures { result ≡ reference_to names.now at from found }
+fn reference_to<'a>(
+    names: &Names<'a>,
+    name: &'a [u8],
+    at: u32,
+    from: Place,
+    found: Found,
+) -> Reference<'a>
+    ensures { result ≡ reference_to names.now name.now at from found }
 {
     match names.bindings().get(found.number) {
-        None => Reference::free(at),
-        Some(binding) => Reference::bound(at, from, found, binding),
+        None => Reference::free(name, at),
+        Some(binding) => Reference::bound(name, at, from, found, binding),
     }
 }
