@@ -16,10 +16,7 @@ pub fn refer_name<'a>(marks: &mut Marks<'a>, name: &'a Name, at: u32) -> Result<
 }
 
 /// A reference by a name where it stands.
-pub fn refer_identifier<'a>(
-    marks: &mut Marks<'a>,
-    name: &'a Identifier,
-) -> Result<(), AllocError>
+pub fn refer_identifier<'a>(marks: &mut Marks<'a>, name: &'a Identifier) -> Result<(), AllocError>
     ensures { OnOk result (marks.new ≡ marks.old ++ Refers name.now.name name.now.span.begin ∷ []) }
 {
     refer_name(marks, &name.name, name.span.begin)

@@ -61,9 +61,5 @@ pub fn begin_body(marks: &mut Marks, is_own: bool, end: u32) -> Result<(), Alloc
 pub fn end_body(marks: &mut Marks, is_own: bool) -> Result<(), AllocError>
     ensures { OnOk result (marks.new ≡ marks.old ++ body_ends is_own) }
 {
-    if is_own {
-        marks.end_scope()
-    } else {
-        Ok(())
-    }
+    if is_own { marks.end_scope() } else { Ok(()) }
 }
