@@ -15,6 +15,8 @@ pub enum BindingId {
     Own { home: usize, number: usize },
     /// a name that no scope declares, by its number among such names of the graph, in the order of first reference
     Global { number: usize },
+    /// a function of the host, by its number among the hosts
+    Host { number: usize },
 }
 
 /// A binding under a key, as a place or a number.

@@ -11,6 +11,7 @@ mod resolved;
 
 pub use binding::Binding;
 pub use declarations::Declared;
+pub use names::Names;
 pub use place::Place;
 pub use reference::Reference;
 pub use resolved::{Resolved, resolve_marks};

@@ -15,7 +15,7 @@ use std::marker::Model;
 
 /// The bindings in the order in which they are declared first, of which contracts see the list, and their numbers by scope and name.
 #[derive(Drop)]
-pub(crate) struct Names<'a> {
+pub struct Names<'a> {
     alloc: Global,
     bindings: Vec<Binding>,
     numbers: HashMap<(usize, &'a [u8]), usize>,
@@ -45,22 +45,14 @@ impl<'a> Names<'a> {
     }
 
     /// The bindings by their numbers.
-    pub(crate) fn bindings(&self) -> &[Binding]
+    pub fn bindings(&self) -> &[Binding]
         ensures { result.now ≡ self.now }
     {
         self.bindings.as_slice()
     }
 
-    /// The bindings alone.
-    pub(crate) fn into_bindings(self) -> Vec<Binding>
-        ensures { result.items ≡ self.entry }
-    {
-        let Names { bindings, .. } = self;
-        bindings
-    }
-
     /// The number of the binding that a scope has for a name.
-    pub(crate) fn number_of(&self, scope: usize, name: &'a [u8]) -> Option<usize>
+    pub fn number_of(&self, scope: usize, name: &'a [u8]) -> Option<usize>
         ensures { result ≡ number_of scope name.now self.now }
     {
         number_in(&self.numbers, scope, name)

@@ -3,7 +3,6 @@
 ghost use Rattle.std.specs.Prelude.{◌≡◌, ◌++◌, IfOk, OnOk};
 ghost use Rattle.scope_tables.specs.Scoping.{all_references, module_bindings, module_declared, module_references, reference, reference_to, referred, start};
 
-use crate::binding::Binding;
 use crate::declarations::{Declared, declared_of};
 use crate::names::Names;
 use crate::place::Place;
@@ -16,14 +15,14 @@ use std::alloc::{AllocError, Global};
 /// order.
 #[derive(Drop)]
 pub struct Resolved<'a> {
-    pub bindings: Vec<Binding>,
+    pub names: Names<'a>,
     pub declared: Vec<Declared>,
     pub references: Vec<Reference<'a>>,
 }
 
 /// What the names of a module declare and find, by its marks. It fails where memory runs out.
 pub fn resolve_marks<'a>(alloc: Global, marks: &[Mark<'a>]) -> Result<Resolved<'a>, AllocError>
-    ensures bindings { IfOk result (λ r. r.bindings.items ≡ module_bindings marks.now) }
+    ensures bindings { IfOk result (λ r. r.names ≡ module_bindings marks.now) }
     ensures declared { IfOk result (λ r. r.declared.items ≡ module_declared marks.now) }
     ensures references { IfOk result (λ r. r.references.items ≡ module_references marks.now) }
 {
@@ -31,7 +30,7 @@ pub fn resolve_marks<'a>(alloc: Global, marks: &[Mark<'a>]) -> Result<Resolved<'
     let declared = declared_of(alloc, &names, marks)?;
     let references = references_of(alloc, &names, marks)?;
     Ok(Resolved {
-        bindings: names.into_bindings(),
+        names,
         declared,
         references,
     })
