@@ -1,0 +1,4 @@
+pub mod Quiet
+pub mod Across
+pub mod AcrossReaders
+pub mod AtBreaks
