@@ -1,15 +1,18 @@
 -- A program that tokens spell with semicolons put in at breaks is read of the tokens.
-use Rattle.std.proofs.Common.{◌≡◌, ◌∙◌, ℕ, true, false, List, [], ◌∷◌, ◌++◌, refl, sym, subst, append_assoc}
+use Rattle.std.proofs.Common.{◌≡◌, ◌∙◌, ℕ, true, false, List, [], ◌∷◌, ◌++◌, refl, sym, subst, append_assoc, ◌+◌, ◌≤◌, arith}
 use Rattle.std.proofs.lemmas.Bool.{false≢true}
 use Rattle.es5_ast.specs.declared.tree.Stat5.{Stat5}
 use Rattle.es5_ast.specs.Lexical.{Token5}
-use Rattle.es5_ast.specs.Grammar.{end_of}
+use Rattle.es5_ast.specs.Grammar.{end_of, Mode5, IsProgram}
 use Rattle.es5_ast.specs.Script.{inserted}
-use Rattle.es5_reading.specs.Laws.{IsReadExactly}
-use Rattle.es5_reading.specs.Parser.{Input5, Outcome5, Took}
+use Rattle.es5_reading.specs.Laws.{IsFilled, IsReadExactly, IsReadInFull}
+use Rattle.es5_reading.specs.Parser.{Input5, Outcome5, Took, Fault}
 use Rattle.es5_reading.specs.Programs.{readers, program}
-use Rattle.es5_break_laws.specs.Breaks.{AreReadAtBreaks, Breaks, at_end, keeps, inserts, inserts_at_end}
+use Rattle.es5_break_laws.specs.Breaks.{AreReadAtBreaks, BreaksAreInsertions, FaultsAreDeadAtBreaks, Breaks, at_end, keeps, inserts, inserts_at_end}
 use Rattle.es5_break_laws.proofs.Across.{semi, at_the_end, before_break, Agree, took_both, joined, first_stops, lost, Gap, Rows, here, later}
+use Rattle.es5_reading.proofs.Enough.{enough}
+use Rattle.es5_reading_laws.specs.Laws.{BeginAlike, FaultsStay}
+use Rattle.es5_reading_laws.proofs.DeadFaults.{never-both}
 use Rattle.es5_break_laws.proofs.AcrossReaders as r
 use Rattle.es5_break_laws.proofs.AcrossReaders.{crosses}
 
@@ -63,3 +66,33 @@ pub read-at-breaks : IsReadExactly true → AreReadAtBreaks
 read-at-breaks exactly room tokens filled statements d g w =
     let e = exactly room filled statements d w in
     (e.0, λ fuel f. let k = e.1 fuel 0 f in (k.0, all-left-out fuel room statements (record { tokens = []; last = k.0 }) refl g k.1))
+
+-- ## By the standard's rule
+
+self-low : (n : ℕ) → n ≤ n
+self-low n = omega arith
+
+low : (n l : ℕ) → l ≤ n + l
+low n l = omega arith
+
+pub inserted-at-breaks : IsReadExactly true → IsFilled → BreaksAreInsertions
+inserted-at-breaks exactly is-filled tokens filled statements d g =
+    let w = enough d in
+    let e = read-at-breaks exactly w.bound tokens filled statements d g (w.fits w.bound (self-low w.bound)) in
+    let k = e.1 e.0 (self-low e.0) in
+    let r = is-filled e.0 w.bound tokens statements (record { tokens = []; last = k.0 }) k.1 in
+    (r.filled, r.fills, r.derived)
+
+-- ## Faults
+
+pub dead-at-breaks : IsReadInFull → FaultsStay → FaultsAreDeadAtBreaks
+dead-at-breaks full stay fuel room tokens stop rest h k =
+    let f = stay true fuel room tokens 0 stop rest h k in
+    (f.0, f.1, λ mode others filled statements a g d. dead f.0 f.2 mode others filled statements a g d)
+  where
+    dead : (front : List Token5) → ((more : ℕ) (others : List Token5) → BeginAlike rest others → program (readers true (fuel + more) (room + more)) (fuel + more) (record { tokens = front ++ others; last = 0 }) ≡ Fault stop others)
+        → (mode : Mode5) (others filled : List Token5) (statements : List Stat5) → BeginAlike rest others → Breaks [] (front ++ others) filled → IsProgram mode filled statements → ⊥
+    dead front stays mode others filled statements a g d =
+        let c = full mode filled statements d in
+        let t = c.1 (fuel + c.0) (room + c.0) 0 (low fuel c.0) (low room c.0) in
+        never-both (all-left-out (fuel + c.0) (room + c.0) t.0 (record { tokens = []; last = t.1 }) refl g t.2) (stays c.0 others a)

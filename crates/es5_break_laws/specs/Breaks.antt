@@ -4,11 +4,12 @@ use Rattle.es5_ast.specs.declared.operators.AssignOperator5.{AssignOperator5}
 use Rattle.es5_ast.specs.declared.operators.BinaryOperator5.{BinaryOperator5}
 use Rattle.es5_ast.specs.declared.tree.Stat5.{Stat5}
 use Rattle.es5_ast.specs.Lexical.{Kind5, Punctuator, Token5}
-use Rattle.es5_ast.specs.Grammar.{is_mark, ends, assign_kind, binary_kind, Exact, IsProgram}
-use Rattle.es5_ast.specs.Script.{inserted}
+use Rattle.es5_ast.specs.Grammar.{is_mark, ends, assign_kind, binary_kind, Mode5, Exact, IsProgram}
+use Rattle.es5_ast.specs.Script.{inserted, Fills}
 use Rattle.es5_ast.specs.Within.{ProgramWithin}
-use Rattle.es5_reading.specs.Parser.{Took}
+use Rattle.es5_reading.specs.Parser.{Stop5, Took, Fault}
 use Rattle.es5_reading.specs.Programs.{readers, program}
+use Rattle.es5_reading_laws.specs.Laws.{BeginAlike, IsFinal}
 
 -- The tokens with which an expression or a statement may go on where it could end (11.2 to 11.14, 12.2, 12.12).
 pub data GoesOn : Kind5 → Type 0 where
@@ -39,3 +40,13 @@ pub data Breaks : List Token5 → List Token5 → List Token5 → Type 0 where
 abbrev pub AreReadAtBreaks : Type 0
 AreReadAtBreaks = (room : ℕ) (tokens filled : List Token5) (statements : List Stat5) (derived : IsProgram Exact filled statements) → Breaks [] tokens filled → ProgramWithin derived room
     → (bound : ℕ) × ((fuel : ℕ) → bound ≤ fuel → (end : ℕ) × (program (readers true fuel room) fuel (record { tokens = tokens; last = 0 }) ≡ Took statements (record { tokens = []; last = end })))
+
+-- It is spelled by the standard's rule, too: no program goes on where a semicolon is put in (7.9.1).
+abbrev pub BreaksAreInsertions : Type 0
+BreaksAreInsertions = (tokens filled : List Token5) (statements : List Stat5) → IsProgram Exact filled statements → Breaks [] tokens filled → (again : List Token5) × Fills [] tokens again × IsProgram Exact again statements
+
+-- A fault, but one for want of constructs that may open or of turns, stands at a token with which no such program goes on after the
+-- tokens before it, or at the end of tokens that spell none.
+abbrev pub FaultsAreDeadAtBreaks : Type 0
+FaultsAreDeadAtBreaks = (fuel room : ℕ) (tokens : List Token5) (stop : Stop5) (rest : List Token5) → program (readers true fuel room) fuel (record { tokens = tokens; last = 0 }) ≡ Fault stop rest → IsFinal stop
+    → (front : List Token5) × (tokens ≡ front ++ rest) × ((mode : Mode5) (others filled : List Token5) (statements : List Stat5) → BeginAlike rest others → Breaks [] (front ++ others) filled → IsProgram mode filled statements → ⊥)

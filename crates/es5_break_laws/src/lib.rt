@@ -1,10 +1,21 @@
 //! Laws of the model that reads scripts, where semicolons are left out. Each is the contract of a function that does nothing.
 #![tactic(auto)]
 
-ghost use Rattle.es5_break_laws.specs.Breaks.{AreReadAtBreaks};
+ghost use Rattle.es5_break_laws.specs.Breaks.{AreReadAtBreaks, BreaksAreInsertions, FaultsAreDeadAtBreaks};
 
 /// The statements of a program are read of tokens among which semicolons are missing only at the ends of lines, before `}` and at the
 /// end, where the next token goes on with nothing, if loops have turns enough and no more constructs are open than may.
 pub fn scripts_at_breaks_are_read()
     ensures { AreReadAtBreaks }
+{}
+
+/// What is spelled so is spelled by the standard's rule, which puts a semicolon only where no program goes on.
+pub fn breaks_are_where_semicolons_are_inserted()
+    ensures { BreaksAreInsertions }
+{}
+
+/// A fault stands at a token with which no such program goes on after the tokens before it, unless it is for want of constructs that
+/// may open, or of turns.
+pub fn faults_stand_where_no_script_at_breaks_goes_on()
+    ensures { FaultsAreDeadAtBreaks }
 {}

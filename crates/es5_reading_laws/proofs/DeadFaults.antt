@@ -17,7 +17,7 @@ use Rattle.es5_reading.specs.Programs.{readers, program, is_directive, continues
 use Rattle.es5_reading.specs.Laws.{IsReadInFull}
 use Rattle.es5_reading.proofs.Meanings.{some_same}
 use Rattle.es5_reading.proofs.Follows.{plus, SameHead, nothing, same}
-use Rattle.es5_reading_laws.specs.Laws.{BeginAlike, IsFinal, FaultsAreDead}
+use Rattle.es5_reading_laws.specs.Laws.{BeginAlike, IsFinal, FaultsStay, FaultsAreDead}
 use Rattle.es5_reading_laws.proofs.Locality.{Slack, slack, Local, LocalOf, took_so, stops_so, too_deep, too_long, bind, done, stops, looks, endless, alike, opens_now}
 use Rattle.es5_reading_laws.proofs.LocalReaders as r
 use Rattle.es5_reading_laws.proofs.LocalReaders.{Grown}
@@ -168,11 +168,26 @@ plus-is (suc n) l = ap (λ m. suc m) (plus-is n l) ∙ one n l
 with-more : (mode : Bool) (fuel room l : ℕ) (s : Input5) → program (readers mode (fuel + l) (room + l)) (fuel + l) s ≡ program (readers mode (plus fuel l) (plus room l)) (plus fuel l) s
 with-more mode fuel room l s = ap (λ n. program (readers mode n (room + l)) n s) (sym (plus-is fuel l)) ∙ ap (λ n. program (readers mode (plus fuel l) n) (plus fuel l) s) (sym (plus-is room l))
 
-never-both : {x : List Stat5} {c : Input5} {stop : Stop5} {ts : List Token5} {o : Outcome5 (List Stat5)} → o ≡ Took x c → o ≡ Fault stop ts → ⊥
-never-both h k = absurd (cc)
-
 low : (n l : ℕ) → l ≤ n + l
 low n l = omega arith
+
+pub faults-stay : FaultsStay
+faults-stay mode fuel room tokens last stop rest h k =
+    let f = faults 0 in
+    (f.front, f.splits, λ more others a. by f.front f.splits more others a)
+  where
+    faults : (l : ℕ) → FaultOf (λ us. program (readers mode (plus fuel l) (plus room l)) (plus fuel l) (record { tokens = us; last = last })) tokens stop rest
+    faults l = fault-of (programs l (readers mode fuel room) (readers mode (plus fuel l) (plus room l)) (grown mode fuel room l) fuel (record { tokens = tokens; last = last })) h k
+
+    by : (front : List Token5) → tokens ≡ front ++ rest → (l : ℕ) (others : List Token5) → BeginAlike rest others → program (readers mode (fuel + l) (room + l)) (fuel + l) (record { tokens = front ++ others; last = last }) ≡ Fault stop others
+    by front e l others a =
+        let g' = faults l in
+        with-more mode fuel room l (record { tokens = front ++ others; last = last })
+        ∙ ap (λ ts. program (readers mode (plus fuel l) (plus room l)) (plus fuel l) (record { tokens = ts ++ others; last = last })) (append_cancel_right front g'.front rest (sym e ∙ g'.splits))
+        ∙ g'.stays others (alike-head rest others a)
+
+pub never-both : {x : List Stat5} {c : Input5} {stop : Stop5} {ts : List Token5} {o : Outcome5 (List Stat5)} → o ≡ Took x c → o ≡ Fault stop ts → ⊥
+never-both h k = absurd (cc)
 
 -- a fault of the reader that inserts semicolons
 record DeadAt (tokens rest : List Token5) : Type 0 where
@@ -182,20 +197,15 @@ record DeadAt (tokens rest : List Token5) : Type 0 where
 
 program-dead : IsReadInFull → (fuel room : ℕ) (tokens : List Token5) (stop : Stop5) (rest : List Token5) → program (readers true fuel room) fuel (record { tokens = tokens; last = 0 }) ≡ Fault stop rest → IsFinal stop → DeadAt tokens rest
 program-dead full fuel room tokens stop rest h k =
-    let f = faults 0 in
-    record { front = f.front; splits = f.splits; dead = λ mode others statements a d. by f.front f.splits mode others statements a d }
+    let f = faults-stay true fuel room tokens 0 stop rest h k in
+    record { front = f.0; splits = f.1; dead = λ mode others statements a d. dead f.0 f.2 mode others statements a d }
   where
-    faults : (l : ℕ) → FaultOf (λ us. program (readers true (plus fuel l) (plus room l)) (plus fuel l) (record { tokens = us; last = 0 })) tokens stop rest
-    faults l = fault-of (programs l (readers true fuel room) (readers true (plus fuel l) (plus room l)) (grown true fuel room l) fuel (record { tokens = tokens; last = 0 })) h k
-
-    by : (front : List Token5) → tokens ≡ front ++ rest → (mode : Mode5) (others : List Token5) (statements : List Stat5) → BeginAlike rest others → IsProgram mode (front ++ others) statements → ⊥
-    by front e mode others statements a d =
+    dead : (front : List Token5) → ((more : ℕ) (others : List Token5) → BeginAlike rest others → program (readers true (fuel + more) (room + more)) (fuel + more) (record { tokens = front ++ others; last = 0 }) ≡ Fault stop others)
+        → (mode : Mode5) (others : List Token5) (statements : List Stat5) → BeginAlike rest others → IsProgram mode (front ++ others) statements → ⊥
+    dead front stays mode others statements a d =
         let c = full mode (front ++ others) statements d in
         let t = c.1 (fuel + c.0) (room + c.0) 0 (low fuel c.0) (low room c.0) in
-        let g' = faults c.0 in
-        never-both t.2 (with-more true fuel room c.0 (record { tokens = front ++ others; last = 0 })
-        ∙ ap (λ ts. program (readers true (plus fuel c.0) (plus room c.0)) (plus fuel c.0) (record { tokens = ts ++ others; last = 0 })) (append_cancel_right front g'.front rest (sym e ∙ g'.splits))
-        ∙ g'.stays others (alike-head rest others a))
+        never-both t.2 (stays c.0 others a)
 
 -- ## The directive
 

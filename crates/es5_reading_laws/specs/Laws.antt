@@ -1,5 +1,5 @@
 -- What is proved of the model beyond the laws of es5_reading, in the definitions of es5_ast.
-use Rattle.std.specs.Prelude.{◌≡◌, ℕ, ◌≤◌, false, List, [], ◌∷◌, ◌++◌}
+use Rattle.std.specs.Prelude.{◌≡◌, ℕ, ◌+◌, ◌≤◌, Bool, false, List, [], ◌∷◌, ◌++◌}
 use Rattle.es5_ast.specs.declared.tree.Stat5.{Stat5}
 use Rattle.es5_ast.specs.Lexical.{Token5, Tokens5}
 use Rattle.es5_ast.specs.Grammar.{Mode5, Exact, IsProgram}
@@ -8,7 +8,7 @@ use Rattle.es5_ast.specs.Script.{IsStrict}
 use Rattle.es5_ast.specs.Depth.{most_open, open_constructs}
 use Rattle.es5_ast.specs.Dead.{AreInOrder}
 use Rattle.es5_reading.specs.Parser.{Stop5, Syntax, Depth, Outside, Endless, Took, Fault}
-use Rattle.es5_reading.specs.Programs.{script}
+use Rattle.es5_reading.specs.Programs.{readers, program, script}
 
 -- The tokens of a text stand one behind the other.
 abbrev pub TextsAreInOrder : Type 0
@@ -39,6 +39,12 @@ IsFinal Endless = ⊥
 abbrev pub BeginAlike : List Token5 → List Token5 → Type 0
 BeginAlike [] us = us ≡ []
 BeginAlike (t ∷ ts) us = (rest : List Token5) × (us ≡ t ∷ rest)
+
+-- Such a fault stays where more constructs may open and loops have more turns, whatever follows the token that it stands at.
+abbrev pub FaultsStay : Type 0
+FaultsStay = (inserting : Bool) (fuel room : ℕ) (tokens : List Token5) (last : ℕ) (stop : Stop5) (rest : List Token5) → program (readers inserting fuel room) fuel (record { tokens = tokens; last = last }) ≡ Fault stop rest → IsFinal stop
+    → (front : List Token5) × (tokens ≡ front ++ rest) × ((more : ℕ) (others : List Token5) → BeginAlike rest others
+    → program (readers inserting (fuel + more) (room + more)) (fuel + more) (record { tokens = front ++ others; last = last }) ≡ Fault stop others)
 
 -- Such a fault stands at a token with which no script goes on after the tokens before it, if every semicolon stands among the tokens.
 abbrev pub FaultsAreDead : Type 0

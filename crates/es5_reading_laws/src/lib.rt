@@ -1,7 +1,7 @@
 //! Laws of the model that reads scripts, beyond those of `es5_reading`. Each is the contract of a function that does nothing.
 #![tactic(auto)]
 
-ghost use Rattle.es5_reading_laws.specs.Laws.{AreWithin, FaultsAreDead, ShallowScriptsAreRead, TextsAreInOrder};
+ghost use Rattle.es5_reading_laws.specs.Laws.{AreWithin, FaultsAreDead, FaultsStay, ShallowScriptsAreRead, TextsAreInOrder};
 
 /// The tokens of a text stand one behind the other.
 pub fn tokens_of_a_text_stand_in_order()
@@ -16,6 +16,12 @@ pub fn open_constructs_bound_derivations()
 /// A script among whose tokens every semicolon stands is read exactly so, if at no token more than 2,048 constructs are open.
 pub fn shallow_scripts_are_read()
     ensures { ShallowScriptsAreRead }
+{}
+
+/// A fault, but one for want of constructs that may open or of turns, stays where more may open and loops have more turns, whatever
+/// follows the token that it stands at.
+pub fn faults_stay_with_more_room()
+    ensures { FaultsStay }
 {}
 
 /// A fault, but one for want of constructs that may open or of turns, stands at a token with which no script goes on after the
