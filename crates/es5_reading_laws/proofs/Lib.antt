@@ -5,6 +5,7 @@ pub mod Depths
 pub mod Shallow
 pub mod Directive
 pub mod Locality
+pub mod Places
 pub mod LocalReaders
 pub mod LocalLimits
 pub mod DeadFaults
