@@ -1,1 +1,4 @@
+pub mod Checking
 pub mod Linking
+pub mod Loading
+pub mod Reading

@@ -1,7 +1,16 @@
-//! Graphs of modules as the program has them. Here alone whole modules are owned, so that here alone they are let go.
+//! Graphs of modules as the program has them: read from files, and linked. Here alone whole modules are owned, so that here alone
+//! they are let go.
 #![tactic(auto)]
 
+mod checking;
 mod linking;
+mod loading;
+mod reading;
 
+pub use checking::{CheckFault, check};
 pub use linking::link;
+pub use loading::{Modules, load};
+pub use module_checks::ModuleFault;
 pub use module_links::LinkFault;
+pub use module_loading::LoadFault;
+pub use reading::read_module;
