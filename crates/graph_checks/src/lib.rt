@@ -1,0 +1,9 @@
+//! The checks of a graph of modules: each module is read and checked, in load order, and then each name that one wants of another.
+#![tactic(auto)]
+
+mod checking;
+mod faults;
+mod first;
+
+pub use checking::checked;
+pub use first::first_place;
