@@ -1,5 +1,5 @@
 -- From what the parts of a command leave to what the command leaves.
-use Rattle.std.proofs.Common.{◌≡◌, ℕ, ◌+◌, ◌<◌, ◌≤◌, List, [], ◌∷◌, ◌++◌, Option, Some, None, Result, Ok, Err, MatchResult, Vec, refl, sym, ap, ◌∙◌, subst, arith, length, take, min, append_assoc, length-take, option_map, ◌⊎◌, inl, inr, get_or}
+use Rattle.std.proofs.Common.{◌≡◌, ℕ, ◌+◌, ◌<◌, ◌≤◌, Bool, true, false, cond, List, [], ◌∷◌, ◌++◌, Option, Some, None, Result, Ok, Err, MatchResult, Vec, refl, sym, ap, ◌∙◌, subst, arith, length, take, min, length-take, option_map, ◌⊎◌, inl, inr, get_or}
 use Rattle.std.specs.Prelude.{slice_get}
 use Rattle.std.proofs.lemmas.Bool.{cases_lt}
 use Rattle.std.proofs.lemmas.Option.{slice_get-get_or, slice_get_past}
@@ -9,18 +9,21 @@ use Rattle.std.proofs.lemmas.List.{take_all}
 use Rattle.std.specs.Prelude.{IfSome}
 use Rattle.std.proofs.lemmas.List.{append-nil}
 use Rattle.es_outside.specs.Counts.{CountRose}
-use Rattle.es_outside.specs.Sinks.{Adds, AddsFront}
+use Rattle.es_outside.specs.Sinks.{Adds}
 use Rattle.es5c.specs.declared.status.Status.{Status}
 use Rattle.es5c.specs.declared.status.Status.TheVariants as status
 use Rattle.es5c.specs.declared.fault.Fault.{Fault}
-use Rattle.es5c.specs.declared.fault.Fault.TheVariants.{Missing, ReadFailed, FileTooLong, NotBuilt, BadMap, Unbuilt}
+use Rattle.es5c.specs.declared.fault.Fault.TheVariants.{Missing, ReadFailed, FileTooLong, InGraph, NotBuilt, BadMap, Unbuilt}
 use Rattle.es_outside.specs.Files.{read_of}
 use Rattle.first_trees.specs.declared.Module.{Module}
 use Rattle.first_forms.specs.Lexing.{tokens_of}
-use Rattle.first_forms.specs.Modules.{Spells, StopsAt}
-use Rattle.first_forms.specs.Faults.{IsFault}
+use Rattle.first_forms.specs.Modules.{Spells}
 use Rattle.first_forms.specs.declared.reader.ReadFault.{ReadFault}
 use Rattle.first_forms.specs.declared.reader.ReadFault.TheVariants as read
+use Rattle.first_forms.specs.declared.token.Token.{Token}
+use Rattle.es_text.specs.Units.{IsTextFault}
+use Rattle.es_text.specs.declared.units.TextFault.{TextFault}
+use Rattle.es_text.specs.declared.units.TextFault.TheVariants as texts
 use Rattle.es5c.specs.declared.fault.CommandFault.{CommandFault}
 use Rattle.es5c.specs.declared.fault.CommandFault.TheVariants.{Refused, OutOfMemory}
 use Rattle.command_words.specs.declared.command.WordsFault.{WordsFault}
@@ -29,14 +32,23 @@ use Rattle.command_words.specs.Words.{Asked, command_of}
 use Rattle.command_words.specs.Words as asked
 use Rattle.command_words.specs.Said.{IsRefused}
 use Rattle.source_map.specs.Document.{map_of}
-use Rattle.source_map.specs.Line.{map_text_of, script_map_of}
+use Rattle.source_map.specs.Line.{map_text_of}
 use Rattle.source_map.specs.Outcome.{◌>>=◌, Fails}
-use Rattle.source_map.specs.declared.map.Map.{Map}
 use Rattle.source_map.specs.declared.fault.MapFault.{MapFault}
 use Rattle.source_map.specs.declared.fault.MapFault.TheVariants as map_fault
-use Rattle.es5c.specs.Lines.{line_of, status_of, place_of, usage_line}
-use Rattle.es5c.specs.Outcome.{max_module_bytes, max_script_bytes, IsAccepted, HasMap, HasNoMap, no_script, script_too_long, bad_map, IsMapText, map_line, HasFault, subject, Refuses, missing, too_long, not_built, Written, HasAdded, HasFailed, Call, OnFile, Makes, script, map, Cause, IsRefusedBy, IsLine, usage, refusal, IsReported, IsCutOff, cut_output, cut_line, IsOutcome, IsCalm, IsDue, ComesWhenDue}
-use Rattle.es5c.specs.Parts.{build_fault_of, map_fault_of, IsBytesScript, IsBytesMap, FitsBytes, IsFileScript, IsFileMap, MadeBy, FitsFile, IsSaid, said, cut_off, unsaid, IsMisuseOutcome, IsFailOutcome, IsWritten, IsCommandOutcome, wrote, failed}
+use Rattle.module_loading.specs.Files.{Holds}
+use Rattle.graph_refusals.specs.Lines.{is_limit, is_placed_limit}
+use Rattle.graph_refusals.specs.declared.fault.FileFault.{FileFault}
+use Rattle.graph_refusals.specs.declared.fault.FileFault.TheVariants as in_file
+use Rattle.graph_refusals.specs.declared.fault.GraphFault.{GraphFault}
+use Rattle.graph_refusals.specs.declared.fault.GraphFault.TheVariants as graph_fault
+use Rattle.graph_refusals.specs.declared.fault.Refusal.{Refusal}
+use Rattle.graph_checks.specs.Checks.{HasGraphFault, IsRefusedFor, Passes, Refuses, by_files, by_reading}
+use Rattle.graph_checks.proofs.Entry.{entry_missing, entry_no_text, entry_too_long, entry_unread}
+use Rattle.graph_checks.proofs.Laws.{one_limit_refused, passes_or_refused, refuses_no_read}
+use Rattle.es5c.specs.Lines.{graph_status_of, line_of, status_of, usage_line}
+use Rattle.es5c.specs.Outcome.{max_module_bytes, max_script_bytes, IsAccepted, IsUnbuilt, RefusesEntry, in_graph, not_built, HasMap, HasNoMap, no_script, script_too_long, bad_map, IsMapText, OnFile, HasFault, GraphCause, IsToCome, Cause, subject, Written, HasAdded, Call, Makes, script, map, IsLine, usage, refusal, IsReported, cut_output, cut_line, IsOutcome, IsCalm, IsDue, ComesWhenDue}
+use Rattle.es5c.specs.Parts.{map_fault_of, graph_fault_of, entry_refusal, IsEntryFault, IsBytesScript, RefusesBytes, bytes_too_long, bytes_no_text, bytes_unbuilt, TellsUnbuilt, tells_first, tells_no_text, tells_nothing, FitsBytes, IsBytesMap, FitsScript, Fits, IsFileScript, IsFileMap, MadeBy, IsSaid, said, cut_off, unsaid, IsMisuseOutcome, IsFailOutcome, IsWritten, IsCommandOutcome, wrote, failed}
 
 same_some : {A : Type 0} {x y : A} → Some x ≡ Some y → x ≡ y
 same_some e = cc
@@ -64,19 +76,32 @@ longer_file limit content read e long =
     let same : length (take (limit + 1) content) ≡ length read = ap length e in
     omega arith
 
--- what was read is the file that was told, as far as it was read
-accepted_file : (hosts : List (List ℕ)) (file : Option (List ℕ)) (read : List ℕ) (m : Module) → option_map (read_of max_module_bytes) file ≡ Some read → length read ≤ max_module_bytes → Spells hosts (tokens_of read) m → IsAccepted hosts file m
-accepted_file hosts None read m e short spells = absurd (cc)
-accepted_file hosts (Some content) read m e short spells =
-    let whole : content ≡ read = whole_file max_module_bytes content read (same_some e) short in
-    record { bytes = read; found = ap Some whole; within = short; spells = spells }
+-- What was read is the file that was told, as far as it was read; of one that isn't told nothing is said.
+whole_told : (told : Option (List ℕ → Option (List ℕ))) (path read : List ℕ) → IfSome told (λ file. option_map (read_of max_module_bytes) (file path) ≡ Some read) → length read ≤ max_module_bytes → Holds told path (Some read)
+whole_told None path read e short = tt
+whole_told (Some file) path read e short = by_file (file path) refl e
+  where
+    by_file : (content : Option (List ℕ)) → file path ≡ content → option_map (read_of max_module_bytes) (file path) ≡ Some read → file path ≡ Some read
+    by_file None is e = absurd (let none : option_map (read_of max_module_bytes) None ≡ Some read = subst (λ (c : Option (List ℕ)). option_map (read_of max_module_bytes) c ≡ Some read) is e in cc)
+    by_file (Some content) is e =
+        let cut : option_map (read_of max_module_bytes) (Some content) ≡ Some read = subst (λ (c : Option (List ℕ)). option_map (read_of max_module_bytes) c ≡ Some read) is e in
+        is ∙ ap Some (whole_file max_module_bytes content read (same_some cut) short)
 
-refused_file : (hosts : List (List ℕ)) (file : Option (List ℕ)) (read : List ℕ) (fault : Fault) → option_map (read_of max_module_bytes) file ≡ Some read → Refuses hosts (Some read) fault → Refuses hosts file fault
-refused_file hosts None read fault e r = absurd (cc)
-refused_file hosts (Some content) read fault e (too_long long) = too_long (longer_file max_module_bytes content read (same_some e) long)
-refused_file hosts (Some content) read fault e (not_built {at = at} short stops) =
-    let whole : content ≡ read = whole_file max_module_bytes content read (same_some e) short in
-    subst (λ (c : List ℕ). Refuses hosts (Some c) (NotBuilt (place_of read at))) (sym whole) (not_built short stops)
+-- a file of which more was read than a module may have
+record IsLong (told : Option (List ℕ → Option (List ℕ))) (path : List ℕ) : Type 0 where
+  content : List ℕ
+  holds : Holds told path (Some content)
+  long : max_module_bytes < length content
+
+long_told : (told : Option (List ℕ → Option (List ℕ))) (path read : List ℕ) → IfSome told (λ file. option_map (read_of max_module_bytes) (file path) ≡ Some read) → max_module_bytes < length read → IsLong told path
+long_told None path read e long = record { content = read; holds = tt; long = long }
+long_told (Some file) path read e long = by_file (file path) refl e
+  where
+    by_file : (content : Option (List ℕ)) → file path ≡ content → option_map (read_of max_module_bytes) (file path) ≡ Some read → IsLong (Some file) path
+    by_file None is e = absurd (let none : option_map (read_of max_module_bytes) None ≡ Some read = subst (λ (c : Option (List ℕ)). option_map (read_of max_module_bytes) c ≡ Some read) is e in cc)
+    by_file (Some content) is e =
+        let cut : option_map (read_of max_module_bytes) (Some content) ≡ Some read = subst (λ (c : Option (List ℕ)). option_map (read_of max_module_bytes) c ≡ Some read) is e in
+        record { content = content; holds = is; long = longer_file max_module_bytes content read (same_some cut) long }
 
 mapped_file : (file : Option (List ℕ)) (read text : List ℕ) → option_map (read_of max_script_bytes) file ≡ Some read → length read ≤ max_script_bytes → map_text_of read ≡ Ok text → HasMap file text
 mapped_file None read text e short holds = absurd (cc)
@@ -91,21 +116,97 @@ unmapped_file (Some content) read fault e (bad_map {fault = f} short no_map) =
     let whole : content ≡ read = whole_file max_script_bytes content read (same_some e) short in
     subst (λ (c : List ℕ). HasNoMap (Some c) (BadMap f)) (sym whole) (bad_map short no_map)
 
-found_file : (hosts : List (List ℕ)) (files : Option (List ℕ → Option (List ℕ))) (path : List ℕ) (old new : ℕ) (read : List ℕ) (result : Result (Vec ℕ Global) CommandFault) → IfSome files (λ file. option_map (read_of max_module_bytes) (file path) ≡ Some read) → MatchResult result (λ s. IsBytesScript hosts read s.items) (FitsBytes hosts (asked.build []) read) → MatchResult result (λ s. IsFileScript hosts files path s.items) (FitsFile hosts (asked.build path) files old new)
-found_file hosts files path old new read (Ok s) told b = record {
+-- what the bytes of the entry hold against it
+bytes_refuse : (hosts : List (List ℕ)) (told : Option (List ℕ → Option (List ℕ))) (entry read : List ℕ) (old new : ℕ) (fault : Fault) → Passes told hosts entry → IfSome told (λ file. option_map (read_of max_module_bytes) (file entry) ≡ Some read) → RefusesBytes hosts entry read fault → Cause hosts (asked.build entry) told old new fault
+bytes_refuse hosts told entry read old new _ passes e (bytes_too_long long) =
+    let l = long_told told entry read e long in
+    by_files (entry_too_long told hosts entry l.content l.holds l.long)
+bytes_refuse hosts told entry read old new _ passes e (bytes_no_text at short fault) = by_files (entry_no_text told hosts entry read at (whole_told told entry read e short) short fault)
+bytes_refuse hosts told entry read old new _ passes e (bytes_unbuilt short unbuilt first) = not_built passes (whole_told told entry read e short) unbuilt first
+
+found_entry : (hosts : List (List ℕ)) (told : Option (List ℕ → Option (List ℕ))) (entry read : List ℕ) (old new : ℕ) (result : Result (Vec ℕ Global) CommandFault) → Passes told hosts entry → IfSome told (λ file. option_map (read_of max_module_bytes) (file entry) ≡ Some read) → MatchResult result (λ s. IsBytesScript hosts read s.items) (FitsBytes hosts entry read) → MatchResult result (λ s. IsFileScript hosts told entry s.items) (Fits hosts (asked.build entry) told old new)
+found_entry hosts told entry read old new (Ok s) passes e b = record {
   m = b.m;
-  accepted = if_some_map files (λ file e. accepted_file hosts (file path) read b.m e b.within b.spells) told;
+  accepted = record { passes = passes; bytes = read; holds = whole_told told entry read e b.within; within = b.within; spells = b.spells };
   script_of = b.script_of;
 }
-found_file hosts files path old new read (Err OutOfMemory) told b = tt
-found_file hosts files path old new read (Err (Refused Missing)) told b = elim b [ ]
-found_file hosts files path old new read (Err (Refused ReadFailed)) told b = elim b [ ]
-found_file hosts files path old new read (Err (Refused (BadMap f))) told b = elim b [ ]
-found_file hosts files path old new read (Err (Refused Unbuilt)) told b = elim b [ ]
-found_file hosts files path old new read (Err (Refused FileTooLong)) told b = if_some_map files (λ file e. refused_file hosts (file path) read FileTooLong e b) told
-found_file hosts files path old new read (Err (Refused (NotBuilt place))) told b = if_some_map files (λ file e. refused_file hosts (file path) read (NotBuilt place) e b) told
+found_entry hosts told entry read old new (Err OutOfMemory) passes e b = tt
+found_entry hosts told entry read old new (Err (Refused fault)) passes e b = bytes_refuse hosts told entry read old new fault passes e b
 
-pub found_map : (files : Option (List ℕ → Option (List ℕ))) (path : List ℕ) (old new : ℕ) (read : List ℕ) (result : Result (Vec ℕ Global) CommandFault) → IfSome files (λ file. option_map (read_of max_script_bytes) (file path) ≡ Some read) → MatchResult result (λ s. IsBytesMap read s.items) (FitsBytes [] (asked.map_of []) read) → MatchResult result (λ s. IsFileMap files path s.items) (FitsFile [] (asked.map_of path) files old new)
+-- the same, where the bytes are those of a slice
+pub found_as : (hosts : List (List ℕ)) (told : Option (List ℕ → Option (List ℕ))) (entry : List ℕ) (old new : ℕ) (read slice : List ℕ) (result : Result (Vec ℕ Global) CommandFault) → slice ≡ read → Passes told hosts entry → IfSome told (λ file. option_map (read_of max_module_bytes) (file entry) ≡ Some read) → MatchResult result (λ s. IsBytesScript hosts slice s.items) (FitsBytes hosts entry slice) → MatchResult result (λ s. IsFileScript hosts told entry s.items) (Fits hosts (asked.build entry) told old new)
+found_as hosts told entry old new read slice result e passes f b =
+    found_entry hosts told entry read old new result passes f (subst (λ (r : List ℕ). MatchResult result (λ s. IsBytesScript hosts r s.items) (FitsBytes hosts entry r)) e b)
+
+-- a fault of the entry itself, or want of memory
+pub fits_entry : (hosts : List (List ℕ)) (told : Option (List ℕ → Option (List ℕ))) (entry : List ℕ) (old new : ℕ) (kind : FileFault) (fault : CommandFault) → IsEntryFault entry kind fault → IsRefusedFor told hosts entry old new (record { path = entry; fault = kind }) → Fits hosts (asked.build entry) told old new fault
+fits_entry hosts told entry old new kind (Refused f) e r = subst (λ (x : Fault). Cause hosts (asked.build entry) told old new x) (sym e) r
+fits_entry hosts told entry old new kind OutOfMemory e r = tt
+
+pub missing_fits : (hosts : List (List ℕ)) (told : Option (List ℕ → Option (List ℕ))) (entry : List ℕ) (old new : ℕ) (fault : CommandFault) → IsEntryFault entry in_file.Missing fault → IfSome told (λ file. file entry ≡ None) → Fits hosts (asked.build entry) told old new fault
+missing_fits hosts told entry old new fault e none = fits_entry hosts told entry old new in_file.Missing fault e (by_files (entry_missing told hosts entry (holds told none)))
+  where
+    holds : (told : Option (List ℕ → Option (List ℕ))) → IfSome told (λ file. file entry ≡ None) → Holds told entry None
+    holds None none = tt
+    holds (Some file) none = none
+
+pub unread_fits : (hosts : List (List ℕ)) (told : Option (List ℕ → Option (List ℕ))) (entry : List ℕ) (old new : ℕ) (fault : CommandFault) → IsEntryFault entry in_file.ReadFailed fault → CountRose old new → Fits hosts (asked.build entry) told old new fault
+unread_fits hosts told entry old new fault e rose = fits_entry hosts told entry old new in_file.ReadFailed fault e (entry_unread told hosts entry old new rose)
+
+pub fits_bytes : (hosts : List (List ℕ)) (entry bytes : List ℕ) (kind : FileFault) (fault : CommandFault) → IsEntryFault entry kind fault → RefusesBytes hosts entry bytes (entry_refusal entry kind) → FitsBytes hosts entry bytes fault
+fits_bytes hosts entry bytes kind (Refused f) e r = subst (RefusesBytes hosts entry bytes) (sym e) r
+fits_bytes hosts entry bytes kind OutOfMemory e r = tt
+
+pub no_text_told : (entry bytes : List ℕ) (at : ℕ) (text : TextFault) (fault : CommandFault) → text ≡ texts.NotUtf8 at → IsTextFault bytes text → IsEntryFault entry (in_file.NotUtf8 at) fault → TellsUnbuilt entry bytes fault
+no_text_told entry bytes at text (Refused f) is v e = subst (λ (x : Fault). TellsUnbuilt entry bytes (Refused x)) (sym e) (tells_no_text at (subst (IsTextFault bytes) is v))
+no_text_told entry bytes at text OutOfMemory is v e = tells_nothing
+
+-- no module of the forms that are built is spelled, where the reader says so
+pub no_form : (hosts : List (List ℕ)) (bytes : List ℕ) (tokens : List Token) (fault : ReadFault) (at : ℕ) → tokens ≡ tokens_of bytes → fault ≡ read.NotBuilt at → ((m : Module) → Spells hosts tokens m → fault ≡ read.OutOfMemory) → IsUnbuilt hosts bytes
+no_form hosts bytes tokens fault at e is complete = λ m spells.
+    let none : fault ≡ read.OutOfMemory = complete m (subst (λ (ts : List Token). Spells hosts ts m) (sym e) spells) in
+    let bad : read.NotBuilt at ≡ read.OutOfMemory = sym is ∙ none in
+    cc
+
+pub unbuilt_fits : (hosts : List (List ℕ)) (entry bytes : List ℕ) (fault : CommandFault) → length bytes ≤ max_module_bytes → IsUnbuilt hosts bytes → TellsUnbuilt entry bytes fault → FitsBytes hosts entry bytes fault
+unbuilt_fits hosts entry bytes _ short unbuilt (tells_first place) = bytes_unbuilt short unbuilt place
+unbuilt_fits hosts entry bytes _ short unbuilt (tells_no_text at v) = bytes_no_text at short v
+unbuilt_fits hosts entry bytes _ short unbuilt tells_nothing = tt
+
+-- a fault of the graph
+pub graph_fits : (hosts : List (List ℕ)) (told : Option (List ℕ → Option (List ℕ))) (entry : List ℕ) (old new : ℕ) (fault : GraphFault) → HasGraphFault told hosts entry old new fault → Fits hosts (asked.build entry) told old new (graph_fault_of fault)
+graph_fits hosts told entry old new (graph_fault.Refused r) h = h
+graph_fits hosts told entry old new graph_fault.OutOfMemory h = tt
+
+-- a count that rose since rose from before
+rose_from : (old middle new : ℕ) → old ≤ middle → CountRose middle new → CountRose old new
+rose_from old middle new le rose = λ no_end. let lt : middle < new = rose no_end in omega arith
+
+refused_from : (told : Option (List ℕ → Option (List ℕ))) (hosts : List (List ℕ)) (entry : List ℕ) (old middle new : ℕ) (r : Refusal) → old ≤ middle → IsRefusedFor told hosts entry middle new r → IsRefusedFor told hosts entry old new r
+refused_from told hosts entry old middle new _ le (by_files r) = by_files r
+refused_from told hosts entry old middle new _ le (by_reading rose next) = by_reading (rose_from old middle new le rose) next
+
+pub fits_from : (hosts : List (List ℕ)) (told : Option (List ℕ → Option (List ℕ))) (entry : List ℕ) (old middle new : ℕ) (result : Result (Vec ℕ Global) CommandFault) → old ≤ middle → MatchResult result (λ s. IsFileScript hosts told entry s.items) (Fits hosts (asked.build entry) told middle new) → MatchResult result (λ s. IsFileScript hosts told entry s.items) (Fits hosts (asked.build entry) told old new)
+fits_from hosts told entry old middle new (Ok s) le h = h
+fits_from hosts told entry old middle new (Err OutOfMemory) le h = tt
+fits_from hosts told entry old middle new (Err (Refused Missing)) le h = h
+fits_from hosts told entry old middle new (Err (Refused ReadFailed)) le h = rose_from old middle new le h
+fits_from hosts told entry old middle new (Err (Refused FileTooLong)) le h = h
+fits_from hosts told entry old middle new (Err (Refused (InGraph r))) le h = refused_from told hosts entry old middle new r le h
+fits_from hosts told entry old middle new (Err (Refused (NotBuilt place))) le h = h
+fits_from hosts told entry old middle new (Err (Refused (BadMap fault))) le h = h
+fits_from hosts told entry old middle new (Err (Refused Unbuilt)) le h = h
+
+-- the graph passed, and what is made of its entry is what the command makes
+pub built_of : (hosts list : List (List ℕ)) (told told2 : Option (List ℕ → Option (List ℕ))) (entry : List ℕ) (old middle new : ℕ) (result : Result (Vec ℕ Global) CommandFault) → list ≡ hosts → told2 ≡ told → old ≤ middle → MatchResult result (λ s. IsFileScript list told2 entry s.items) (Fits list (asked.build entry) told2 middle new) → MatchResult result (λ s. IsFileScript hosts told entry s.items) (Fits hosts (asked.build entry) told old new)
+built_of hosts list told told2 entry old middle new result e f le h =
+    let at_told = subst (λ (t : Option (List ℕ → Option (List ℕ))). MatchResult result (λ s. IsFileScript list t entry s.items) (Fits list (asked.build entry) t middle new)) f h in
+    fits_from hosts told entry old middle new result le (subst (λ (l : List (List ℕ)). MatchResult result (λ s. IsFileScript l told entry s.items) (Fits l (asked.build entry) told middle new)) e at_told)
+
+pub passes_at : (hosts list : List (List ℕ)) (told told2 : Option (List ℕ → Option (List ℕ))) (entry : List ℕ) → list ≡ hosts → told2 ≡ told → Passes told hosts entry → Passes told2 list entry
+passes_at hosts list told told2 entry e f p = subst (λ (t : Option (List ℕ → Option (List ℕ))). Passes t list entry) (sym f) (subst (λ (l : List (List ℕ)). Passes told l entry) (sym e) p)
+
+pub found_map : (files : Option (List ℕ → Option (List ℕ))) (path : List ℕ) (old new : ℕ) (read : List ℕ) (result : Result (Vec ℕ Global) CommandFault) → IfSome files (λ file. option_map (read_of max_script_bytes) (file path) ≡ Some read) → MatchResult result (λ s. IsBytesMap read s.items) (FitsScript read) → MatchResult result (λ s. IsFileMap files path s.items) (Fits [] (asked.map_of path) files old new)
 found_map files path old new read (Ok s) told b = record {
   text = b.text;
   accepted = if_some_map files (λ file e. mapped_file (file path) read b.text e b.within b.holds) told;
@@ -114,20 +215,18 @@ found_map files path old new read (Ok s) told b = record {
 }
 found_map files path old new read (Err OutOfMemory) told b = tt
 found_map files path old new read (Err (Refused Missing)) told b = elim b [ ]
+found_map files path old new read (Err (Refused (InGraph r))) told b = elim b [ ]
 found_map files path old new read (Err (Refused ReadFailed)) told b = elim b [ ]
 found_map files path old new read (Err (Refused (NotBuilt place))) told b = elim b [ ]
 found_map files path old new read (Err (Refused Unbuilt)) told b = elim b [ ]
 found_map files path old new read (Err (Refused FileTooLong)) told b = if_some_map files (λ file e. unmapped_file (file path) read FileTooLong e b) told
 found_map files path old new read (Err (Refused (BadMap f))) told b = if_some_map files (λ file e. unmapped_file (file path) read (BadMap f) e b) told
 
-pub missing_file : (hosts : List (List ℕ)) (files : Option (List ℕ → Option (List ℕ))) (path : List ℕ) → IfSome files (λ file. file path ≡ None) → IfSome files (λ file. Refuses hosts (file path) Missing)
-missing_file hosts files path told = if_some_map files (λ file e. subst (λ (o : Option (List ℕ)). Refuses hosts o Missing) (sym e) missing) told
-
 pub missing_script : (files : Option (List ℕ → Option (List ℕ))) (path : List ℕ) → IfSome files (λ file. file path ≡ None) → IfSome files (λ file. HasNoMap (file path) Missing)
 missing_script files path told = if_some_map files (λ file e. subst (λ (o : Option (List ℕ)). HasNoMap o Missing) (sym e) no_script) told
 
 -- a script's map that isn't read
-pub map_text_fault : (bytes : List ℕ) (fault : MapFault) → length bytes ≤ max_script_bytes → Fails fault (map_text_of bytes) → FitsBytes [] (asked.map_of []) bytes (map_fault_of fault)
+pub map_text_fault : (bytes : List ℕ) (fault : MapFault) → length bytes ≤ max_script_bytes → Fails fault (map_text_of bytes) → FitsScript bytes (map_fault_of fault)
 map_text_fault bytes map_fault.OutOfMemory short f = tt
 map_text_fault bytes map_fault.NoMap short f = bad_map short (rw f refl)
 map_text_fault bytes map_fault.BadBase64 short f = bad_map short (rw f refl)
@@ -137,7 +236,7 @@ map_text_fault bytes (map_fault.BadDigit at) short f = bad_map short (rw f refl)
 map_text_fault bytes (map_fault.BadFields at) short f = bad_map short (rw f refl)
 map_text_fault bytes (map_fault.BadIndex at) short f = bad_map short (rw f refl)
 
-pub map_read_fault : (bytes text : List ℕ) (fault : MapFault) → length bytes ≤ max_script_bytes → map_text_of bytes ≡ Ok text → Fails fault (map_of text) → FitsBytes [] (asked.map_of []) bytes (map_fault_of fault)
+pub map_read_fault : (bytes text : List ℕ) (fault : MapFault) → length bytes ≤ max_script_bytes → map_text_of bytes ≡ Ok text → Fails fault (map_of text) → FitsScript bytes (map_fault_of fault)
 map_read_fault bytes text map_fault.OutOfMemory short e f = tt
 map_read_fault bytes text map_fault.NoMap short e f = bad_map short (rw e f)
 map_read_fault bytes text map_fault.BadBase64 short e f = bad_map short (rw e f)
@@ -147,45 +246,48 @@ map_read_fault bytes text (map_fault.BadDigit at) short e f = bad_map short (rw 
 map_read_fault bytes text (map_fault.BadFields at) short e f = bad_map short (rw e f)
 map_read_fault bytes text (map_fault.BadIndex at) short e f = bad_map short (rw e f)
 
-pub read_fault : (hosts : List (List ℕ)) (bytes : List ℕ) (fault : ReadFault) → IsFault hosts (tokens_of bytes) fault → length bytes ≤ max_module_bytes → FitsBytes hosts (asked.build []) bytes (build_fault_of bytes fault)
-read_fault hosts bytes (read.NotBuilt at) stops short = not_built short stops
-read_fault hosts bytes read.OutOfMemory stops short = tt
-
 -- the outcome of a command
 reported : (c : Call) (s s' : Status) (line : List ℕ) → IsLine c s line → HasAdded c.out [] → IsSaid c.err line s s' → (HasAdded c.err line → IsOutcome c s) → IsOutcome c s'
 reported c s s' bytes l o (said h) as_said = as_said h
 reported c s s' bytes l o (cut_off h) as_said = cut_line s bytes l h o
 reported c s s' bytes l o (unsaid h) as_said = (o, h)
 
-report_of : (c : Call) (fault : Fault) (line : List ℕ) → IsLine c (status_of fault) line → HasAdded c.out [] → HasAdded c.err line → IsOutcome c (status_of fault)
-report_of c Missing bytes l o h = record { line = bytes; is_line = l; on_err = h; on_out = o }
-report_of c ReadFailed bytes l o h = record { line = bytes; is_line = l; on_err = h; on_out = o }
-report_of c FileTooLong bytes l o h = record { line = bytes; is_line = l; on_err = h; on_out = o }
-report_of c (NotBuilt place) bytes l o h = record { line = bytes; is_line = l; on_err = h; on_out = o }
-report_of c (BadMap fault) bytes l o h = record { line = bytes; is_line = l; on_err = h; on_out = o }
-report_of c Unbuilt bytes l o h = record { line = bytes; is_line = l; on_err = h; on_out = o }
+-- what holds of the three statuses of refusals holds of the status of a graph's fault
+by_graph_status : (P : Status → Type 0) (fault : FileFault) → P status.Refused → P status.ReadFault → P status.Limit → P (graph_status_of fault)
+by_graph_status P in_file.Missing refused unread limit = refused
+by_graph_status P in_file.ReadFailed refused unread limit = unread
+by_graph_status P in_file.FileTooLong refused unread limit = limit
+by_graph_status P in_file.GraphTooLong refused unread limit = limit
+by_graph_status P (in_file.NotUtf8 at) refused unread limit = refused
+by_graph_status P (in_file.At place fault) refused unread limit = by_limit (is_placed_limit fault)
+  where
+    by_limit : (b : Bool) → P (cond b status.Limit status.Refused)
+    by_limit true = limit
+    by_limit false = refused
+
+report_of : (c : Call) (fault : Fault) → IsReported c (status_of fault) → IsOutcome c (status_of fault)
+report_of c Missing r = r
+report_of c ReadFailed r = r
+report_of c FileTooLong r = r
+report_of c (InGraph r) reported = by_graph_status (λ (s : Status). IsReported c s → IsOutcome c s) r.fault (λ x. x) (λ x. x) (λ x. x) reported
+report_of c (NotBuilt place) r = r
+report_of c (BadMap fault) r = r
+report_of c Unbuilt r = r
 
 pub misused : (c : Call) (fault : WordsFault) (s : Status) → IsRefused (command_of c.words) fault → HasAdded c.out [] → IsMisuseOutcome fault c.err s → IsOutcome c s
 misused c words.Usage s none o h = reported c status.Usage s usage_line (usage none) o h (λ k. record { line = usage_line; is_line = usage none; on_err = k; on_out = o })
 misused c words.OutOfMemory s fits o h = subst (λ (t : Status). IsOutcome c t) (sym h.0) (o, h.1)
-
-cause_of : (c : Call) (a : Asked) (fault : Fault) → FitsFile c.hosts a c.files c.faults_old c.faults_new (Refused fault) → Cause c a fault
-cause_of c a Missing f = f
-cause_of c a ReadFailed f = f
-cause_of c a FileTooLong f = f
-cause_of c a (NotBuilt place) f = f
-cause_of c a (BadMap fault) f = f
-cause_of c a Unbuilt f = f
 
 written : (c : Call) (s : Status) (bytes : List ℕ) → Makes c bytes → HasAdded c.err [] → IsSaid c.out bytes status.Done s → IsOutcome c s
 written c s bytes b e (said h) = (bytes, b, h, e)
 written c s bytes b e (cut_off h) = cut_output bytes b h e
 written c s bytes b e (unsaid h) = (h, e)
 
-fails : (c : Call) (a : Asked) (s : Status) (fault : CommandFault) → command_of c.words ≡ Some a → FitsFile c.hosts a c.files c.faults_old c.faults_new fault → IsFailOutcome (subject a) fault c.err s → HasAdded c.out [] → IsOutcome c s
+fails : (c : Call) (a : Asked) (s : Status) (fault : CommandFault) → command_of c.words ≡ Some a → Fits c.hosts a c.files c.faults_old c.faults_new fault → IsFailOutcome (subject a) fault c.err s → HasAdded c.out [] → IsOutcome c s
 fails c a s (Refused fault) command f h o =
-    let l = refusal (record { asked = a; command = command; line_is = refl; cause = cause_of c a fault f }) in
-    reported c (status_of fault) s (line_of (subject a) fault) l o h (report_of c fault (line_of (subject a) fault) l o)
+    let l = refusal (record { asked = a; command = command; line_is = refl; cause = f }) in
+    let line = line_of (subject a) fault in
+    reported c (status_of fault) s line l o h (λ k. report_of c fault (record { line = line; is_line = l; on_err = k; on_out = o }))
 fails c a s OutOfMemory command f h o = subst (λ (t : Status). IsOutcome c t) (sym h.0) (o, h.1)
 
 makes : (c : Call) (a : Asked) (bytes : List ℕ) → command_of c.words ≡ Some a → MadeBy c.hosts a c.files bytes → Makes c bytes
@@ -201,18 +303,12 @@ pub done : (c : Call) (a : Asked) (s : Status) → command_of c.words ≡ Some a
 done c a s command (wrote bytes f h e) = written c s bytes (makes c a bytes command f) e h
 done c a s command (failed fault f h o) = fails c a s fault command f h o
 
--- a file that is read as a module has no fault
-one_finding : (hosts : List (List ℕ)) (file : Option (List ℕ)) (m : Module) (fault : Fault) → IsAccepted hosts file m → Refuses hosts file fault → ⊥
-one_finding hosts file m fault a missing = let e = a.found in cc
-one_finding hosts file m fault a (too_long {bytes = bytes} long) =
-    let e : length a.bytes ≡ length bytes = ap length (same_some (sym a.found)) in
-    let w = a.within in
-    absurd (omega arith)
-one_finding hosts file m fault a (not_built {bytes = bytes} {at = at} short stops) =
-    let e : a.bytes ≡ bytes = same_some (sym a.found) in
-    let spelled : Spells hosts (tokens_of bytes) m = subst (λ (b : List ℕ). Spells hosts (tokens_of b) m) e a.spells in
-    let joined : tokens_of bytes ≡ (stops.before ++ stops.token ∷ []) ++ stops.after = stops.split ∙ sym (append_assoc stops.before (stops.token ∷ []) stops.after) in
-    stops.dead stops.after m (subst (λ ts. Spells hosts ts m) joined spelled)
+-- a graph that is accepted has no fault
+one_finding : (hosts : List (List ℕ)) (file : List ℕ → Option (List ℕ)) (entry : List ℕ) (m : Module) (fault : Fault) → IsAccepted hosts (Some file) entry m → RefusesEntry hosts (Some file) entry fault → ⊥
+one_finding hosts file entry m _ a (in_graph {refusal = r} refuses) = passes_or_refused file hosts entry r a.passes refuses
+one_finding hosts file entry m _ a (not_built {bytes = bytes} passes holds unbuilt place) =
+    let same : a.bytes ≡ bytes = same_some (sym a.holds ∙ holds) in
+    unbuilt m (subst (λ (b : List ℕ). Spells hosts (tokens_of b) m) same a.spells)
 
 -- nor has one that holds a map
 one_map : (file : Option (List ℕ)) (text : List ℕ) (fault : Fault) → HasMap file text → IsMapText text → HasNoMap file fault → ⊥
@@ -229,13 +325,24 @@ one_map file text fault h is (bad_map {bytes = bytes} {fault = f} short no_map) 
     let some = is.1 in
     absurd (cc)
 
--- the faults of a file have one status
-one_status : (hosts : List (List ℕ)) (file : Option (List ℕ)) (f g : Fault) → Refuses hosts file f → Refuses hosts file g → status_of f ≡ status_of g
-one_status hosts file f g missing missing = refl
-one_status hosts file f g (too_long long) (too_long long2) = refl
-one_status hosts file f g (too_long long) (not_built short stops) = absurd (omega arith)
-one_status hosts file f g (not_built short stops) (too_long long) = absurd (omega arith)
-one_status hosts file f g (not_built short stops) (not_built short2 stops2) = refl
+-- the faults of a graph have one status
+status_by_limit : (f : FileFault) → (f ≡ in_file.ReadFailed → ⊥) → graph_status_of f ≡ cond (is_limit f) status.Limit status.Refused
+status_by_limit in_file.Missing unless = refl
+status_by_limit in_file.ReadFailed unless = absurd (unless refl)
+status_by_limit in_file.FileTooLong unless = refl
+status_by_limit in_file.GraphTooLong unless = refl
+status_by_limit (in_file.NotUtf8 at) unless = refl
+status_by_limit (in_file.At place fault) unless = refl
+
+refusal_status : (told : Option (List ℕ → Option (List ℕ))) (hosts : List (List ℕ)) (entry : List ℕ) (r : Refusal) → Refuses told hosts entry r → status_of (InGraph r) ≡ cond (is_limit r.fault) status.Limit status.Refused
+refusal_status told hosts entry r refuses = status_by_limit r.fault (refuses_no_read told hosts entry r refuses)
+
+one_status : (hosts : List (List ℕ)) (file : List ℕ → Option (List ℕ)) (entry : List ℕ) (f g : Fault) → RefusesEntry hosts (Some file) entry f → RefusesEntry hosts (Some file) entry g → status_of f ≡ status_of g
+one_status hosts file entry _ _ (in_graph {refusal = r} x) (in_graph {refusal = q} y) =
+    refusal_status (Some file) hosts entry r x ∙ ap (λ b. cond b status.Limit status.Refused) (one_limit_refused file hosts entry r q x y) ∙ sym (refusal_status (Some file) hosts entry q y)
+one_status hosts file entry _ _ (in_graph {refusal = r} x) (not_built passes holds unbuilt place) = absurd (passes_or_refused file hosts entry r passes x)
+one_status hosts file entry _ _ (not_built passes holds unbuilt place) (in_graph {refusal = r} x) = absurd (passes_or_refused file hosts entry r passes x)
+one_status hosts file entry _ _ (not_built passes holds unbuilt place) (not_built passes2 holds2 unbuilt2 place2) = refl
 
 one_map_status : (file : Option (List ℕ)) (f g : Fault) → HasNoMap file f → HasNoMap file g → status_of f ≡ status_of g
 one_map_status file f g no_script no_script = refl
@@ -247,48 +354,67 @@ one_map_status file f g (bad_map short h) (bad_map short2 h2) = refl
 unbuilt_status : (f g : Fault) → f ≡ Unbuilt → g ≡ Unbuilt → status_of f ≡ status_of g
 unbuilt_status f g e k = ap status_of (e ∙ sym k)
 
-same_fault : (hosts : List (List ℕ)) (a : Asked) (file : Option (List ℕ)) (f g : Fault) → HasFault hosts a file f → HasFault hosts a file g → status_of f ≡ status_of g
-same_fault hosts (asked.build entry) file f g = one_status hosts file f g
-same_fault hosts (asked.map_of path) file f g = one_map_status file f g
+same_fault : (hosts : List (List ℕ)) (a : Asked) (file : List ℕ → Option (List ℕ)) (f g : Fault) → HasFault hosts a (Some file) f → HasFault hosts a (Some file) g → status_of f ≡ status_of g
+same_fault hosts (asked.build entry) file f g = one_status hosts file entry f g
+same_fault hosts (asked.map_of path) file f g = one_map_status (file path) f g
 same_fault hosts (asked.split entry) file f g = unbuilt_status f g
 same_fault hosts (asked.rebuild entry list) file f g = unbuilt_status f g
 same_fault hosts (asked.run entry steps) file f g = unbuilt_status f g
 same_fault hosts (asked.run5 path steps) file f g = unbuilt_status f g
 same_fault hosts (asked.sample n) file f g = unbuilt_status f g
 
--- a command that isn't built has this fault whatever its file is
-any_file : (hosts : List (List ℕ)) (a : Asked) (file : Option (List ℕ)) → HasFault hosts a None Unbuilt → HasFault hosts a file Unbuilt
-any_file hosts (asked.build entry) file h = elim h [ ]
-any_file hosts (asked.map_of path) file h = elim h [ ]
-any_file hosts (asked.split entry) file h = h
-any_file hosts (asked.rebuild entry list) file h = h
-any_file hosts (asked.run entry steps) file h = h
-any_file hosts (asked.run5 path steps) file h = h
-any_file hosts (asked.sample n) file h = h
+-- a cause is a fault of what the files tell, if no read failed
+graph_fault_told : (hosts : List (List ℕ)) (a : Asked) (told : Option (List ℕ → Option (List ℕ))) (old new : ℕ) (r : Refusal) → (CountRose old new → ⊥) → GraphCause hosts a told old new r → HasFault hosts a told (InGraph r)
+graph_fault_told hosts (asked.build entry) told old new r calm h = by_cause r h
+  where
+    by_cause : (r : Refusal) → IsRefusedFor told hosts entry old new r → RefusesEntry hosts told entry (InGraph r)
+    by_cause _ (by_files x) = in_graph x
+    by_cause _ (by_reading rose next) = absurd (calm rose)
+graph_fault_told hosts (asked.map_of path) told old new r calm h = absurd h
+graph_fault_told hosts (asked.split entry) told old new r calm h = absurd h
+graph_fault_told hosts (asked.rebuild entry list) told old new r calm h = absurd h
+graph_fault_told hosts (asked.run entry steps) told old new r calm h = absurd h
+graph_fault_told hosts (asked.run5 path steps) told old new r calm h = absurd h
+graph_fault_told hosts (asked.sample n) told old new r calm h = absurd h
+
+to_come : (hosts : List (List ℕ)) (a : Asked) (told : Option (List ℕ → Option (List ℕ))) → IsToCome a → HasFault hosts a told Unbuilt
+to_come hosts (asked.build entry) told h = absurd h
+to_come hosts (asked.map_of path) told h = absurd h
+to_come hosts (asked.split entry) told h = refl
+to_come hosts (asked.rebuild entry list) told h = refl
+to_come hosts (asked.run entry steps) told h = refl
+to_come hosts (asked.run5 path steps) told h = refl
+to_come hosts (asked.sample n) told h = refl
+
+fault_told : (hosts : List (List ℕ)) (a : Asked) (told : Option (List ℕ → Option (List ℕ))) (old new : ℕ) (fault : Fault) → (CountRose old new → ⊥) → Cause hosts a told old new fault → HasFault hosts a told fault
+fault_told hosts a told old new Missing calm h = h
+fault_told hosts a told old new ReadFailed calm h = absurd (calm h)
+fault_told hosts a told old new FileTooLong calm h = h
+fault_told hosts a told old new (InGraph r) calm h = graph_fault_told hosts a told old new r calm h
+fault_told hosts a told old new (NotBuilt place) calm h = h
+fault_told hosts a told old new (BadMap fault) calm h = h
+fault_told hosts a told old new Unbuilt calm h = to_come hosts a told h
 
 -- The status is the one that is due, by what the call leaves.
 module _ (c : Call) (file : List ℕ → Option (List ℕ)) (told : c.files ≡ Some file) where
-  on_file : (P : Option (List ℕ) → Type 0) (path : List ℕ) → OnFile c path P → P (file path)
-  on_file P path h = subst (λ (o : Option (List ℕ → Option (List ℕ))). IfSome o (λ f. P (f path))) told h
-
-  same_asked : (a b : Asked) → command_of c.words ≡ Some a → command_of c.words ≡ Some b → a ≡ b
-  same_asked a b e f = same_some (sym e ∙ f)
+  at_file : (P : Option (List ℕ → Option (List ℕ)) → Type 0) → P c.files → P (Some file)
+  at_file P h = subst P told h
 
   -- the fault of the one command that is asked for
-  fault_here : (a b : Asked) (fault : Fault) → command_of c.words ≡ Some a → command_of c.words ≡ Some b → HasFault c.hosts b (file (subject b)) fault → HasFault c.hosts a (file (subject a)) fault
-  fault_here a b fault e f h = subst (λ (z : Asked). HasFault c.hosts z (file (subject z)) fault) (same_asked b a f e) h
+  fault_here : (a b : Asked) (fault : Fault) → command_of c.words ≡ Some a → command_of c.words ≡ Some b → HasFault c.hosts b (Some file) fault → HasFault c.hosts a (Some file) fault
+  fault_here a b fault e f h = subst (λ (z : Asked). HasFault c.hosts z (Some file) fault) (same_some (sym f ∙ e)) h
 
   made_is_due : (bytes : List ℕ) → Makes c bytes → IsDue c file status.Done
   made_is_due bytes (script entry m command accepted same) =
-      let here = on_file (λ f. IsAccepted c.hosts f m) entry accepted in
+      let here = at_file (λ t. IsAccepted c.hosts t entry m) accepted in
       record {
         no_command = λ none. absurd (cc);
         accepted = λ entry2 m2 command2 a. refl;
         mapped = λ path text command2 h is. refl;
-        refused = λ a fault command2 r. absurd (one_finding c.hosts (file entry) m fault here (fault_here (asked.build entry) a fault command command2 r));
+        refused = λ a fault command2 r. absurd (one_finding c.hosts file entry m fault here (fault_here (asked.build entry) a fault command command2 r));
       }
   made_is_due bytes (map text path command has is) =
-      let here = on_file (λ f. HasMap f text) path has in
+      let here = at_file (λ t. OnFile t path (λ f. HasMap f text)) has in
       record {
         no_command = λ none. absurd (cc);
         accepted = λ entry m command2 a. refl;
@@ -296,12 +422,12 @@ module _ (c : Call) (file : List ℕ → Option (List ℕ)) (told : c.files ≡ 
         refused = λ a fault command2 r. absurd (one_map (file path) text fault here is (fault_here (asked.map_of path) a fault command command2 r));
       }
 
-  refusal_is_due : (fault : Fault) (a : Asked) → command_of c.words ≡ Some a → HasFault c.hosts a (file (subject a)) fault → IsDue c file (status_of fault)
+  refusal_is_due : (fault : Fault) (a : Asked) → command_of c.words ≡ Some a → HasFault c.hosts a (Some file) fault → IsDue c file (status_of fault)
   refusal_is_due fault a command r = record {
     no_command = λ none. absurd (cc);
-    accepted = λ entry m command2 h. absurd (one_finding c.hosts (file entry) m fault h (fault_here (asked.build entry) a fault command2 command r));
+    accepted = λ entry m command2 h. absurd (one_finding c.hosts file entry m fault h (fault_here (asked.build entry) a fault command2 command r));
     mapped = λ path text command2 h is. absurd (one_map (file path) text fault h is (fault_here (asked.map_of path) a fault command2 command r));
-    refused = λ b fault2 command2 r2. same_fault c.hosts a (file (subject a)) fault fault2 r (fault_here a b fault2 command command2 r2);
+    refused = λ b fault2 command2 r2. same_fault c.hosts a file fault fault2 r (fault_here a b fault2 command command2 r2);
   }
 
   line_is_due : IsCalm c → (s : Status) (bytes : List ℕ) → IsLine c s bytes → IsDue c file s
@@ -311,12 +437,8 @@ module _ (c : Call) (file : List ℕ → Option (List ℕ)) (told : c.files ≡ 
     mapped = λ path text command h is. absurd (cc);
     refused = λ a fault command r. absurd (cc);
   }
-  line_is_due calm s bytes (refusal {fault = Missing} r) = refusal_is_due Missing r.asked r.command (on_file (λ f. HasFault c.hosts r.asked f Missing) (subject r.asked) r.cause)
-  line_is_due calm s bytes (refusal {fault = ReadFailed} r) = absurd (calm.files r.cause)
-  line_is_due calm s bytes (refusal {fault = FileTooLong} r) = refusal_is_due FileTooLong r.asked r.command (on_file (λ f. HasFault c.hosts r.asked f FileTooLong) (subject r.asked) r.cause)
-  line_is_due calm s bytes (refusal {fault = NotBuilt place} r) = refusal_is_due (NotBuilt place) r.asked r.command (on_file (λ f. HasFault c.hosts r.asked f (NotBuilt place)) (subject r.asked) r.cause)
-  line_is_due calm s bytes (refusal {fault = BadMap fault} r) = refusal_is_due (BadMap fault) r.asked r.command (on_file (λ f. HasFault c.hosts r.asked f (BadMap fault)) (subject r.asked) r.cause)
-  line_is_due calm s bytes (refusal {fault = Unbuilt} r) = refusal_is_due Unbuilt r.asked r.command (any_file c.hosts r.asked (file (subject r.asked)) r.cause)
+  line_is_due calm s bytes (refusal {fault = fault} r) =
+      refusal_is_due fault r.asked r.command (at_file (λ t. HasFault c.hosts r.asked t fault) (fault_told c.hosts r.asked c.files c.faults_old c.faults_new fault calm.files r.cause))
 
   outcome_is_due : (s : Status) → IsCalm c → (s ≡ status.OutOfMemory → ⊥) → IsOutcome c s → IsDue c file s
   outcome_is_due status.Done calm memory o = made_is_due o.0 o.1
@@ -356,11 +478,6 @@ all_names names items n e none = by_case (cases_lt n (length names))
     by_case : (n < length names) ⊎ (length names ≤ n) → items ≡ names
     by_case (inl lt) = absurd (let read : slice_get names n ≡ Some (get_or names n []) = slice_get-get_or names n [] lt in cc)
     by_case (inr past) = e ∙ take_all n names past
-
-pub found_as : (hosts hosts2 : List (List ℕ)) (files : Option (List ℕ → Option (List ℕ))) (path : List ℕ) (old new : ℕ) (read read2 : List ℕ) (result : Result (Vec ℕ Global) CommandFault) → hosts2 ≡ hosts → read2 ≡ read → IfSome files (λ file. option_map (read_of max_module_bytes) (file path) ≡ Some read) → MatchResult result (λ s. IsBytesScript hosts2 read2 s.items) (FitsBytes hosts2 (asked.build []) read2) → MatchResult result (λ s. IsFileScript hosts files path s.items) (FitsFile hosts (asked.build path) files old new)
-found_as hosts hosts2 files path old new read read2 result e f told b =
-    let at_hosts = subst (λ (h : List (List ℕ)). MatchResult result (λ s. IsBytesScript h read2 s.items) (FitsBytes h (asked.build []) read2)) e b in
-    found_file hosts files path old new read result told (subst (λ (r : List ℕ). MatchResult result (λ s. IsBytesScript hosts r s.items) (FitsBytes hosts (asked.build []) r)) f at_hosts)
 
 pub wrote_slice : {path : List ℕ} {made : List ℕ → Type 0} {fits : CommandFault → Type 0} {out err : Written} {s : Status} (bytes slice : List ℕ) → slice ≡ bytes → made bytes → IsSaid out slice status.Done s → HasAdded err [] → IsWritten path made fits out err s
 wrote_slice {out = out} {s = s} bytes slice e f h g = wrote bytes f (subst (λ (b : List ℕ). IsSaid out b status.Done s) e h) g

@@ -1,11 +1,15 @@
 -- The lines of refusals, and the numbers of statuses.
-use Rattle.std.specs.Prelude.{ℕ, ◌+◌, ◌<◌, ◌^◌, ◌==◌, if◌then◌else◌, List, [], ◌∷◌, ◌++◌, take, codes}
+use Rattle.std.specs.Prelude.{ℕ, if◌then◌else◌, List, [], ◌∷◌, ◌++◌, codes}
 use Rattle.std.specs.Fmt.{decimal}
 use Rattle.es_text.specs.declared.Place.{Place}
 use Rattle.es5c.specs.declared.status.Status.{Status}
 use Rattle.es5c.specs.declared.status.Status.TheVariants as status
 use Rattle.es5c.specs.declared.fault.Fault.{Fault}
-use Rattle.es5c.specs.declared.fault.Fault.TheVariants.{Missing, ReadFailed, FileTooLong, NotBuilt, BadMap, Unbuilt}
+use Rattle.es5c.specs.declared.fault.Fault.TheVariants.{Missing, ReadFailed, FileTooLong, InGraph, NotBuilt, BadMap, Unbuilt}
+use Rattle.graph_refusals.specs.declared.fault.FileFault.{FileFault}
+use Rattle.graph_refusals.specs.declared.fault.FileFault.TheVariants as in_file
+use Rattle.graph_refusals.specs.Lines as graph
+use Rattle.graph_refusals.specs.Lines.{is_limit, place_text}
 use Rattle.source_map.specs.declared.fault.MapFault.{MapFault}
 use Rattle.source_map.specs.declared.fault.MapFault.TheVariants.{NoMap, BadBase64, BadJson, BadVersion, BadDigit, BadFields, BadIndex}
 
@@ -22,20 +26,6 @@ code_of status.Left = 8
 code_of status.StepsSpent = 9
 code_of status.HostFault = 10
 
--- the place after these bytes, from a place on: a line feed ends a line
-abbrev pub place_after : Place → List ℕ → Place
-place_after place [] = place
-place_after place (b ∷ bs) =
-    place_after (if b == 10 then record { line = place.line + 1; column = 0 } else record { line = place.line; column = place.column + 1 }) bs
-
--- the place at an offset, line and column from 0
-abbrev pub place_of : List ℕ → ℕ → Place
-place_of bytes at = place_after (record { line = 0; column = 0 }) (take at bytes)
-
--- a place as it is printed, from 1
-abbrev pub place_text : Place → List ℕ
-place_text place = codes ":" ++ decimal (place.line + 1) ++ codes ":" ++ decimal (place.column + 1)
-
 -- the line of a fault of a map: its kind, and its place where it has one, in characters of `mappings` from 0
 abbrev pub map_fault_line : List ℕ → MapFault → List ℕ
 map_fault_line path NoMap = path ++ (codes ": map fault NoMap" ++ 10 ∷ [])
@@ -47,12 +37,17 @@ map_fault_line path (BadFields at) = path ++ codes ": map fault BadFields at " +
 map_fault_line path (BadIndex at) = path ++ codes ": map fault BadIndex at " ++ (decimal at ++ 10 ∷ [])
 map_fault_line path _ = []
 
--- what each fault's line says
+-- the line for an entry whose first token stands here
+abbrev pub not_built_line : List ℕ → Place → List ℕ
+not_built_line path place = path ++ place_text place ++ (codes ": not built" ++ 10 ∷ [])
+
+-- what each fault's line says; the path is that of the file, or the word of the command
 abbrev pub line_of : List ℕ → Fault → List ℕ
 line_of path Missing = path ++ (codes ": missing" ++ 10 ∷ [])
 line_of path ReadFailed = path ++ (codes ": read fault" ++ 10 ∷ [])
 line_of path FileTooLong = path ++ (codes ": file too long" ++ 10 ∷ [])
-line_of path (NotBuilt place) = path ++ place_text place ++ (codes ": not built" ++ 10 ∷ [])
+line_of path (InGraph refusal) = graph.line_of refusal
+line_of path (NotBuilt place) = not_built_line path place
 line_of path (BadMap fault) = map_fault_line path fault
 line_of path Unbuilt = path ++ (codes ": not built" ++ 10 ∷ [])
 
@@ -62,15 +57,15 @@ usage_line =
     ++ 10 ∷ []
 
 -- the status of each fault
+abbrev pub graph_status_of : FileFault → Status
+graph_status_of in_file.ReadFailed = status.ReadFault
+graph_status_of fault = (if is_limit fault then status.Limit else status.Refused)
+
 abbrev pub status_of : Fault → Status
 status_of Missing = status.Refused
 status_of ReadFailed = status.ReadFault
 status_of FileTooLong = status.Limit
+status_of (InGraph refusal) = graph_status_of refusal.fault
 status_of (NotBuilt place) = status.Refused
 status_of (BadMap fault) = status.Refused
 status_of Unbuilt = status.Refused
-
--- a place whose numbers can be counted from 1
-abbrev pub IsPrintable : Fault → Type 0
-IsPrintable (NotBuilt place) = (place.line < 2 ^ 63) × (place.column < 2 ^ 63)
-IsPrintable _ = Unit {0}

@@ -1,29 +1,27 @@
 -- What a command leaves, by the status that it answers.
-use Rattle.std.specs.Prelude.{◌≡◌, ℕ, ◌<◌, ◌≤◌, ◌⊎◌, List, [], ◌∷◌, ◌++◌, Option, Some, None, Ok, Err, IfSome, length, codes}
+use Rattle.std.specs.Prelude.{◌≡◌, ℕ, ◌<◌, ◌≤◌, List, [], ◌∷◌, ◌++◌, Option, Some, None, Ok, Err, IfSome, length, codes}
 use Rattle.es_outside.specs.Counts.{CountRose}
 use Rattle.es_outside.specs.Sinks.{Adds, AddsFront}
+use Rattle.es_text.specs.declared.Place.{Place}
 use Rattle.first_trees.specs.declared.Module.{Module}
 use Rattle.first_forms.specs.Lexing.{tokens_of}
-use Rattle.first_forms.specs.Modules.{Spells, StopsAt}
+use Rattle.first_forms.specs.Modules.{Spells}
 use Rattle.first_script.specs.Script.{IsScriptOf}
-use Rattle.first_forms.specs.declared.reader.ReadFault.{ReadFault}
-use Rattle.first_forms.specs.declared.reader.ReadFault.TheVariants as read
 use Rattle.source_map.specs.Document.{map_of}
 use Rattle.source_map.specs.Line.{map_text_of, script_map_of}
 use Rattle.source_map.specs.declared.map.Map.{Map}
 use Rattle.source_map.specs.declared.fault.MapFault.{MapFault}
-use Rattle.source_map.specs.declared.fault.MapFault.TheVariants as map_fault
 use Rattle.command_words.specs.Words.{Asked, command_of}
 use Rattle.command_words.specs.Words as asked
-use Rattle.command_words.specs.declared.command.WordsFault.{WordsFault}
-use Rattle.command_words.specs.declared.command.WordsFault.TheVariants as words
+use Rattle.module_loading.specs.Files.{Holds, Told}
+use Rattle.graph_refusals.specs.declared.fault.Refusal.{Refusal}
+use Rattle.graph_checks.specs.Checks.{Passes, Refuses, IsRefusedFor}
+use Rattle.graph_checks.specs.First.{IsFirstPlace}
 use Rattle.es5c.specs.declared.status.Status.{Status}
 use Rattle.es5c.specs.declared.status.Status.TheVariants as status
 use Rattle.es5c.specs.declared.fault.Fault.{Fault}
-use Rattle.es5c.specs.declared.fault.Fault.TheVariants.{Missing, ReadFailed, FileTooLong, NotBuilt, BadMap, Unbuilt}
-use Rattle.es5c.specs.declared.fault.CommandFault.{CommandFault}
-use Rattle.es5c.specs.declared.fault.CommandFault.TheVariants.{Refused, OutOfMemory}
-use Rattle.es5c.specs.Lines.{line_of, status_of, place_of, usage_line, IsPrintable}
+use Rattle.es5c.specs.declared.fault.Fault.TheVariants.{Missing, ReadFailed, FileTooLong, InGraph, NotBuilt, BadMap, Unbuilt}
+use Rattle.es5c.specs.Lines.{line_of, status_of, usage_line}
 
 -- the most bytes of a module
 abbrev pub max_module_bytes : ℕ
@@ -33,18 +31,22 @@ max_module_bytes = 4194304
 abbrev pub max_script_bytes : ℕ
 max_script_bytes = 67108864
 
--- The file is read as this module, where the program has these hosts.
-pub record IsAccepted (hosts : List (List ℕ)) (file : Option (List ℕ)) (m : Module) : Type 0 where
+-- The graph of the entry passes every check, and the entry is this module, where the program has these hosts.
+pub record IsAccepted (hosts : List (List ℕ)) (told : Told) (entry : List ℕ) (m : Module) : Type 0 where
+  pub passes : Passes told hosts entry
   pub bytes : List ℕ
-  pub found : file ≡ Some bytes
+  pub holds : Holds told entry (Some bytes)
   pub within : length bytes ≤ max_module_bytes
   pub spells : Spells hosts (tokens_of bytes) m
 
--- The file has this fault: it is missing, too long, or what stands at a place begins nothing that is read today.
-pub data Refuses (hosts : List (List ℕ)) : Option (List ℕ) → Fault → Type 0 where
-  missing : Refuses hosts None Missing
-  too_long : {bytes : List ℕ} → max_module_bytes < length bytes → Refuses hosts (Some bytes) FileTooLong
-  not_built : {bytes : List ℕ} {at : ℕ} → length bytes ≤ max_module_bytes → StopsAt hosts (tokens_of bytes) at → Refuses hosts (Some bytes) (NotBuilt (place_of bytes at))
+-- the bytes are in no form that is built today
+abbrev pub IsUnbuilt : List (List ℕ) → List ℕ → Type 0
+IsUnbuilt hosts bytes = (m : Module) → Spells hosts (tokens_of bytes) m → ⊥
+
+-- The graph of the entry has this fault, or it passes every check, and the entry is in no form that is built today.
+pub data RefusesEntry (hosts : List (List ℕ)) (told : Told) (entry : List ℕ) : Fault → Type 0 where
+  in_graph : {refusal : Refusal} → Refuses told hosts entry refusal → RefusesEntry hosts told entry (InGraph refusal)
+  not_built : {bytes : List ℕ} {place : Place} → Passes told hosts entry → Holds told entry (Some bytes) → IsUnbuilt hosts bytes → IsFirstPlace bytes place → RefusesEntry hosts told entry (NotBuilt place)
 
 -- The file is a script that holds the text of a map.
 pub record HasMap (file : Option (List ℕ)) (text : List ℕ) : Type 0 where
@@ -77,11 +79,33 @@ subject (asked.run entry steps) = codes "run"
 subject (asked.run5 script steps) = codes "run5"
 subject (asked.sample n) = codes "sample"
 
--- A command's fault, by the file that it is of.
-abbrev pub HasFault : List (List ℕ) → Asked → Option (List ℕ) → Fault → Type 0
-HasFault hosts (asked.build entry) file fault = Refuses hosts file fault
-HasFault hosts (asked.map_of script) file fault = HasNoMap file fault
-HasFault hosts _ file fault = fault ≡ Unbuilt
+-- what files tell of a path, where they tell something
+abbrev pub OnFile : Told → List ℕ → (Option (List ℕ) → Type 0) → Type 0
+OnFile told path P = IfSome told (λ file. P (file path))
+
+-- a command's fault, by what its files tell
+abbrev pub HasFault : List (List ℕ) → Asked → Told → Fault → Type 0
+HasFault hosts (asked.build entry) told fault = RefusesEntry hosts told entry fault
+HasFault hosts (asked.map_of path) told fault = OnFile told path (λ file. HasNoMap file fault)
+HasFault hosts _ told fault = fault ≡ Unbuilt
+
+-- a command that isn't built yet
+abbrev pub IsToCome : Asked → Type 0
+IsToCome (asked.build entry) = ⊥
+IsToCome (asked.map_of path) = ⊥
+IsToCome _ = Unit {0}
+
+-- what a graph is refused for: a read that failed, or what its files hold
+abbrev pub GraphCause : List (List ℕ) → Asked → Told → ℕ → ℕ → Refusal → Type 0
+GraphCause hosts (asked.build entry) told old new refusal = IsRefusedFor told hosts entry old new refusal
+GraphCause hosts _ told old new refusal = ⊥
+
+-- What a fault comes from: a read that failed, so that the count of faults rose, a command that isn't built, or what the files hold.
+abbrev pub Cause : List (List ℕ) → Asked → Told → ℕ → ℕ → Fault → Type 0
+Cause hosts a told old new ReadFailed = CountRose old new
+Cause hosts a told old new Unbuilt = IsToCome a
+Cause hosts a told old new (InGraph refusal) = GraphCause hosts a told old new refusal
+Cause hosts a told old new fault = HasFault hosts a told fault
 
 -- A sink before and after a call: the bytes that it tells, and its count of faults.
 pub record Written : Type 0 where
@@ -106,38 +130,28 @@ HasFailed sink piece = AddsFront piece sink.old sink.new × CountRose sink.fault
 pub record Call : Type 0 where
   pub words : List (List ℕ)
   pub hosts : List (List ℕ)
-  pub files : Option (List ℕ → Option (List ℕ))
+  pub files : Told
   pub faults_old : ℕ
   pub faults_new : ℕ
   pub out : Written
   pub err : Written
 
 -- a call, by what files tell, its words and hosts, the files before and after it, and what it did to both sinks
-abbrev pub call_of : {F : Type 0} → (F → Option (List ℕ → Option (List ℕ))) → (F → ℕ) → List (List ℕ) → List (List ℕ) → F → F → Written → Written → Call
+abbrev pub call_of : {F : Type 0} → (F → Told) → (F → ℕ) → List (List ℕ) → List (List ℕ) → F → F → Written → Written → Call
 call_of files faults words hosts old new out err =
     record { words = words; hosts = hosts; files = files old; faults_old = faults old; faults_new = faults new; out = out; err = err }
 
--- the file of a path, where the files are told
-abbrev pub OnFile : Call → List ℕ → (Option (List ℕ) → Type 0) → Type 0
-OnFile c path P = IfSome c.files (λ file. P (file path))
-
 -- What the call is to write, on the output: the script of the entry's module, or the text of a script's map.
 pub data Makes (c : Call) : List ℕ → Type 0 where
-  script : {bytes : List ℕ} (entry : List ℕ) (m : Module) → command_of c.words ≡ Some (asked.build entry) → OnFile c entry (λ file. IsAccepted c.hosts file m) → IsScriptOf c.hosts m bytes → Makes c bytes
-  map : (text path : List ℕ) → command_of c.words ≡ Some (asked.map_of path) → OnFile c path (λ file. HasMap file text) → IsMapText text → Makes c (map_line text)
-
--- what a fault comes from: a read that failed, a command that isn't built, or what the file holds
-abbrev pub Cause : Call → Asked → Fault → Type 0
-Cause c a ReadFailed = CountRose c.faults_old c.faults_new
-Cause c a Unbuilt = HasFault c.hosts a None Unbuilt
-Cause c a fault = OnFile c (subject a) (λ file. HasFault c.hosts a file fault)
+  script : {bytes : List ℕ} (entry : List ℕ) (m : Module) → command_of c.words ≡ Some (asked.build entry) → IsAccepted c.hosts c.files entry m → IsScriptOf c.hosts m bytes → Makes c bytes
+  map : (text path : List ℕ) → command_of c.words ≡ Some (asked.map_of path) → OnFile c.files path (λ file. HasMap file text) → IsMapText text → Makes c (map_line text)
 
 -- The call has this line for this fault.
 pub record IsRefusedBy (c : Call) (fault : Fault) (line : List ℕ) : Type 0 where
   pub asked : Asked
   pub command : command_of c.words ≡ Some asked
   pub line_is : line ≡ line_of (subject asked) fault
-  pub cause : Cause c asked fault
+  pub cause : Cause c.hosts asked c.files c.faults_old c.faults_new fault
 
 -- a line that the call may write to the error stream
 pub data IsLine (c : Call) : Status → List ℕ → Type 0 where
@@ -176,9 +190,9 @@ pub record IsCalm (c : Call) : Type 0 where
 -- The status that is due, where the files are told, no count rose and memory is there.
 pub record IsDue (c : Call) (file : List ℕ → Option (List ℕ)) (s : Status) : Type 0 where
   pub no_command : command_of c.words ≡ None → s ≡ status.Usage
-  pub accepted : (entry : List ℕ) (m : Module) → command_of c.words ≡ Some (asked.build entry) → IsAccepted c.hosts (file entry) m → s ≡ status.Done
+  pub accepted : (entry : List ℕ) (m : Module) → command_of c.words ≡ Some (asked.build entry) → IsAccepted c.hosts (Some file) entry m → s ≡ status.Done
   pub mapped : (path text : List ℕ) → command_of c.words ≡ Some (asked.map_of path) → HasMap (file path) text → IsMapText text → s ≡ status.Done
-  pub refused : (a : Asked) (fault : Fault) → command_of c.words ≡ Some a → HasFault c.hosts a (file (subject a)) fault → s ≡ status_of fault
+  pub refused : (a : Asked) (fault : Fault) → command_of c.words ≡ Some a → HasFault c.hosts a (Some file) fault → s ≡ status_of fault
 
 abbrev pub ComesWhenDue : Call → Status → Type 0
 ComesWhenDue c s = IsCalm c → (s ≡ status.OutOfMemory → ⊥) → IfSome c.files (λ file. IsDue c file s)

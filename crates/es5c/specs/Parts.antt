@@ -1,47 +1,73 @@
 -- What the parts of a command leave, from which its outcome comes.
-use Rattle.std.specs.Prelude.{◌≡◌, ℕ, ◌<◌, ◌≤◌, ◌⊎◌, List, [], ◌∷◌, ◌++◌, Option, Some, None, Ok, Err, IfSome, length, codes}
-use Rattle.es_outside.specs.Counts.{CountRose}
-use Rattle.es_outside.specs.Sinks.{Adds, AddsFront}
+use Rattle.std.specs.Prelude.{◌≡◌, ℕ, ◌<◌, ◌≤◌, List, [], Some, Ok, length}
+use Rattle.std.specs.Str.{IsValidUpTo}
+use Rattle.es_text.specs.declared.Place.{Place}
 use Rattle.first_trees.specs.declared.Module.{Module}
 use Rattle.first_forms.specs.Lexing.{tokens_of}
-use Rattle.first_forms.specs.Modules.{Spells, StopsAt}
+use Rattle.first_forms.specs.Modules.{Spells}
 use Rattle.first_script.specs.Script.{IsScriptOf}
-use Rattle.first_forms.specs.declared.reader.ReadFault.{ReadFault}
-use Rattle.first_forms.specs.declared.reader.ReadFault.TheVariants as read
-use Rattle.source_map.specs.Document.{map_of}
-use Rattle.source_map.specs.Line.{map_text_of, script_map_of}
-use Rattle.source_map.specs.declared.map.Map.{Map}
+use Rattle.source_map.specs.Line.{map_text_of}
 use Rattle.source_map.specs.declared.fault.MapFault.{MapFault}
 use Rattle.source_map.specs.declared.fault.MapFault.TheVariants as map_fault
-use Rattle.command_words.specs.Words.{Asked, command_of}
+use Rattle.command_words.specs.Words.{Asked}
 use Rattle.command_words.specs.Words as asked
 use Rattle.command_words.specs.declared.command.WordsFault.{WordsFault}
 use Rattle.command_words.specs.declared.command.WordsFault.TheVariants as words
+use Rattle.module_loading.specs.Files.{Told}
+use Rattle.graph_refusals.specs.declared.fault.GraphFault.{GraphFault}
+use Rattle.graph_refusals.specs.declared.fault.GraphFault.TheVariants as graph_fault
+use Rattle.graph_refusals.specs.declared.fault.FileFault.{FileFault}
+use Rattle.graph_refusals.specs.declared.fault.FileFault.TheVariants as in_file
+use Rattle.graph_checks.specs.First.{IsFirstPlace}
 use Rattle.es5c.specs.declared.status.Status.{Status}
 use Rattle.es5c.specs.declared.status.Status.TheVariants as status
 use Rattle.es5c.specs.declared.fault.Fault.{Fault}
-use Rattle.es5c.specs.declared.fault.Fault.TheVariants.{Missing, ReadFailed, FileTooLong, NotBuilt, BadMap, Unbuilt}
+use Rattle.es5c.specs.declared.fault.Fault.TheVariants.{InGraph, NotBuilt, BadMap}
 use Rattle.es5c.specs.declared.fault.CommandFault.{CommandFault}
 use Rattle.es5c.specs.declared.fault.CommandFault.TheVariants.{Refused, OutOfMemory}
-use Rattle.es5c.specs.Lines.{line_of, status_of, place_of, usage_line, IsPrintable}
-use Rattle.es5c.specs.Outcome.{max_module_bytes, max_script_bytes, IsAccepted, HasMap, IsMapText, map_line, HasFault, subject, Written, HasAdded, HasFailed}
-
--- the fault of a text, with its place
-abbrev pub build_fault_of : List ℕ → ReadFault → CommandFault
-build_fault_of bytes (read.NotBuilt at) = Refused (NotBuilt (place_of bytes at))
-build_fault_of bytes read.OutOfMemory = OutOfMemory
+use Rattle.es5c.specs.Lines.{line_of, status_of, usage_line}
+use Rattle.es5c.specs.Outcome.{max_module_bytes, max_script_bytes, IsAccepted, IsUnbuilt, HasMap, HasNoMap, IsMapText, map_line, OnFile, Cause, subject, Written, HasAdded, HasFailed}
 
 abbrev pub map_fault_of : MapFault → CommandFault
 map_fault_of map_fault.OutOfMemory = OutOfMemory
 map_fault_of fault = Refused (BadMap fault)
 
--- What is made of the bytes of a file: for a script, of a module, and for a map.
+abbrev pub graph_fault_of : GraphFault → CommandFault
+graph_fault_of graph_fault.OutOfMemory = OutOfMemory
+graph_fault_of (graph_fault.Refused refusal) = Refused (InGraph refusal)
+
+-- what the entry itself is refused for
+abbrev pub entry_refusal : List ℕ → FileFault → Fault
+entry_refusal entry fault = InGraph (record { path = entry; fault = fault })
+
+-- the entry's fault, or want of memory
+abbrev pub IsEntryFault : List ℕ → FileFault → CommandFault → Type 0
+IsEntryFault entry fault (Refused answer) = answer ≡ entry_refusal entry fault
+IsEntryFault entry fault OutOfMemory = Unit {0}
+
+-- The script of the bytes of an entry, and what they hold against it.
 pub record IsBytesScript (hosts : List (List ℕ)) (bytes script : List ℕ) : Type 0 where
   pub m : Module
   pub within : length bytes ≤ max_module_bytes
   pub spells : Spells hosts (tokens_of bytes) m
   pub script_of : IsScriptOf hosts m script
 
+pub data RefusesBytes (hosts : List (List ℕ)) (entry bytes : List ℕ) : Fault → Type 0 where
+  bytes_too_long : max_module_bytes < length bytes → RefusesBytes hosts entry bytes (entry_refusal entry in_file.FileTooLong)
+  bytes_no_text : (at : ℕ) → length bytes ≤ max_module_bytes → IsValidUpTo bytes at → RefusesBytes hosts entry bytes (entry_refusal entry (in_file.NotUtf8 at))
+  bytes_unbuilt : {place : Place} → length bytes ≤ max_module_bytes → IsUnbuilt hosts bytes → IsFirstPlace bytes place → RefusesBytes hosts entry bytes (NotBuilt place)
+
+-- what is told of bytes in no form that is built today: where their first token stands, or that they are no text
+pub data TellsUnbuilt (entry bytes : List ℕ) : CommandFault → Type 0 where
+  tells_first : {place : Place} → IsFirstPlace bytes place → TellsUnbuilt entry bytes (Refused (NotBuilt place))
+  tells_no_text : (at : ℕ) → IsValidUpTo bytes at → TellsUnbuilt entry bytes (Refused (entry_refusal entry (in_file.NotUtf8 at)))
+  tells_nothing : TellsUnbuilt entry bytes OutOfMemory
+
+abbrev pub FitsBytes : List (List ℕ) → List ℕ → List ℕ → CommandFault → Type 0
+FitsBytes hosts entry bytes (Refused fault) = RefusesBytes hosts entry bytes fault
+FitsBytes hosts entry bytes OutOfMemory = Unit {0}
+
+-- The text of the map in the bytes of a script, and what they hold against it.
 pub record IsBytesMap (bytes line : List ℕ) : Type 0 where
   pub text : List ℕ
   pub within : length bytes ≤ max_script_bytes
@@ -49,14 +75,9 @@ pub record IsBytesMap (bytes line : List ℕ) : Type 0 where
   pub is_map : IsMapText text
   pub line_is : line ≡ map_line text
 
--- what the bytes of a file hold against being read
-abbrev pub FitsBytes : List (List ℕ) → Asked → List ℕ → CommandFault → Type 0
-FitsBytes hosts a bytes (Refused fault) = HasFault hosts a (Some bytes) fault
-FitsBytes hosts a bytes OutOfMemory = Unit {0}
-
-abbrev pub IsPrintableFault : CommandFault → Type 0
-IsPrintableFault (Refused fault) = IsPrintable fault
-IsPrintableFault OutOfMemory = Unit {0}
+abbrev pub FitsScript : List ℕ → CommandFault → Type 0
+FitsScript bytes (Refused fault) = HasNoMap (Some bytes) fault
+FitsScript bytes OutOfMemory = Unit {0}
 
 -- What a sink was given: these bytes with this status; or a front of them up to a fault; or nothing, for want of memory.
 pub data IsSaid (sink : Written) (bytes : List ℕ) (s : Status) : Status → Type 0 where
@@ -79,32 +100,30 @@ pub data IsWritten (path : List ℕ) (made : List ℕ → Type 0) (fits : Comman
   wrote : {s : Status} (bytes : List ℕ) → made bytes → IsSaid out bytes status.Done s → HasAdded err [] → IsWritten path made fits out err s
   failed : {s : Status} (fault : CommandFault) → fits fault → IsFailOutcome path fault err s → HasAdded out [] → IsWritten path made fits out err s
 
--- what is wrong with the file, or with the reading of it
-abbrev pub FitsFile : List (List ℕ) → Asked → Option (List ℕ → Option (List ℕ)) → ℕ → ℕ → CommandFault → Type 0
-FitsFile hosts a files old new (Refused ReadFailed) = CountRose old new
-FitsFile hosts a files old new (Refused Unbuilt) = HasFault hosts a None Unbuilt
-FitsFile hosts a files old new (Refused fault) = IfSome files (λ file. HasFault hosts a (file (subject a)) fault)
-FitsFile hosts a files old new OutOfMemory = Unit {0}
+-- what a command is refused for, by its files, or by the reading of them
+abbrev pub Fits : List (List ℕ) → Asked → Told → ℕ → ℕ → CommandFault → Type 0
+Fits hosts a told old new (Refused fault) = Cause hosts a told old new fault
+Fits hosts a told old new OutOfMemory = Unit {0}
 
--- The file's bytes, or those of one that tells none, spell a module, and this is its script.
-pub record IsFileScript (hosts : List (List ℕ)) (files : Option (List ℕ → Option (List ℕ))) (path script : List ℕ) : Type 0 where
+-- The graph of the entry is accepted, and this is the script of the entry's module.
+pub record IsFileScript (hosts : List (List ℕ)) (told : Told) (entry script : List ℕ) : Type 0 where
   pub m : Module
-  pub accepted : IfSome files (λ file. IsAccepted hosts (file path) m)
+  pub accepted : IsAccepted hosts told entry m
   pub script_of : IsScriptOf hosts m script
 
--- They hold a map, and this is its text on a line.
-pub record IsFileMap (files : Option (List ℕ → Option (List ℕ))) (path line : List ℕ) : Type 0 where
+-- The file, or one that tells nothing, holds a map, and this is its text on a line.
+pub record IsFileMap (told : Told) (path line : List ℕ) : Type 0 where
   pub text : List ℕ
-  pub accepted : IfSome files (λ file. HasMap (file path) text)
+  pub accepted : OnFile told path (λ file. HasMap file text)
   pub is_map : IsMapText text
   pub line_is : line ≡ map_line text
 
 -- what a command makes
-abbrev pub MadeBy : List (List ℕ) → Asked → Option (List ℕ → Option (List ℕ)) → List ℕ → Type 0
-MadeBy hosts (asked.build entry) files bytes = IsFileScript hosts files entry bytes
-MadeBy hosts (asked.map_of path) files bytes = IsFileMap files path bytes
-MadeBy hosts _ files bytes = ⊥
+abbrev pub MadeBy : List (List ℕ) → Asked → Told → List ℕ → Type 0
+MadeBy hosts (asked.build entry) told bytes = IsFileScript hosts told entry bytes
+MadeBy hosts (asked.map_of path) told bytes = IsFileMap told path bytes
+MadeBy hosts _ told bytes = ⊥
 
 -- What a command leaves.
-abbrev pub IsCommandOutcome : List (List ℕ) → Asked → Option (List ℕ → Option (List ℕ)) → ℕ → ℕ → Written → Written → Status → Type 0
-IsCommandOutcome hosts a files old new out err s = IsWritten (subject a) (MadeBy hosts a files) (FitsFile hosts a files old new) out err s
+abbrev pub IsCommandOutcome : List (List ℕ) → Asked → Told → ℕ → ℕ → Written → Written → Status → Type 0
+IsCommandOutcome hosts a told old new out err s = IsWritten (subject a) (MadeBy hosts a told) (Fits hosts a told old new) out err s

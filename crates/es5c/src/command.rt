@@ -1,11 +1,11 @@
 //! What is made for a command, and how it is written.
 
-ghost use Rattle.std.specs.Prelude.{◌≡◌, ◌≤◌, IfErr, MatchResult};
+ghost use Rattle.std.specs.Prelude.{◌≡◌, ◌≤◌, MatchResult};
 ghost use Rattle.es_outside.specs.HostList.{names};
 ghost use Rattle.command_words.specs.Words.{asked_of};
 ghost use Rattle.es5c.specs.Outcome.{written_of, subject};
-ghost use Rattle.es5c.specs.Parts.{IsSaid, IsCommandOutcome, IsMisuseOutcome, IsFailOutcome, IsPrintableFault, MadeBy, FitsFile};
-ghost use Rattle.es5c.specs.Lines.{line_of, status_of, IsPrintable};
+ghost use Rattle.es5c.specs.Parts.{IsSaid, IsCommandOutcome, IsMisuseOutcome, IsFailOutcome, MadeBy, Fits};
+ghost use Rattle.es5c.specs.Lines.{line_of, status_of};
 
 use crate::build::build;
 use crate::fault::{CommandFault, Fault};
@@ -61,8 +61,7 @@ fn made<F: Files>(
 ) -> Result<Vec<u8>, CommandFault>
     ensures made { let asked = asked_of command.now in
         MatchResult result (λ text. MadeBy (names hosts.now) asked (F.files files.old) text.items)
-        (FitsFile (names hosts.now) asked (F.files files.old) (F.faults files.old) (F.faults files.new)) }
-    ensures printable { IfErr result IsPrintableFault }
+        (Fits (names hosts.now) asked (F.files files.old) (F.faults files.old) (F.faults files.new)) }
     ensures kept { F.files files.new ≡ F.files files.old }
     ensures no_fall { F.faults files.old ≤ F.faults files.new }
 {
@@ -90,7 +89,6 @@ fn subject(command: &Command) -> &str
 
 /// Writes the line of a command's fault, if it has one.
 fn fail<E: Sink>(alloc: Global, subject: &str, fault: CommandFault, err: &mut E) -> Status
-    requires { IsPrintableFault fault }
     ensures outcome { IsFailOutcome subject.now fault (written_of E.bytes E.faults err.old err.new) result }
     ensures no_fall { E.faults err.old ≤ E.faults err.new }
 {
@@ -113,12 +111,11 @@ fn write_text<S: Sink>(out: &mut S, text: &[u8]) -> Status
 
 /// Writes the line of a fault to the error stream, and answers the fault's status.
 fn refuse<E: Sink>(alloc: Global, path: &str, fault: Fault, err: &mut E) -> Status
-    requires { IsPrintable fault }
     ensures said { IsSaid (written_of E.bytes E.faults err.old err.new) (line_of path.now fault) (status_of fault) result }
     ensures no_fall { E.faults err.old ≤ E.faults err.new }
 {
     match fault.line(alloc, path) {
-        Ok(line) => report(err, line.as_bytes(), fault.status()),
+        Ok(line) => report(err, line.as_slice(), fault.status()),
         Err(_) => Status::OutOfMemory,
     }
 }

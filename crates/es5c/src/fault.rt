@@ -1,24 +1,27 @@
 //! The faults of a command's input, and their lines.
 
-ghost use Rattle.std.specs.Prelude.{◌≡◌, ◌+◌, ◌<◌, ◌≤◌, ◌^◌, [], ◌∷◌, ◌++◌, length, IfOk, string_bytes};
+ghost use Rattle.std.specs.Prelude.{◌≡◌, [], ◌∷◌, ◌++◌, IfOk, OnOk};
 ghost use Rattle.std.specs.Fmt.{decimal};
-ghost use Rattle.es5c.specs.Lines.{line_of, status_of, place_of, place_text, map_fault_line, IsPrintable};
+ghost use Rattle.es5c.specs.Lines.{line_of, status_of, graph_status_of, map_fault_line, not_built_line};
 
 use crate::status::Status;
 use es_text::Place;
+use graph_refusals::{FileFault, GraphFault, Refusal, push_place};
 use source_map::MapFault;
 use std::alloc::{AllocError, Global};
 
-/// Why a command is refused, for a file that it reads.
-#[derive(Clone, Copy, Debug, PartialEq, Eq)]
+/// Why a command is refused.
+#[derive(Debug, Drop)]
 pub enum Fault {
-    /// No file has the path.
+    /// No file has the path of the script.
     Missing,
-    /// The file couldn't be read.
+    /// The script couldn't be read.
     ReadFailed,
-    /// The file is longer than a module may be.
+    /// The script is longer than one may be.
     FileTooLong,
-    /// What stands here is in no form that the program reads today.
+    /// The graph of the entry has this fault.
+    InGraph(Refusal),
+    /// The graph has none, and the entry, whose first token stands here, is in no form that is built today.
     NotBuilt(Place),
     /// The script holds no map.
     BadMap(MapFault),
@@ -27,7 +30,7 @@ pub enum Fault {
 }
 
 /// Why a command makes no text.
-#[derive(Clone, Copy, Debug, PartialEq, Eq)]
+#[derive(Debug, Drop)]
 pub enum CommandFault {
     Refused(Fault),
     OutOfMemory,
@@ -56,6 +59,19 @@ impl From<MapFault> for CommandFault {
     }
 }
 
+impl From<GraphFault> for CommandFault {
+    ghost use Rattle.es5c.specs.Parts.{graph_fault_of};
+
+    ghost from_gives = { λ error fault. fault ≡ graph_fault_of error };
+
+    fn from(error: GraphFault) -> CommandFault {
+        match error {
+            GraphFault::OutOfMemory => CommandFault::OutOfMemory,
+            GraphFault::Refused(refusal) => CommandFault::Refused(Fault::InGraph(refusal)),
+        }
+    }
+}
+
 impl Fault {
     pub fn status(&self) -> Status
         ensures { result ≡ status_of self.now }
@@ -66,35 +82,49 @@ impl Fault {
             }
             Fault::ReadFailed => Status::ReadFault,
             Fault::FileTooLong => Status::Limit,
+            Fault::InGraph(refusal) => graph_status(&refusal.fault),
         }
     }
 
     /// The line that names the fault of the file with this path, or of a command, with places counted from 1.
-    pub fn line(&self, alloc: Global, path: &str) -> Result<String, AllocError>
-        requires { IsPrintable self.now }
-        ensures { IfOk result (λ line. string_bytes line ≡ line_of path.now self.now) }
+    pub fn line(&self, alloc: Global, path: &str) -> Result<Vec<u8>, AllocError>
+        ensures { IfOk result (λ line. line.items ≡ line_of path.now self.now) }
     {
         match self {
             Fault::Missing => line_about_file(alloc, path, ": missing\n"),
             Fault::ReadFailed => line_about_file(alloc, path, ": read fault\n"),
             Fault::FileTooLong => line_about_file(alloc, path, ": file too long\n"),
-            Fault::NotBuilt(place) => line_about_place(alloc, path, place, ": not built\n"),
+            Fault::InGraph(refusal) => refusal.line(alloc),
+            Fault::NotBuilt(place) => line_about_place(alloc, path, place),
             Fault::BadMap(fault) => line_about_map(alloc, path, fault),
             Fault::Unbuilt => line_about_file(alloc, path, ": not built\n"),
         }
     }
 }
 
-fn line_about_file(alloc: Global, path: &str, text: &str) -> Result<String, AllocError>
-    ensures { IfOk result (λ line. string_bytes line ≡ path.now ++ text.now) }
+/// The status of a fault of a graph.
+fn graph_status(fault: &FileFault) -> Status
+    ensures { result ≡ graph_status_of fault.now }
 {
-    let mut line = String::from_str(alloc, path)?;
-    line.push_str(text)?;
+    if matches!(fault, FileFault::ReadFailed) {
+        Status::ReadFault
+    } else if fault.is_limit() {
+        Status::Limit
+    } else {
+        Status::Refused
+    }
+}
+
+fn line_about_file(alloc: Global, path: &str, text: &str) -> Result<Vec<u8>, AllocError>
+    ensures { IfOk result (λ line. line.items ≡ path.now ++ text.now) }
+{
+    let mut line = Vec::from_slice(alloc, path.as_bytes())?;
+    line.extend_from_slice(text.as_bytes())?;
     Ok(line)
 }
 
-fn line_about_map(alloc: Global, path: &str, fault: &MapFault) -> Result<String, AllocError>
-    ensures { IfOk result (λ line. string_bytes line ≡ map_fault_line path.now fault.now) }
+fn line_about_map(alloc: Global, path: &str, fault: &MapFault) -> Result<Vec<u8>, AllocError>
+    ensures { IfOk result (λ line. line.items ≡ map_fault_line path.now fault.now) }
 {
     match fault {
         MapFault::NoMap => line_about_file(alloc, path, ": map fault NoMap\n"),
@@ -128,53 +158,20 @@ fn line_about_mappings(
     path: &str,
     text: &str,
     at: usize,
-) -> Result<String, AllocError>
-    ensures { IfOk result (λ line. string_bytes line ≡ path.now ++ text.now ++ (decimal at ++ 10 ∷ [])) }
+) -> Result<Vec<u8>, AllocError>
+    ensures { IfOk result (λ line. line.items ≡ path.now ++ text.now ++ (decimal at ++ 10 ∷ [])) }
 {
     let number = format!(in alloc; "{at}\n")?;
-    let mut line = String::from_str(alloc, path)?;
-    line.push_str(text)?;
-    line.push_str(number.as_str())?;
+    let mut line = line_about_file(alloc, path, text)?;
+    line.extend_from_slice(number.as_bytes())?;
     Ok(line)
 }
 
-fn line_about_place(
-    alloc: Global,
-    path: &str,
-    place: &Place,
-    text: &str,
-) -> Result<String, AllocError>
-    requires { (place.now.line < 2 ^ 63) × (place.now.column < 2 ^ 63) }
-    ensures { IfOk result (λ line. string_bytes line ≡ path.now ++ place_text place.now ++ text.now) }
+fn line_about_place(alloc: Global, path: &str, place: &Place) -> Result<Vec<u8>, AllocError>
+    ensures { IfOk result (λ line. line.items ≡ not_built_line path.now place.now) }
 {
-    let row = place.line + 1;
-    let column = place.column + 1;
-    let numbers = format!(in alloc; ":{row}:{column}")?;
-    let mut line = String::from_str(alloc, path)?;
-    line.push_str(numbers.as_str())?;
-    line.push_str(text)?;
+    let mut line = Vec::from_slice(alloc, path.as_bytes())?;
+    push_place(alloc, &mut line, place)?;
+    line.extend_from_slice(b": not built\n")?;
     Ok(line)
-}
-
-/// The place at an offset of a text in ASCII, in bytes, or at its end.
-pub fn place_of(bytes: &[u8], at: usize) -> Place
-    ensures place { result ≡ place_of bytes.now at }
-    ensures small { (result.line < 2 ^ 63) × (result.column < 2 ^ 63) }
-{
-    let mut place = Place { line: 0, column: 0 };
-    let end = at.min(bytes.len());
-    for byte in &bytes[..end] {
-        place = if *byte == b'\n' {
-            Place {
-                line: place.line + 1,
-                column: 0,
-            }
-        } else {
-            Place {
-                line: place.line,
-                column: place.column + 1,
-            }
-        };
-    }
-    place
 }

@@ -1,7 +1,7 @@
 //! The command `map`.
 
-ghost use Rattle.std.specs.Prelude.{◌≡◌, ◌≤◌, [], IfErr, MatchResult};
-ghost use Rattle.es5c.specs.Parts.{IsBytesMap, FitsBytes, IsFileMap, FitsFile, IsPrintableFault};
+ghost use Rattle.std.specs.Prelude.{◌≡◌, ◌≤◌, [], MatchResult};
+ghost use Rattle.es5c.specs.Parts.{IsBytesMap, FitsScript, IsFileMap, Fits};
 ghost use Rattle.command_words.specs.Words.{map_of};
 
 use crate::fault::{CommandFault, Fault};
@@ -16,8 +16,7 @@ pub const MAX_SCRIPT_BYTES: u32 = 67_108_864;
 pub fn map_of<F: Files>(alloc: Global, path: &str, files: &mut F) -> Result<Vec<u8>, CommandFault>
     ensures made { MatchResult result
         (λ line. IsFileMap (F.files files.old) path.now line.items)
-        (FitsFile [] (map_of path.now) (F.files files.old) (F.faults files.old) (F.faults files.new)) }
-    ensures printable { IfErr result IsPrintableFault }
+        (Fits [] (map_of path.now) (F.files files.old) (F.faults files.old) (F.faults files.new)) }
     ensures kept { F.files files.new ≡ F.files files.old }
     ensures no_fall { F.faults files.old ≤ F.faults files.new }
 {
@@ -32,8 +31,7 @@ pub fn map_of<F: Files>(alloc: Global, path: &str, files: &mut F) -> Result<Vec<
 /// The text of the map in a script's bytes, and a line feed.
 #[tactic(auto, using(crate::proofs::Outcomes::map_text_fault, crate::proofs::Outcomes::map_read_fault))]
 fn map_of_bytes(alloc: Global, script: &[u8]) -> Result<Vec<u8>, CommandFault>
-    ensures made { MatchResult result (λ line. IsBytesMap script.now line.items) (FitsBytes [] (map_of []) script.now) }
-    ensures printable { IfErr result IsPrintableFault }
+    ensures { MatchResult result (λ line. IsBytesMap script.now line.items) (FitsScript script.now) }
 {
     if script.len() > MAX_SCRIPT_BYTES as usize {
         return Err(CommandFault::Refused(Fault::FileTooLong));

@@ -20,6 +20,7 @@ struct Outcome {
 enum Failing {
     Nothing,
     Read,
+    SecondRead,
     Output,
     Errors,
 }
@@ -33,6 +34,15 @@ fn hosts(alloc: Global) -> Result<Hosts, Fail> {
     match Hosts::new(alloc, list) {
         Ok(hosts) => Ok(hosts),
         Err(_) => Err(Fail::from("a name may name no host")),
+    }
+}
+
+/// Which reads of files are to fail.
+fn failing_reads(alloc: Global, failing: Failing) -> Result<Vec<u32>, AllocError> {
+    match failing {
+        Failing::Read => Ok(vec![in alloc; 0u32]?),
+        Failing::SecondRead => Ok(vec![in alloc; 1u32]?),
+        _ => Ok(Vec::new(alloc)),
     }
 }
 
@@ -50,7 +60,7 @@ fn sink(alloc: Global, fails: bool) -> Result<MemorySink, AllocError> {
     Ok(MemorySink::new(alloc, room, first_call(alloc, fails)?))
 }
 
-/// Does the command of these words, where `main.js` has these bytes.
+/// Does the command of these words, where `main.js` has these bytes and `b.js` exports `b`.
 fn command(
     alloc: Global,
     words: &[&str],
@@ -59,8 +69,9 @@ fn command(
 ) -> Result<Outcome, Fail> {
     let mut list = Vec::new(alloc);
     list.push((String::from_str(alloc, "main.js")?, bytes))?;
-    let read_fails = first_call(alloc, matches!(failing, Failing::Read))?;
-    let mut files = MemoryFiles::new(alloc, list, read_fails)?;
+    let exporting = Vec::from_slice(alloc, b"export let b = 1;")?;
+    list.push((String::from_str(alloc, "b.js")?, exporting))?;
+    let mut files = MemoryFiles::new(alloc, list, failing_reads(alloc, failing)?)?;
     let mut hosts = hosts(alloc)?;
     let mut out = sink(alloc, matches!(failing, Failing::Output))?;
     let mut err = sink(alloc, matches!(failing, Failing::Errors))?;
@@ -117,15 +128,31 @@ fn modules_are_built(rt: HostRuntime) -> Result<(), Fail> {
 fn modules_are_refused(rt: HostRuntime) -> Result<(), Fail> {
     for (text, line) in [
         (
-            "import {print} from \"host\";\nprint(1 * 2);",
-            "main.js:2:9: not built\n",
+            "\nimport {print} from \"host\";\nprint(1 * 2);",
+            "main.js:2:1: not built\n",
         ),
-        ("import {none} from \"host\";", "main.js:1:9: not built\n"),
-        ("let a = 1;\nlet a = 2;", "main.js:2:5: not built\n"),
-        ("let a = a;", "main.js:1:9: not built\n"),
-        ("let a = 9007199254740992;", "main.js:1:9: not built\n"),
-        ("let a = 1", "main.js:1:10: not built\n"),
-        ("let a\n= \"b\n\";", "main.js:2:3: not built\n"),
+        ("import {b} from \"./b.js\";", "main.js:1:1: not built\n"),
+        (
+            "import {none} from \"host\";",
+            "main.js:1:9: unresolved name \"none\"\n",
+        ),
+        (
+            "import {c} from \"./b.js\";",
+            "main.js:1:9: unresolved name \"c\"\n",
+        ),
+        (
+            "import \"./c.js\";",
+            "main.js:1:8: missing module \"./c.js\"\n",
+        ),
+        ("let a = 1;\nlet a = 2;", "main.js:2:5: early error E1\n"),
+        (
+            "let a = 9007199254740992;",
+            "main.js:1:9: outside the profile U4\n",
+        ),
+        (
+            "let a\n= \"b\n\";",
+            "main.js:2:3: lexical fault OpenString\n",
+        ),
     ] {
         let outcome = build(rt.alloc(), text, Failing::Nothing)?;
         assert_eq!(rt; outcome.status, Status::Refused);
@@ -252,10 +279,12 @@ fn maps_of_scripts_are_written(rt: HostRuntime) -> Result<(), Fail> {
 #[test]
 fn faults_of_the_outside_have_their_status(rt: HostRuntime) -> Result<(), Fail> {
     let alloc = rt.alloc();
-    let read = build(alloc, "", Failing::Read)?;
-    assert_eq!(rt; read.status, Status::ReadFault);
-    assert_eq!(rt; read.err.bytes(), b"main.js: read fault\n".as_slice());
-    assert_eq!(rt; read.out.bytes().len(), 0);
+    for failing in [Failing::Read, Failing::SecondRead] {
+        let read = build(alloc, "", failing)?;
+        assert_eq!(rt; read.status, Status::ReadFault);
+        assert_eq!(rt; read.err.bytes(), b"main.js: read fault\n".as_slice());
+        assert_eq!(rt; read.out.bytes().len(), 0);
+    }
     let output = build(alloc, "", Failing::Output)?;
     assert_eq!(rt; output.status, Status::WriteFault);
     assert_eq!(rt; output.out.bytes().len(), 0);

@@ -1,17 +1,13 @@
-use Rattle.std.proofs.Common.{List, [], sym, subst, ◌∙◌}
-use Rattle.first_forms.specs.declared.token.Token.{Token}
-use Rattle.first_forms.specs.Faults.{IsFault}
-use Rattle.es5c.specs.declared.fault.CommandFault.{CommandFault}
-use Rattle.command_words.specs.Words.{build}
-use Rattle.es5c.specs.Outcome.{too_long}
-use Rattle.es5c.specs.Parts.{FitsBytes}
-use Rattle.es5c.proofs.Outcomes.{read_fault}
+use Rattle.std.proofs.Common.{◌∙◌}
+use Rattle.graph_refusals.specs.declared.fault.FileFault.TheVariants.{FileTooLong}
+use Rattle.es5c.specs.Parts.{bytes_too_long}
+use Rattle.es5c.proofs.Outcomes.{fits_bytes, no_form, unbuilt_fits}
 use Rattle.es5c.proofs.build.script_of_bytes.Goals as goal
 
-pub returns-then-bytes-clause-built : goal.returns-then-bytes-clause-built
-returns-then-bytes-clause-built c = too_long c.if-bytes.true
+pub returns-then-bytes : goal.returns-then-bytes
+returns-then-bytes c = fits_bytes c.args.hosts.now c.args.path.now c.args.bytes.now FileTooLong c.entry_fault.result c.entry_fault.ensures (bytes_too_long c.if-bytes.true)
 
-pub returns-in-Err-clause-built : goal.returns-in-Err-clause-built
-returns-in-Err-clause-built c =
-    let read = subst (λ (ts : List Token). IsFault c.args.hosts.now ts c.in-Err.fault) (c.as_slice.ensures ∙ c.in_ok-tokens.ensures.exact) c.in-Err.ensures.fault in
-    subst (λ (f : CommandFault). FitsBytes c.args.hosts.now (build []) c.args.bytes.now f) (sym c.build_fault.ensures.value) (read_fault c.args.hosts.now c.args.bytes.now c.in-Err.fault read c.if-bytes.false)
+pub returns-in-Err-NotBuilt : goal.returns-in-Err-NotBuilt
+returns-in-Err-NotBuilt c =
+    let none = no_form c.args.hosts.now c.args.bytes.now c.as_slice.result.now c.in-Err-NotBuilt.field-0 c.in-Err-NotBuilt.field-0-0 (c.as_slice.ensures ∙ c.in_ok-tokens.ensures.exact) c.in-Err-NotBuilt.field-0-is c.in-Err-NotBuilt.ensures.complete in
+    unbuilt_fits c.args.hosts.now c.args.path.now c.args.bytes.now c.unbuilt.result c.if-bytes.false none c.unbuilt.ensures

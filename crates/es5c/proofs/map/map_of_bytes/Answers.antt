@@ -1,5 +1,5 @@
 use Rattle.es5c.specs.Outcome.{script_too_long}
 use Rattle.es5c.proofs.map.map_of_bytes.Goals as goal
 
-pub returns-then-script-clause-made : goal.returns-then-script-clause-made
-returns-then-script-clause-made c = script_too_long c.if-script.true
+pub returns-then-script : goal.returns-then-script
+returns-then-script c = script_too_long c.if-script.true

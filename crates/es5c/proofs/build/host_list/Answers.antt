@@ -2,7 +2,7 @@ use Rattle.std.proofs.Common.{◌≡◌, ℕ, List, [], ◌∷◌, ◌++◌, Som
 use Rattle.std.specs.Prelude.{slice_get}
 use Rattle.es_outside.specs.HostList.{names}
 use Rattle.es5c.proofs.Outcomes.{one_more_name, all_names}
-use Rattle.es5c.proofs.build.host_names.Goals as goal
+use Rattle.es5c.proofs.build.host_list.Goals as goal
 
 pub loop-name-preserved : goal.loop-name-preserved
 loop-name-preserved g c =

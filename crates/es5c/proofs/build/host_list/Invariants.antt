@@ -1,6 +1,6 @@
 use Rattle.std.proofs.Common.{◌≡◌, ◌-◌, take, length, vec_len}
 use Rattle.es_outside.specs.HostList.{names}
-use Rattle.es5c.proofs.build.host_names.Given as goal
+use Rattle.es5c.proofs.build.host_list.Given as goal
 
 abbrev pub invariant-loop-name : goal.invariant-loop-name
 invariant-loop-name g l = l.list.items ≡ take (vec_len l.list) (names l.hosts)
