@@ -1,12 +1,6 @@
-//! Tests of the crates that read, check and print scripts of the 5.1 edition.
-//! They stand here so that no crate is proved a second time with its tests.
+//! A test of the printer of scripts, which stands here so that es5_printer isn't proved a second time with it. The rows of
+//! texts are lines of script_lines.
 #![tactic(auto)]
 
 #[cfg(test)]
-mod es5_early_tests;
-#[cfg(test)]
 mod es5_marks_tests;
-#[cfg(test)]
-mod es5_printer_tests;
-#[cfg(test)]
-mod es5_tokens_tests;
