@@ -1,0 +1,6 @@
+use Rattle.std.proofs.Common.{◌≡◌, drop}
+use Rattle.yield_rules.specs.Yields.{label_behind}
+use Rattle.gen_states.proofs.pass.label_behind.Given as goal
+
+abbrev pub invariant-loop-label : goal.invariant-loop-label
+invariant-loop-label l = label_behind (drop l.label-index l.labels) l.behind ≡ label_behind l.labels 0
