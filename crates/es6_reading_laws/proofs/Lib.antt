@@ -4,4 +4,5 @@ pub mod AcrossExpressions
 pub mod AcrossStatements
 pub mod AtBreaks
 pub mod OneExpression
+pub mod NoParameters
 pub mod Fronts

@@ -1,21 +1,24 @@
 -- What an expression's or a statement's tokens begin with by themselves: that it is read, and no other.
-use Rattle.std.specs.Prelude.{◌≡◌, ℕ, true, false, List, [], ◌∷◌, ◌++◌, map, codes, Some}
+use Rattle.std.specs.Prelude.{◌≡◌, ◌⊎◌, ℕ, true, false, List, [], ◌∷◌, ◌++◌, map, codes, Some}
 use Rattle.es6_lexer.specs.declared.token.Token.{Token}
 use Rattle.es6_lexer.specs.declared.token.TokenKind.TheVariants.{Word}
 use Rattle.es6_lexer.specs.declared.token.Punctuator.TheVariants as mark
 use Rattle.es6_ast.specs.declared.tree.Expression.{Expression}
+use Rattle.es6_ast.specs.declared.tree.Parameter.{Parameter}
 use Rattle.es6_ast.specs.declared.tree.Pattern.{Pattern}
 use Rattle.es6_ast.specs.declared.tree.Statement.{Statement}
 use Rattle.es6_ast.specs.declared.settings.Flags.{Flags}
 use Rattle.es6_ast.specs.declared.settings.Stand.TheVariants.{Listed}
 use Rattle.es6_ast.specs.declared.settings.Stop.TheVariants.{Depth, Endless}
-use Rattle.es6_ast.specs.Grammar.{level_sequence, IsExpression, IsListed, IsTarget}
+use Rattle.es6_ast.specs.Grammar.{level_sequence, IsExpression, IsListed, IsTarget, AreArrowParameters}
 use Rattle.es6_ast.specs.Targets.{misfit}
 use Rattle.es6_ast.specs.Tokens.{Filled, Read, IsMark, read}
 use Rattle.es6_reading.specs.Expressions.{sequence}
 use Rattle.es6_reading.specs.Laws.{BeginWith}
 use Rattle.es6_reading.specs.Modules.{readers}
 use Rattle.es6_reading.specs.Parser.{Input, Outcome, Took, Fault, Reading}
+use Rattle.es6_reading.specs.Refine.{Misfit, TooNested, refine_parameters}
+use Rattle.es6_reading.specs.Refinements.{IsCover}
 use Rattle.es6_reading.specs.Statements.{statement}
 use Rattle.es6_reading_laws.specs.Breaks.{Breaks}
 
@@ -65,3 +68,12 @@ IsOneExpression = (f : Flags) (a b : ℕ) (ts : List Filled) (x y : Expression) 
 -- The tokens that spell an expression with a misfit spell no pattern (12.14.5).
 abbrev pub MisfitsAreNoPatterns : Type 0
 MisfitsAreNoPatterns = (x : Expression) (at : ℕ) → misfit x ≡ Some at → (f : Flags) (least : ℕ) (ts : List Filled) → IsExpression f least ts x [] → (p : Pattern) → IsTarget f false ts p [] → ⊥
+
+-- No parameters of an arrow are spelled by the tokens of the expression, or of parentheses that only parameters have.
+pub record SpellsNoParameters (x : Expression) : Type 0 where
+  pub spelled : (f : Flags) (least : ℕ) (ts : List Filled) → IsExpression f least ts x [] → (es : List Parameter) → AreArrowParameters f ts es [] → ⊥
+  pub covered : (f : Flags) (ts : List Filled) → IsCover f ts x [] → (es : List Parameter) → AreArrowParameters f ts es [] → ⊥
+
+-- So it is where no depth makes parameters of it (14.2).
+abbrev pub MisfitsAreNoParameters : Type 0
+MisfitsAreNoParameters = (x : Expression) (at : ℕ) → ((n : ℕ) → (refine_parameters n x ≡ Misfit at) ⊎ (refine_parameters n x ≡ TooNested)) → SpellsNoParameters x

@@ -2,7 +2,7 @@
 #![tactic(auto)]
 
 ghost use Rattle.es6_reading_laws.specs.Breaks.{AreReadAtBreaks, BreaksAreInsertions, FaultsAreDeadAtBreaks};
-ghost use Rattle.es6_reading_laws.specs.Fronts.{ExpressionsAreRead, IsOneExpression, MisfitsAreNoPatterns, StatementsAreRead};
+ghost use Rattle.es6_reading_laws.specs.Fronts.{ExpressionsAreRead, IsOneExpression, MisfitsAreNoParameters, MisfitsAreNoPatterns, StatementsAreRead};
 
 /// A module is read of tokens among which semicolons are missing only at the ends of lines, before `}` and at the end, where the next
 /// token goes on with nothing, if loops have turns enough and constructs enough may open.
@@ -40,4 +40,10 @@ pub fn derivations_give_one_expression()
 /// The tokens that spell an expression with a misfit spell no pattern.
 pub fn misfits_are_no_patterns()
     ensures { MisfitsAreNoPatterns }
+{}
+
+/// The tokens of an expression, or of parentheses that only an arrow's parameters have, spell no parameters of an arrow, where no
+/// depth makes parameters of it.
+pub fn misfits_are_no_parameters()
+    ensures { MisfitsAreNoParameters }
 {}
