@@ -1,16 +1,18 @@
 -- What is answered for tokens, by what the model reads of them.
-use Rattle.std.specs.Prelude.{◌≡◌, ℕ, ◌-◌, ◌≤◌, not, List, ◌++◌, drop, length, map, Result, Ok, Err}
+use Rattle.std.specs.Prelude.{◌≡◌, ℕ, ◌-◌, ◌≤◌, not, List, ◌++◌, drop, length, map, codes, Result, Ok, Err}
 use Rattle.es6_lexer.specs.declared.token.Token.{Token}
+use Rattle.es6_lexer.specs.declared.token.TokenKind.TheVariants.{Word}
 use Rattle.es6_ast.specs.declared.tree.Expression.{Expression}
 use Rattle.es6_ast.specs.declared.tree.Statement.{Statement}
 use Rattle.es6_ast.specs.declared.settings.Flags.{Flags}
 use Rattle.es6_ast.specs.declared.settings.Stop.{Stop}
 use Rattle.es6_ast.specs.declared.settings.Stop.TheVariants as stops
-use Rattle.es6_ast.specs.Tokens.{Filled, read}
+use Rattle.es6_ast.specs.Tokens.{Filled, Read, read}
 use Rattle.es6_ast.specs.Grammar.{level_sequence}
 use Rattle.es6_ast.specs.Semicolons.{SpellsExpression, SpellsStatement}
 use Rattle.es6_reading.specs.Parser.{Input, Outcome, Took, Fault}
-use Rattle.es6_reading.specs.Laws.{Says}
+use Rattle.es6_reading.specs.Laws.{BeginWith, Says}
+use Rattle.es6_reading_laws.specs.Fronts.{EndsThere, SpellsExpressionAtBreaks, SpellsStatementAtBreaks}
 use Rattle.es6_expr.specs.declared.fault.ParseFault.{ParseFault}
 use Rattle.es6_expr.specs.declared.fault.ParseFault.TheVariants.{Syntax, Lexical, Outside, Depth, OutOfMemory}
 use Rattle.es6_expr.specs.declared.parse.Context.{Context}
@@ -57,3 +59,21 @@ IsFaultIn tokens from (Lexical at kind) = Stands tokens from (stops.Lexical kind
 IsFaultIn tokens from (Outside rule at) = Stands tokens from (stops.Outside rule) at
 IsFaultIn tokens from (Depth at) = Stands tokens from stops.Depth at
 IsFaultIn tokens from OutOfMemory = Unit {0}
+
+-- The expression, or the statement or declaration, that the tokens begin with, with semicolons put in at breaks, up to the rest, with
+-- which no expression goes on, and no `try`.
+abbrev pub BeginsExpression : Flags → List Token → Expression → List Token → Type 0
+BeginsExpression f tokens x rest = SpellsExpressionAtBreaks f tokens x rest × EndsThere (map read rest)
+
+abbrev pub BeginsStatement : Flags → List Token → Statement → List Token → Type 0
+BeginsStatement f tokens s rest = SpellsStatementAtBreaks f tokens s rest × (BeginWith (Read (Word (codes "finally"))) (map read rest) → ⊥)
+
+-- That one alone is answered, with the number of the token behind it: neither a shorter front of the tokens nor a longer one.
+abbrev pub IsTheOnly : {A : Type 0} → (A → List Token → Type 0) → List Token → A × ℕ → Type 0
+IsTheOnly {A = A} Begins tokens r = (x : A) (rest : List Token) → Begins x rest → (r.0 ≡ x) × (r.1 ≡ length tokens - length rest)
+
+-- There is none where a fault stands, unless it is for the constructs that are open or for memory that ran out.
+abbrev pub IsWithout : {A : Type 0} → (A → List Token → Type 0) → ParseFault → Type 0
+IsWithout Begins (Depth at) = Unit {0}
+IsWithout Begins OutOfMemory = Unit {0}
+IsWithout {A = A} Begins _ = (x : A) (rest : List Token) → Begins x rest → ⊥

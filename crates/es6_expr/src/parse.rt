@@ -1,6 +1,6 @@
 //! An expression or a statement by itself.
 
-ghost use Rattle.std.specs.Prelude.{◌≡◌, ◌≤◌, ◌<◌, ◌-◌, length, map, IfOk, IfErr};
+ghost use Rattle.std.specs.Prelude.{◌≡◌, ◌≤◌, ◌<◌, ◌-◌, drop, length, map, IfOk, IfErr};
 ghost use Rattle.es6_ast.specs.Tokens.{read};
 ghost use Rattle.es6_reading.specs.Expressions.{sequence};
 ghost use Rattle.es6_reading.specs.Parser.{Reading as Seen};
@@ -8,6 +8,7 @@ ghost use Rattle.es6_ast.specs.declared.settings.Stand.TheVariants.{Listed};
 ghost use Rattle.es6_reading.specs.Statements.{statement};
 ghost use Rattle.es6_cursor.specs.Readers.{inner};
 ghost use Rattle.es6_expr.specs.Parsed.{Answers, IsExpressionIn, IsFaultIn, IsStatementIn, flags_in, input_at};
+ghost use Rattle.es6_expr.specs.Parsed.{BeginsExpression, BeginsStatement, IsTheOnly, IsWithout};
 
 use crate::fault::{ParseFault, fault_of, place_of};
 use crate::readers::{sequence, statement};
@@ -58,7 +59,9 @@ pub fn parse_expression(
     requires depth { context.depth ≤ 256 }
     ensures read { Answers (λ (r : Seen). r.value) tokens.now (sequence (inner (256 - context.depth)) (flags_in context) (input_at tokens.now from)) result }
     ensures spelled { IfOk result (λ r. IsExpressionIn (flags_in context) tokens.now from r) }
+    ensures only { IfOk result (IsTheOnly (BeginsExpression (flags_in context) (drop from tokens.now)) tokens.now) }
     ensures fault { IfErr result (λ fault. IsFaultIn tokens.now from fault) }
+    ensures without { IfErr result (IsWithout (BeginsExpression (flags_in context) (drop from tokens.now))) }
 {
     let mut cursor = Cursor::new(alloc, &tokens[from..]);
     match sequence(&mut cursor, context.room(), context.flags()) {
@@ -80,7 +83,9 @@ pub fn parse_statement(
     requires depth { context.depth ≤ 256 }
     ensures read { Answers (λ s. s) tokens.now (statement (inner (256 - context.depth)) (flags_in context) Listed (input_at tokens.now from)) result }
     ensures spelled { IfOk result (λ r. IsStatementIn (flags_in context) tokens.now from r) }
+    ensures only { IfOk result (IsTheOnly (BeginsStatement (flags_in context) (drop from tokens.now)) tokens.now) }
     ensures fault { IfErr result (λ fault. IsFaultIn tokens.now from fault) }
+    ensures without { IfErr result (IsWithout (BeginsStatement (flags_in context) (drop from tokens.now))) }
 {
     let mut cursor = Cursor::new(alloc, &tokens[from..]);
     match statement(&mut cursor, context.room(), context.flags(), Stand::Listed) {

@@ -7,8 +7,9 @@ use Rattle.std.proofs.Common.{drop}
 use Rattle.es6_reading.specs.Parser.{Took, Fault}
 use Rattle.es6_cursor.specs.Readers.{inner}
 use Rattle.es6_expr.specs.Faults.{fault_of, place_of}
-use Rattle.es6_expr.specs.Parsed.{IsFaultIn, flags_in, input_at, took, stopped}
+use Rattle.es6_expr.specs.Parsed.{BeginsExpression, IsFaultIn, IsTheOnly, IsWithout, flags_in, input_at, took, stopped}
 use Rattle.es6_expr.proofs.LastToken.{to_the_end}
+use Rattle.es6_expr.proofs.Only.{expression-only, expression-without}
 use Rattle.es6_expr.proofs.Reached.{expression-stopped}
 use Rattle.es6_expr.proofs.Spelled.{expression-spelled}
 use Rattle.es6_expr.proofs.parse.parse_expression.Goals as goal
@@ -72,3 +73,32 @@ returns-in-Err-Stopped-clause-fault c =
     ∙ (rw c.in-Err-Stopped.field-0-is at c.in-Err-Stopped.ensures) in
     let place : c.place_of.result ≡ place_of (map read all) c.sequence.new.cursor.tokens = c.place_of.ensures ∙ ap (λ l. place_of (map read all) l) c.rest-in-Err-Stopped.ensures in
     subst (IsFaultIn all c.args.from) (sym c.fault_of.ensures) (expression-stopped room flags all c.args.from c.place_of.result (c.in-Err-Stopped.stop) c.sequence.new.cursor.tokens e place)
+
+pub returns-in-Ok-clause-only : goal.returns-in-Ok-clause-only
+returns-in-Ok-clause-only c =
+    let all = c.args.tokens.now in
+    let room = 256 - c.args.context.depth in
+    let flags = flags_in c.args.context in
+    let whole = to_the_end all c.args.from in
+    let start : c.new-cursor.result ≡ input_at all c.args.from = cc in
+    let e : sequence (inner room) flags (input_at all c.args.from) ≡ Took c.in-Ok.reading c.sequence.new.cursor =
+    ap (λ r. sequence (inner r) flags (input_at all c.args.from)) (sym c.room.ensures)
+    ∙ ap (λ f. sequence (inner c.room.result) f (input_at all c.args.from)) (sym c.flags.ensures)
+    ∙ ap (λ s. sequence (inner c.room.result) c.flags.result s) (sym start)
+    ∙ c.in-Ok.ensures in
+    let at : c.taken.result ≡ length all - length c.sequence.new.cursor.tokens = c.taken.ensures ∙ ap (λ l. length all - length l) c.rest.ensures in
+    subst (λ x. IsTheOnly (BeginsExpression flags (drop c.args.from all)) all (x, c.taken.result)) (sym c.into_value.ensures) (expression-only room flags all c.args.from c.taken.result c.in-Ok.reading c.sequence.new.cursor e at)
+
+pub returns-in-Err-Stopped-clause-without : goal.returns-in-Err-Stopped-clause-without
+returns-in-Err-Stopped-clause-without c =
+    let all = c.args.tokens.now in
+    let room = 256 - c.args.context.depth in
+    let flags = flags_in c.args.context in
+    let whole = to_the_end all c.args.from in
+    let start : c.new-cursor.result ≡ input_at all c.args.from = cc in
+    let e : sequence (inner room) flags (input_at all c.args.from) ≡ Fault (c.in-Err-Stopped.stop) c.sequence.new.cursor.tokens =
+    ap (λ r. sequence (inner r) flags (input_at all c.args.from)) (sym c.room.ensures)
+    ∙ ap (λ f. sequence (inner c.room.result) f (input_at all c.args.from)) (sym c.flags.ensures)
+    ∙ ap (λ s. sequence (inner c.room.result) c.flags.result s) (sym start)
+    ∙ (rw c.in-Err-Stopped.field-0-is at c.in-Err-Stopped.ensures) in
+    subst (IsWithout (BeginsExpression flags (drop c.args.from all))) (sym c.fault_of.ensures) (expression-without room flags all c.args.from c.place_of.result (c.in-Err-Stopped.stop) c.sequence.new.cursor.tokens e)
