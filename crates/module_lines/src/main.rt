@@ -8,7 +8,6 @@
 
 mod fault;
 mod goal;
-mod kept;
 mod parts;
 
 use early_errors::first_early;
@@ -18,13 +17,12 @@ use es6_lexer::{Token, lex6};
 use es6_module::parse_module;
 use fault::{show_fault, show_place};
 use goal::Goal;
-use kept::kept;
 use outside_constructs::first_outside;
 use std::alloc::{AllocError, Global};
 use std::env;
 use std::io::{self, BufReader, BufWriter, Read, Write};
 use std::ops::Deref;
-use tree_lines::Lines;
+use tree_lines::{Lines, kept};
 
 /// The most bytes of a module.
 const LIMIT: usize = 4_194_304;

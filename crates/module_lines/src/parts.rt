@@ -1,7 +1,6 @@
 //! An expression or a statement by itself, and what an expression is refined to.
 
 use crate::fault::{show_fault, show_place};
-use crate::kept::kept;
 use es6_ast::Expression;
 use es6_expr::{
     Context, ParseFault, RefineFault, parse_expression, parse_statement, refine_parameters,
@@ -10,7 +9,7 @@ use es6_expr::{
 use es6_lexer::Token;
 use std::alloc::Global;
 use std::ops::Deref;
-use tree_lines::Lines;
+use tree_lines::{Lines, kept};
 
 /// Outside functions and generators, where nothing is open yet.
 const OUTSIDE: Context = Context {

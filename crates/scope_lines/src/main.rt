@@ -5,18 +5,15 @@
 //! a line `fault`.
 #![tactic(auto)]
 
-mod kept;
-
 use es6_ast::Module;
 use es6_lexer::{Token, lex6};
 use es6_module::parse_module;
-use kept::kept;
 use scope_tables::{Binding, Reference, resolve_marks};
 use scope_walk::module_marks;
 use std::alloc::{AllocError, Global};
 use std::io::{self, BufReader, BufWriter, Read, Write};
 use std::ops::Deref;
-use tree_lines::Lines;
+use tree_lines::{Lines, kept};
 
 /// The most bytes of a module.
 const LIMIT: usize = 4_194_304;

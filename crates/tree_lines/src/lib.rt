@@ -4,6 +4,7 @@
 mod expressions;
 mod functions;
 mod items;
+mod keeping;
 mod lines;
 mod names;
 mod nodes;
@@ -13,4 +14,5 @@ mod statements;
 mod text;
 mod words;
 
+pub use keeping::kept;
 pub use lines::Lines;
