@@ -34,11 +34,11 @@ pub(crate) fn add_var_names<'a>(
             add_otherwise(names, otherwise)
         }
         Statement::For { first, body, .. } => {
-            add_first_vars(names, first)?;
+            add_first_vars(names, first.get())?;
             add_var_names(names, body.get())
         }
         Statement::ForOf { target, body, .. } => {
-            add_target_vars(names, target)?;
+            add_target_vars(names, target.get())?;
             add_var_names(names, body.get())
         }
         Statement::DoWhile { body, .. }
@@ -133,13 +133,13 @@ fn add_cases<'a>(names: &mut Vec<PlacedName<'a>>, cases: &'a [Case]) -> Result<(
 #[cycle(vars)]
 fn add_catch<'a>(
     names: &mut Vec<PlacedName<'a>>,
-    catch: &'a Option<Catch>,
+    catch: &'a Option<Boxed<Catch>>,
 ) -> Result<(), AllocError>
     ensures { OnOk result (names.new.items ≡ names.old.items ++ maybe (λ h. h.vars) (option_map catch_found catch.now)) }
 {
     match catch {
         None => Ok(()),
-        Some(catch) => add_all(names, catch.body.statements.as_slice()),
+        Some(catch) => add_all(names, catch.get().body.statements.as_slice()),
     }
 }
 

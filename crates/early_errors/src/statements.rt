@@ -84,9 +84,9 @@ impl Walk {
                 body,
                 ..
             } => {
-                self.for_first(first, place)?;
-                self.optional(test, place)?;
-                self.optional(update, place)?;
+                self.for_first(first.get(), place)?;
+                self.optional_boxed(test, place)?;
+                self.optional_boxed(update, place)?;
                 self.statement(body.get(), place.under_loop())
             }
             Statement::ForOf {
@@ -95,7 +95,7 @@ impl Walk {
                 body,
                 ..
             } => {
-                self.for_target(target, place)?;
+                self.for_target(target.get(), place)?;
                 self.expression(subject, place)?;
                 self.statement(body.get(), place.under_loop())
             }
@@ -160,7 +160,7 @@ impl Walk {
     fn condition(&mut self, condition: &Condition, place: Place) -> Result<(), AllocError>
         ensures { OnOk result (self.new ≡ meets (condition_found condition.now).pairs place self.old) }
     {
-        self.expression(&condition.test, place)?;
+        self.expression(condition.test.get(), place)?;
         self.statement(condition.body.get(), place)
     }
 
@@ -183,12 +183,16 @@ impl Walk {
     }
 
     #[cycle(early)]
-    fn optional_catch(&mut self, catch: &Option<Catch>, place: Place) -> Result<(), AllocError>
+    fn optional_catch(
+        &mut self,
+        catch: &Option<Boxed<Catch>>,
+        place: Place,
+    ) -> Result<(), AllocError>
         ensures { OnOk result (self.new ≡ meets (λ r. maybe (λ h. h.pairs r) (option_map catch_found catch.now)) place self.old) }
     {
         match catch {
             None => Ok(()),
-            Some(catch) => self.catch(catch, place),
+            Some(catch) => self.catch(catch.get(), place),
         }
     }
 

@@ -40,12 +40,12 @@ pub(crate) fn statement<'a>(
             self::otherwise(finder, vars, otherwise)
         }
         Statement::For { first, body, .. } => {
-            add_first_vars(vars, first)?;
-            for_body(finder, vars, body.get(), first)
+            add_first_vars(vars, first.get())?;
+            for_body(finder, vars, body.get(), first.get())
         }
         Statement::ForOf { target, body, .. } => {
-            add_target_vars(vars, target)?;
-            for_of_body(finder, vars, body.get(), target)
+            add_target_vars(vars, target.get())?;
+            for_of_body(finder, vars, body.get(), target.get())
         }
         Statement::DoWhile { body, .. }
         | Statement::While { body, .. }
@@ -234,14 +234,14 @@ fn clauses<'a>(
 fn optional_catch<'a>(
     finder: &mut Finder,
     vars: &mut VarNames<'a>,
-    catch: &'a Option<Catch>,
+    catch: &'a Option<Boxed<Catch>>,
 ) -> Result<(), AllocError>
     ensures scopes { OnOk result (finder.new ≡ least_with finder.old (maybe (λ h. h.scopes) (option_map catch_found catch.now))) }
     ensures vars { OnOk result (vars.new ≡ vars.old ++ maybe (λ h. h.vars) (option_map catch_found catch.now)) }
 {
     match catch {
         None => Ok(()),
-        Some(catch) => self::catch(finder, vars, catch),
+        Some(catch) => self::catch(finder, vars, catch.get()),
     }
 }
 

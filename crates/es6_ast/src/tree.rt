@@ -23,7 +23,7 @@ pub struct Rest {
     pub name: Identifier,
 }
 
-/// A statement or a declaration (13, 14).
+/// A statement or a declaration (13, 14). What makes a kind large is boxed, since each statement takes the room of the largest.
 #[cycle(ast)]
 #[derive(Drop)]
 pub enum Statement {
@@ -62,15 +62,15 @@ pub enum Statement {
     /// 13.7.4
     For {
         span: Span,
-        first: ForFirst,
-        test: Option<Expression>,
-        update: Option<Expression>,
+        first: Boxed<ForFirst>,
+        test: Option<Boxed<Expression>>,
+        update: Option<Boxed<Expression>>,
         body: Boxed<Statement>,
     },
     /// 13.7.5
     ForOf {
         span: Span,
-        target: ForTarget,
+        target: Boxed<ForTarget>,
         subject: Expression,
         body: Boxed<Statement>,
     },
@@ -104,7 +104,7 @@ pub enum Statement {
     Try {
         span: Span,
         block: Block,
-        catch: Option<Catch>,
+        catch: Option<Boxed<Catch>>,
         finally: Option<Block>,
     },
     Debugger {
@@ -129,7 +129,7 @@ pub struct Block {
 #[derive(Drop)]
 pub struct Condition {
     pub span: Span,
-    pub test: Expression,
+    pub test: Boxed<Expression>,
     pub body: Boxed<Statement>,
 }
 

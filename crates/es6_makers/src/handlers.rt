@@ -1,12 +1,13 @@
 //! The nodes of try statements (ECMA-262, 6th edition, 13.15).
 
-ghost use Rattle.std.specs.Prelude.{◌≡◌, None, Some};
+ghost use Rattle.std.specs.Prelude.{◌≡◌, IfOk, None, Some};
 ghost use Rattle.es6_ast.specs.declared.tree.Catch.{Catch, roll-Catch};
 ghost use Rattle.es6_ast.specs.declared.tree.Statement.TheVariants as stat;
 
 use crate::patterns::MakesBindings;
 use crate::statements::MakesBlocks;
 use es_text::Span;
+use std::alloc::{AllocError, Global};
 
 /// Makes try statements.
 pub trait MakesTries: MakesBlocks {
@@ -32,6 +33,11 @@ pub trait MakesTries: MakesBlocks {
 /// Makes what is caught.
 pub trait MakesCatches: MakesTries + MakesBindings {
     /// 13.15
-    fn catch(span: Span, parameter: Self::Pattern, body: Self::Block) -> Self::Catch
-        ensures { Self.seen_catch result ≡ roll-Catch (record { span = span; parameter = Self.seen_pattern parameter; body = Self.seen_block body }) };
+    fn catch(
+        alloc: Global,
+        span: Span,
+        parameter: Self::Pattern,
+        body: Self::Block,
+    ) -> Result<Self::Catch, AllocError>
+        ensures { IfOk result (λ made. Self.seen_catch made ≡ roll-Catch (record { span = span; parameter = Self.seen_pattern parameter; body = Self.seen_block body })) };
 }

@@ -59,6 +59,7 @@ pub trait MakesStatementLists: MakesSimpleStatements {
         ensures { Self.seen_statements result ≡ [] };
 
     fn push_statement(
+        alloc: Global,
         list: &mut Self::Statements,
         statement: Self::Statement,
     ) -> Result<(), AllocError>

@@ -24,7 +24,7 @@ pub fn statements<
             return Ok(list);
         }
         let statement = statement(cursor, room, flags, Stand::Listed)?;
-        G::push_statement(&mut list, statement)?;
+        G::push_statement(cursor.alloc(), &mut list, statement)?;
     }
     Err(Halt::Stopped(Stop::Endless))
 }

@@ -34,7 +34,7 @@ impl<
                 self.here.flags,
                 Stand::Listed,
             )?;
-            G::push_statement(&mut list, statement)?;
+            G::push_statement(cursor.alloc(), &mut list, statement)?;
         }
         Err(Halt::Stopped(Stop::Endless))
     }

@@ -58,7 +58,8 @@ impl<
         cursor.expect_word(b"catch")?;
         let parameter = self.enclosed_parameter(cursor)?;
         let body = block::<G, S>(cursor, self.here.room, self.here.flags, self.here.statement)?;
-        Ok(G::catch(cursor.span_from(begin), parameter, body))
+        let span = cursor.span_from(begin);
+        Ok(G::catch(cursor.alloc(), span, parameter, body)?)
     }
 }
 

@@ -1,8 +1,8 @@
-//! Boxes of children. What is made beside a box is let go where memory runs out.
+//! Boxes and lists of children. What is made beside a box is let go where memory runs out.
 
-ghost use Rattle.std.specs.Prelude.{◌≡◌, IfOk};
+ghost use Rattle.std.specs.Prelude.{◌≡◌, ◌++◌, ◌∷◌, [], IfOk, OnOk};
 
-use sqlite_items::Boxed;
+use sqlite_items::{Boxed, Items};
 use std::alloc::{AllocError, Global};
 
 /// One child, and what stands beside it in its node.
@@ -40,6 +40,18 @@ pub fn both_boxed<A: Drop, B: Drop>(
     Ok((Boxed::new(alloc, first)?, Boxed::new(alloc, second)?))
 }
 
+/// Two children, and what stands beside them in their node.
+pub fn both_boxed_beside<A: Drop, B: Drop, C: Drop>(
+    alloc: Global,
+    first: A,
+    second: B,
+    beside: C,
+) -> Result<((Boxed<A>, Boxed<B>), C), AllocError>
+    ensures { IfOk result (λ made. made ≡ ((first, second), beside)) }
+{
+    Ok((both_boxed(alloc, first, second)?, beside))
+}
+
 pub fn three_boxed<A: Drop, B: Drop, C: Drop>(
     alloc: Global,
     first: A,
@@ -53,4 +65,15 @@ pub fn three_boxed<A: Drop, B: Drop, C: Drop>(
         Boxed::new(alloc, second)?,
         Boxed::new(alloc, third)?,
     ))
+}
+
+/// Puts an item behind the others. An empty list makes room for one, since most blocks hold no more, where a list by itself makes
+/// room for four.
+pub fn push_one<A: Drop>(alloc: Global, list: &mut Items<A>, item: A) -> Result<(), AllocError>
+    ensures { OnOk result (list.new ≡ list.old ++ item ∷ []) }
+{
+    if list.is_empty() {
+        *list = Items::from_vec(Vec::with_capacity(alloc, 1)?);
+    }
+    list.push(item)
 }

@@ -4,13 +4,15 @@ use crate::Trees;
 use es_text::Span;
 use es6_ast::{Block, Catch, Pattern, Statement};
 use es6_makers::{MakesCatches, MakesTries};
+use sqlite_items::Boxed;
+use std::alloc::{AllocError, Global};
 
 impl MakesTries for Trees {
-    type Catch = Catch;
+    type Catch = Boxed<Catch>;
 
     ghost seen_catch = { λ x. x };
 
-    fn try_catch(span: Span, tried: Block, catch: Catch) -> Statement {
+    fn try_catch(span: Span, tried: Block, catch: Boxed<Catch>) -> Statement {
         Statement::Try {
             span,
             block: tried,
@@ -19,7 +21,12 @@ impl MakesTries for Trees {
         }
     }
 
-    fn try_catch_finally(span: Span, tried: Block, catch: Catch, finally: Block) -> Statement {
+    fn try_catch_finally(
+        span: Span,
+        tried: Block,
+        catch: Boxed<Catch>,
+        finally: Block,
+    ) -> Statement {
         Statement::Try {
             span,
             block: tried,
@@ -39,11 +46,19 @@ impl MakesTries for Trees {
 }
 
 impl MakesCatches for Trees {
-    fn catch(span: Span, parameter: Pattern, body: Block) -> Catch {
-        Catch {
-            span,
-            parameter,
-            body,
-        }
+    fn catch(
+        alloc: Global,
+        span: Span,
+        parameter: Pattern,
+        body: Block,
+    ) -> Result<Boxed<Catch>, AllocError> {
+        Boxed::new(
+            alloc,
+            Catch {
+                span,
+                parameter,
+                body,
+            },
+        )
     }
 }

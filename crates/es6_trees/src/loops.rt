@@ -1,7 +1,7 @@
 //! The trees of variables and of for statements.
 
 use crate::Trees;
-use crate::boxes::boxed_beside;
+use crate::boxes::{both_boxed_beside, boxed_option_beside};
 use crate::reading::Reading;
 use es_text::Span;
 use es6_ast::{Expression, ForFirst, ForTarget, Part, Pattern, Statement, VariableKind};
@@ -81,7 +81,22 @@ impl MakesLoops for Trees {
         update: Option<Expression>,
         body: Statement,
     ) -> Result<Statement, AllocError> {
-        let (body, (first, test, update)) = boxed_beside(alloc, body, (first, test, update))?;
+        let (test, (update, (first, body))) = boxed_option_beside(
+            alloc,
+            test,
+            (update, (first, body)),
+        )?;
+        let (update, (test, (first, body))) = boxed_option_beside(
+            alloc,
+            update,
+            (test, (first, body)),
+        )?;
+        let ((first, body), (test, update)) = both_boxed_beside(
+            alloc,
+            first,
+            body,
+            (test, update),
+        )?;
         Ok(Statement::For {
             span,
             first,
@@ -98,7 +113,12 @@ impl MakesLoops for Trees {
         subject: Reading,
         body: Statement,
     ) -> Result<Statement, AllocError> {
-        let (body, (target, subject)) = boxed_beside(alloc, body, (target, subject.into_value()))?;
+        let ((target, body), subject) = both_boxed_beside(
+            alloc,
+            target,
+            body,
+            subject.into_value(),
+        )?;
         Ok(Statement::ForOf {
             span,
             target,

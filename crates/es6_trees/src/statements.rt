@@ -1,7 +1,7 @@
 //! The trees of statements that hold no declaration.
 
 use crate::Trees;
-use crate::boxes::boxed_beside;
+use crate::boxes::{both_boxed, boxed_beside, push_one};
 use crate::reading::Reading;
 use es_text::Span;
 use es6_ast::{Block, Case, Condition, Expression, Identifier, Statement};
@@ -61,8 +61,12 @@ impl MakesStatementLists for Trees {
         Items::new(alloc)
     }
 
-    fn push_statement(list: &mut Items<Statement>, statement: Statement) -> Result<(), AllocError> {
-        list.push(statement)
+    fn push_statement(
+        alloc: Global,
+        list: &mut Items<Statement>,
+        statement: Statement,
+    ) -> Result<(), AllocError> {
+        push_one(alloc, list, statement)
     }
 }
 
@@ -135,7 +139,7 @@ impl MakesConditions for Trees {
         test: Reading,
         body: Statement,
     ) -> Result<Condition, AllocError> {
-        let (body, test) = boxed_beside(alloc, body, test.into_value())?;
+        let (test, body) = both_boxed(alloc, test.into_value(), body)?;
         Ok(Condition { span, test, body })
     }
 

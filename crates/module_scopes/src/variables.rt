@@ -51,11 +51,11 @@ impl Bindings {
                 self.variables_in_otherwise(otherwise)
             }
             Statement::For { first, body, .. } => {
-                self.vars_in_first(first)?;
+                self.vars_in_first(first.get())?;
                 self.variables_in(body.get())
             }
             Statement::ForOf { target, body, .. } => {
-                self.vars_in_target(target)?;
+                self.vars_in_target(target.get())?;
                 self.variables_in(body.get())
             }
             Statement::DoWhile { body, .. }
@@ -110,12 +110,12 @@ impl Bindings {
     }
 
     #[cycle(variables)]
-    fn variables_in_catch(&mut self, catch: &Option<Catch>) -> Result<(), AllocError>
+    fn variables_in_catch(&mut self, catch: &Option<Boxed<Catch>>) -> Result<(), AllocError>
         ensures { OnOk result (self.new ≡ self.old ++ map (knows false) (maybe (λ h. h.vars) (option_map catch_found catch.now))) }
     {
         match catch {
             None => Ok(()),
-            Some(catch) => self.variables(catch.body.statements.as_slice()),
+            Some(catch) => self.variables(catch.get().body.statements.as_slice()),
         }
     }
 

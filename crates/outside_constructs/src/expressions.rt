@@ -107,7 +107,10 @@ impl Walk {
     }
 
     #[cycle(outside)]
-    fn optional_boxed(&mut self, expression: &Option<Boxed<Expression>>) -> Result<(), AllocError>
+    pub(crate) fn optional_boxed(
+        &mut self,
+        expression: &Option<Boxed<Expression>>,
+    ) -> Result<(), AllocError>
         ensures { OnOk result (self.new ≡ meets (λ scope. maybe (λ y. y.pairs scope) (option_map expression_found expression.now)) self.old) }
     {
         match expression {

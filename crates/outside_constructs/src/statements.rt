@@ -41,13 +41,13 @@ impl Walk {
                 self.statement(body.get())
             }
             Statement::For { first, .. } => {
-                let mark = self.enter_first(first)?;
+                let mark = self.enter_first(first.get())?;
                 self.parts_of(statement)?;
                 self.leave(mark);
                 Ok(())
             }
             Statement::ForOf { target, .. } => {
-                let mark = self.enter_target(target)?;
+                let mark = self.enter_target(target.get())?;
                 self.parts_of(statement)?;
                 self.leave(mark);
                 Ok(())
@@ -81,9 +81,9 @@ impl Walk {
                 body,
                 ..
             } => {
-                self.for_first(first)?;
-                self.optional(test)?;
-                self.optional(update)?;
+                self.for_first(first.get())?;
+                self.optional_boxed(test)?;
+                self.optional_boxed(update)?;
                 self.statement(body.get())
             }
             Statement::ForOf {
@@ -92,7 +92,7 @@ impl Walk {
                 body,
                 ..
             } => {
-                self.for_target(target)?;
+                self.for_target(target.get())?;
                 self.expression(subject)?;
                 self.statement(body.get())
             }
@@ -150,7 +150,7 @@ impl Walk {
     fn condition(&mut self, condition: &Condition) -> Result<(), AllocError>
         ensures { OnOk result (self.new ≡ meets (condition_found condition.now).pairs self.old) }
     {
-        self.expression(&condition.test)?;
+        self.expression(condition.test.get())?;
         self.statement(condition.body.get())
     }
 
@@ -176,12 +176,12 @@ impl Walk {
     }
 
     #[cycle(outside)]
-    fn optional_catch(&mut self, catch: &Option<Catch>) -> Result<(), AllocError>
+    fn optional_catch(&mut self, catch: &Option<Boxed<Catch>>) -> Result<(), AllocError>
         ensures { OnOk result (self.new ≡ meets (λ scope. maybe (λ h. h.pairs scope) (option_map catch_found catch.now)) self.old) }
     {
         match catch {
             None => Ok(()),
-            Some(catch) => self.catch(catch),
+            Some(catch) => self.catch(catch.get()),
         }
     }
 

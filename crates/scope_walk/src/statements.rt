@@ -9,7 +9,7 @@ ghost use Rattle.scope_walk.specs.Walked.{headed_parts, looped_parts};
 ghost use Rattle.scope_rules.specs.declared.kinds.Kind.TheVariants as kind;
 ghost use Rattle.scope_rules.specs.declared.kinds.Role.TheVariants.{Declared};
 
-use crate::expressions::{expression, optional};
+use crate::expressions::{expression, optional, optional_boxed};
 use crate::functions::{declared_class, declared_function};
 use crate::patterns::{targets, variables};
 use es6_ast::{Block, Case, Catch, Condition, Expression, ForFirst, ForTarget, Pattern, Statement};
@@ -121,9 +121,9 @@ fn headed<'a>(marks: &mut Marks<'a>, node: &'a Statement) -> Result<(), AllocErr
             body,
             ..
         } => {
-            for_first(marks, first)?;
-            optional(marks, test)?;
-            optional(marks, update)?;
+            for_first(marks, first.get())?;
+            optional_boxed(marks, test)?;
+            optional_boxed(marks, update)?;
             statement(marks, body.get())
         }
         Statement::ForOf {
@@ -132,7 +132,7 @@ fn headed<'a>(marks: &mut Marks<'a>, node: &'a Statement) -> Result<(), AllocErr
             body,
             ..
         } => {
-            for_target(marks, target)?;
+            for_target(marks, target.get())?;
             subject(marks, values)?;
             statement(marks, body.get())
         }
@@ -188,7 +188,7 @@ fn conditions<'a>(marks: &mut Marks<'a>, conditions: &'a [Condition]) -> Result<
 fn condition<'a>(marks: &mut Marks<'a>, item: &'a Condition) -> Result<(), AllocError>
     ensures { OnOk result (marks.new ≡ marks.old ++ condition_marked item.now) }
 {
-    expression(marks, &item.test)?;
+    expression(marks, item.test.get())?;
     statement(marks, item.body.get())
 }
 
@@ -221,12 +221,15 @@ fn finally<'a>(marks: &mut Marks<'a>, last: &'a Option<Block>) -> Result<(), All
 }
 
 #[cycle(walk)]
-fn optional_catch<'a>(marks: &mut Marks<'a>, clause: &'a Option<Catch>) -> Result<(), AllocError>
+fn optional_catch<'a>(
+    marks: &mut Marks<'a>,
+    clause: &'a Option<Boxed<Catch>>,
+) -> Result<(), AllocError>
     ensures { OnOk result (marks.new ≡ marks.old ++ maybe (λ h. h) (option_map catch_marked clause.now)) }
 {
     match clause {
         None => Ok(()),
-        Some(clause) => catch(marks, clause),
+        Some(clause) => catch(marks, clause.get()),
     }
 }
 

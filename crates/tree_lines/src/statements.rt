@@ -106,9 +106,9 @@ impl<'a> Nodes<'a> {
                 body,
             } => {
                 self.text.node("For", *span);
-                self.for_first(first);
-                self.marked("Test", test);
-                self.marked("Step", update);
+                self.for_first(first.get());
+                self.marked_boxed("Test", test);
+                self.marked_boxed("Step", update);
                 self.statement(body.get());
             }
             Statement::ForOf {
@@ -118,7 +118,7 @@ impl<'a> Nodes<'a> {
                 body,
             } => {
                 self.text.node("ForOf", *span);
-                self.for_target(target);
+                self.for_target(target.get());
                 self.expression(subject);
                 self.statement(body.get());
             }
@@ -157,10 +157,21 @@ impl<'a> Nodes<'a> {
         }
     }
 
+    /// As `marked`, of an expression in a box.
+    fn marked_boxed(&mut self, word: &str, value: &'a Option<Boxed<Expression>>) {
+        match value {
+            None => (),
+            Some(value) => {
+                self.text.word(word);
+                self.expression(value.get());
+            }
+        }
+    }
+
     /// A test with its statement.
     fn condition(&mut self, condition: &'a Condition) {
         self.text.node("Condition", condition.span);
-        self.expression(&condition.test);
+        self.expression(condition.test.get());
         self.statement(condition.body.get());
     }
 
@@ -217,10 +228,11 @@ impl<'a> Nodes<'a> {
         }
     }
 
-    fn catch(&mut self, catch: &'a Option<Catch>) {
+    fn catch(&mut self, catch: &'a Option<Boxed<Catch>>) {
         match catch {
             None => (),
             Some(catch) => {
+                let catch = catch.get();
                 self.text.node("Catch", catch.span);
                 self.pattern(&catch.parameter);
                 self.block(&catch.body);
