@@ -1,0 +1,61 @@
+-- No token with which no module goes on stands before a fault.
+use Rattle.std.proofs.Common.{◌≡◌, ◌∙◌, ℕ, zero, suc, ◌+◌, ◌≤◌, ◌<◌, arith, List, [], ◌∷◌, ◌++◌, map, length, take, refl, sym, ap, subst}
+use Rattle.es6_lexer.specs.declared.token.Token.{Token}
+use Rattle.es6_ast.specs.Semicolons.{SpellsModule}
+use Rattle.es6_ast.specs.Tokens.{Filled, read}
+use Rattle.es6_reading.specs.Laws.{FaultsAreInside}
+use Rattle.es6_reading.specs.Modules.{read_module}
+use Rattle.es6_reading.specs.Parser.{Fault}
+use Rattle.es6_viability.specs.Alive.{TokensBeforeFaultsAreAlive, NoDeadTokenIsPassed}
+
+-- the tokens of a text that spell the front of a row, and those behind
+pub record Split (tokens : List Token) (rest : List Filled) : Type 0 where
+  pub front : List Token
+  pub behind : List Token
+  pub whole : tokens ≡ front ++ behind
+  pub left_ : map read behind ≡ rest
+
+tail-of : {t u : Filled} {ts us : List Filled} → t ∷ ts ≡ u ∷ us → ts ≡ us
+tail-of e = cc
+
+split : (tokens : List Token) (front rest : List Filled) → map read tokens ≡ front ++ rest → Split tokens rest
+split tokens [] rest e = record { front = []; behind = tokens; whole = refl; left_ = e }
+split [] (t ∷ front) rest e = absurd (cc)
+split (u ∷ tokens) (t ∷ front) rest e =
+    let s = split tokens front rest (tail-of e) in
+    record { front = u ∷ s.front; behind = s.behind; whole = ap (λ ts. u ∷ ts) s.whole; left_ = s.left_ }
+
+none-taken : (k : ℕ) → suc k ≤ 0 → ⊥
+none-taken k h = omega arith
+
+one-less : (k n : ℕ) → suc k ≤ suc n → k ≤ n
+one-less k n h = omega arith
+
+-- what begins with some of the tokens of a front, goes on to the end of it
+prefix : (k : ℕ) (front behind more : List Token) → k ≤ length front → (rest : List Token) × (take k (front ++ behind) ++ rest ≡ front ++ more)
+prefix zero front behind more h = (front ++ more, refl)
+prefix (suc k) [] behind more h = absurd (none-taken k h)
+prefix (suc k) (t ∷ front) behind more h = let r = prefix k front behind more (one-less k (length front) h) in (r.0, ap (λ ts. t ∷ ts) r.1)
+
+length-both : (front behind : List Token) → length (front ++ behind) ≡ length front + length behind
+length-both [] behind = omega arith
+length-both (t ∷ front) behind = step (length (front ++ behind)) (length front) (length behind) (length-both front behind)
+  where
+    step : (a b c : ℕ) → a ≡ b + c → suc a ≡ suc b + c
+    step a b c e = omega arith
+
+length-read : (ts : List Token) → length (map read ts) ≡ length ts
+length-read [] = refl
+length-read (t ∷ ts) = ap (λ n. suc n) (length-read ts)
+
+before : (q a b n r : ℕ) → q + r < n → n ≡ a + b → r ≡ b → q + 1 ≤ a
+before q a b n r h e k = omega arith
+
+pub no-dead : FaultsAreInside → TokensBeforeFaultsAreAlive → NoDeadTokenIsPassed
+no-dead inside alive fuel tokens stop rest k final q h dead =
+    let f = inside fuel (map read tokens) stop rest k in
+    let s = split tokens f.0 rest f.1 in
+    let a = alive fuel s.front s.behind stop (subst (λ ts. read_module fuel (map read ts) ≡ Fault stop (map read s.behind)) s.whole (subst (λ us. read_module fuel (map read tokens) ≡ Fault stop us) (sym s.left_) k)) final in
+    let le : q + 1 ≤ length s.front = before q (length s.front) (length s.behind) (length tokens) (length rest) h (ap length s.whole ∙ length-both s.front s.behind) (ap length (sym s.left_) ∙ length-read s.behind) in
+    let r = prefix (q + 1) s.front s.behind a.0 le in
+    dead (r.0, a.1, subst (λ ts. SpellsModule ts a.1) (sym r.1 ∙ ap (λ ts. take (q + 1) ts ++ r.0) (sym s.whole)) a.2)
