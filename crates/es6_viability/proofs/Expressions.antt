@@ -1,6 +1,6 @@
 -- Expressions can be completed wherever their readers stop.
 use Rattle.std.specs.Prelude.{codes, is_some}
-use Rattle.std.proofs.Common.{◌≡◌, ◌∙◌, ℕ, zero, suc, ◌+◌, Bool, true, false, ◌&&◌, List, [], ◌∷◌, ◌++◌, Option, Some, None, refl, sym, ap, subst}
+use Rattle.std.proofs.Common.{◌≡◌, ◌∙◌, ℕ, zero, suc, ◌+◌, Bool, true, false, ◌||◌, ◌&&◌, List, [], ◌∷◌, ◌++◌, Option, Some, None, refl, sym, ap, subst}
 use Rattle.std.proofs.lemmas.Bool.{false≢true}
 use Rattle.es_text.specs.declared.Span.{Span}
 use Rattle.es6_lexer.specs.declared.token.TokenKind.TheVariants.{Punctuator}
@@ -29,7 +29,7 @@ use Rattle.es6_ast.specs.declared.tree.Parameter.{Parameter}
 use Rattle.es6_ast.specs.declared.tree.Pattern.{Pattern}
 use Rattle.es6_ast.specs.declared.tree.Rest.{Rest as Dots}
 use Rattle.es6_ast.specs.Settings.{is_leading, has_calls}
-use Rattle.es6_ast.specs.Tokens.{Filled}
+use Rattle.es6_ast.specs.Tokens.{Filled, is_word}
 use Rattle.es6_ast.specs.Grammar.{with_in, of_function, of_arrow}
 use Rattle.es6_reading.specs.Parser.{Input, Took, Parser, ◌>>=◌, returns, mark, made, choose, after, if_next, on_group, next_is, next_mark, Reading, is_left, is_covered, Inner}
 use Rattle.es6_reading.specs.Refine.{Refined, Fits, Misfit, TooNested, refined_map, refined_cons, fits_if, is_name_in, begin_of_expression, made_part, part_in, target_in, refine, refine_part, parts_of, parameters_of, rest_parameter, refine_parameters, target_before, else_itself, refine_pattern}
@@ -41,7 +41,7 @@ use Rattle.es6_reading.proofs.FollowLevels as levels'
 use Rattle.es6_reading.proofs.Locality.{Turns, over, turn, Deeper, as_before, nested_less, deeper}
 use Rattle.es6_reading.proofs.Posts.{Holds, took, fault, of_took, on-holds, if-holds, any as any-holds, bind as holds-bind}
 use Rattle.es6_reading.proofs.RefineMore.{kept-before, kept-parameters-of, kept-parameters-before}
-use Rattle.es6_viability.proofs.Viable.{fill, Head, head, Any, gives_up, Begins, Viable, Partly, Onward, used_up, past, done, done-ok, rests, stops, nowhere, number-by, expression-by, bind, bind-if, bind-half, half-bind, fresh-bind, may, must, fresh-may, fresh-must, half-on, either, half-either, looks-no, looks-yes, half-looks, fresh-no, fresh-yes, begins, half-begins, half-group, group-may, endless, weaken, head-zero, on-head, finished, finished-ok, free, half-choice-no, fresh-choice-no, on-missed, no-next, nothing-more, bind-seen}
+use Rattle.es6_viability.proofs.Viable.{fill, Head, head, Any, Begins, Viable, Partly, Onward, used_up, past, done, done-ok, rests, stops, nowhere, number-by, expression-by, bind, bind-if, bind-half, half-bind, fresh-bind, may, must, fresh-may, fresh-must, half-on, half-set, either, half-either, looks-no, looks-yes, half-looks, fresh-no, fresh-yes, begins, half-begins, half-group, group-may, endless, weaken, head-zero, on-head, finished, finished-ok, free, half-choice-no, fresh-choice-no, on-missed, no-next, nothing-more, bind-seen}
 use Rattle.es6_viability.proofs.Completions.{x_, Free, Closer, After, FollowOf, Follow, EndOf, End_, end-follow, follow-after, Refines, AllowedOf, Allowed, Better, no-dot, no-index, no-call, no-template, no-parted, no-postfix, no-power, no-binary, no-question, no-arrow, no-assign, no-comma, no-star, no-value, x-free, x-no-unary}
 use Rattle.es6_viability.proofs.Parts.{closing, bracket-closes, brace-closes, colon-closes, identifier, any-name, take-mark, take-word, function, class, half-template, method-after-key, generator-method, accessor, key}
 
@@ -318,7 +318,7 @@ module _ {l : ℕ} (i j : Inner) (h : Better l i j) where
   -- behind one there are some
   links-some : (f : Flags) (calls : Bool) {n m : ℕ} (w : Turns (suc l) n m) (s : Input) → Partly (λ y us. After us) NonEmpty (e.links i f calls n) (e.links j f calls m) s
   unfolding e.links
-  links-some f calls over s = gives_up
+  links-some f calls over s = stops
   links-some f calls (turn {n = n} {m = m} w) s = half-begins (primary'.links_from i f calls (e.links i f calls n)) (primary'.links_from j f calls (e.links j f calls m)) s (λ place. on-link f calls _ _ _ _ _ s (λ x c. bind _ _ (links f calls w c) (λ ls d. done-ok tt) (λ y us t. t)) rests)
 
   chained-fresh : (role : Role) (at : ℕ) (x : Reading) (ls : List Link) (last : ℕ) → NonEmpty ls → Begins Follow (Allowed role j.fuel) (λ us. After us) (made at (e.chained x ls)) last
@@ -371,7 +371,7 @@ module _ {l : ℕ} (i j : Inner) (h : Better l i j) where
 
     operands-some : {n m : ℕ} (w : Turns (suc l) n m) (s : Input) → Partly (λ y us. After us) NonEmpty (e.operands q f level n) (e.operands q' f level m) s
     unfolding e.operands
-    operands-some over s = gives_up
+    operands-some over s = stops
     operands-some (turn w) s = half-on _ _ _ _ _ s (λ op c. past (bind _ _ (k c) (λ x d. bind _ _ (operands w d) (λ y z. done-ok tt) (λ y us t. t)) (λ y us t. t))) rests
 
     operands-end : (role : Role) (at : ℕ) (x : Reading) {n m : ℕ} → Turns (suc l) n m → (last : ℕ) → Allowed role j.fuel x → Begins Follow (Allowed role j.fuel) (λ us. Follow x us) (◌>>=◌ (e.operands q' f level m) (λ os. made at (e.operated x os))) last
@@ -411,19 +411,19 @@ module _ {l : ℕ} (i j : Inner) (h : Better l i j) where
   arrow-if f at x (nested_less m) s = stops
 
   assigned-by : (f : Flags) (at : ℕ) (op : AssignOperator) {r r' : Refined Pattern} → Deeper (suc l) r r' → ((place : ℕ) → r ≡ Misfit place → ⊥) → (s : Input)
-      → Onward (λ y us. Closer false us) Any (◌>>=◌ (e.fitting r) (λ q. ◌>>=◌ (i.assignment f) (λ y. made at (λ span. e.other (expr.Assign span op q y.value))))) (◌>>=◌ (e.fitting r') (λ q. ◌>>=◌ (j.assignment f) (λ y. made at (λ span. e.other (expr.Assign span op q y.value))))) s
+      → Onward true (λ y us. Closer false us) Any (◌>>=◌ (e.fitting r) (λ q. ◌>>=◌ (i.assignment f) (λ y. made at (λ span. e.other (expr.Assign span op q y.value))))) (◌>>=◌ (e.fitting r') (λ q. ◌>>=◌ (j.assignment f) (λ y. made at (λ span. e.other (expr.Assign span op q y.value))))) s
   assigned-by f at op {r = Fits q} as_before n s = past (bind _ _ (h.assignment f s) (λ y d. done) (λ y us t. t))
   assigned-by f at op {r = Misfit place} as_before n s = absurd (n place refl)
-  assigned-by f at op {r = TooNested} as_before n s = used_up
-  assigned-by f at op (nested_less m) n s = used_up
+  assigned-by f at op {r = TooNested} as_before n s = used_up refl refl
+  assigned-by f at op (nested_less m) n s = used_up refl refl
 
-  pub assigned-with : (f : Flags) (at : ℕ) (x : Expression) (op : AssignOperator) (s : Input) → Onward (λ y us. Closer false us) Any (e.assigned_with i f at x op) (e.assigned_with j f at x op) s
+  pub assigned-with : (f : Flags) (at : ℕ) (x : Expression) (op : AssignOperator) (s : Input) → Onward true (λ y us. Closer false us) Any (e.assigned_with i f at x op) (e.assigned_with j f at x op) s
   unfolding e.assigned_with
   assigned-with f at x op s = assigned-by f at op (deeper (λ n. target_before n op x) (λ k more. kept-before k more op x) h.turns) (λ place e. never-misfit i.fuel op x place e) s
 
   after-half : (f : Flags) (at : ℕ) (x : Reading) (s : Input) → Partly (λ y us. Closer false us) Any (e.after_conditional i f at x) (e.after_conditional j f at x) s
   unfolding e.after_conditional
-  after-half f at x s = half-looks _ _ _ _ _ s (arrow-if f at x (deeper (λ n. e.parameters_before n x.shape x.value) (λ k more. kept-parameters-before k more x.shape x.value) h.turns) s) (half-either (is_left x.shape) _ _ _ _ s (half-on _ _ _ _ _ s (λ op c. assigned-with f at _ op c) rests) rests)
+  after-half f at x s = half-looks _ _ _ _ _ s (arrow-if f at x (deeper (λ n. e.parameters_before n x.shape x.value) (λ k more. kept-parameters-before k more x.shape x.value) h.turns) s) (half-either (is_left x.shape) _ _ _ _ s (half-set assign_at _ _ _ _ s (λ t op e. ap (λ o. is_some o || is_word (codes "of") t.kind) e) (λ op c. assigned-with f at _ op c) rests) rests)
 
   after-fresh : (f : Flags) (at : ℕ) (x : Expression) (sh : Shape) (last : ℕ) → AllowedOf Leading j.fuel sh x → Begins (λ (y : Reading) us. Closer false us) Any (λ us. EndOf sh us) (e.after_conditional j f at (record { value = x; shape = sh })) last
   unfolding e.after_conditional

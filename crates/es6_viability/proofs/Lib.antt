@@ -5,3 +5,7 @@ pub mod Expressions
 pub mod Statements
 pub mod Readers
 pub mod Passed
+pub mod Beside
+pub mod BesideExpressions
+pub mod BesideStatements
+pub mod ReadInserted

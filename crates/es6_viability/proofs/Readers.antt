@@ -298,7 +298,7 @@ module _ (complete : IsComplete) (fuel : ℕ) (front behind : List Token) where
     where
       whole : map read front ≡ t ∷ before
       whole = append_cancel_right (map read front) (t ∷ before) (map read behind) (sym (map-append read front behind) ∙ e ∙ ap (λ us. (t ∷ before) ++ us) (ap left k))
-  alive-by stop final k gives_up f = absurd (final (stop-of k))
+  alive-by stop final k (gives_up front_ t e set) f = absurd (final (stop-of k))
     where
       stop-of : {us vs : List Filled} → ◌≡◌ {A = Outcome Module} (Fault Endless us) (Fault stop vs) → stop ≡ Endless
       stop-of e = cc

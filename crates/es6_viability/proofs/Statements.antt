@@ -25,10 +25,10 @@ use Rattle.es6_ast.specs.declared.tree.Part.{Part}
 use Rattle.es6_ast.specs.declared.tree.Pattern.{Pattern, out-Pattern}
 use Rattle.es6_ast.specs.declared.tree.Statement.{Statement}
 use Rattle.es6_ast.specs.Grammar.{with_in, without_in, of_module}
-use Rattle.es6_ast.specs.Tokens.{Filled, is_identifier}
-use Rattle.es6_reading.specs.Parser.{Input, Outcome, Parser, ◌>>=◌, on, mark, word, next_is, is_left, Inner}
+use Rattle.es6_ast.specs.Tokens.{Filled, is_identifier, is_word}
+use Rattle.es6_reading.specs.Parser.{Input, Outcome, Parser, ◌>>=◌, on, mark, word, kept_if, next_is, is_left, Inner}
 use Rattle.es6_reading.specs.Refine.{Refined, Fits, Misfit, TooNested, target_before}
-use Rattle.es6_reading.specs.Words.{text_at}
+use Rattle.es6_reading.specs.Words.{text_at, assign_at}
 use Rattle.es6_reading.specs.Statements as s6
 use Rattle.es6_reading.specs.Modules as m6
 use Rattle.es6_reading.specs.Expressions as e6
@@ -37,10 +37,23 @@ use Rattle.es6_reading.proofs.FollowModules as modules'
 use Rattle.es6_reading.proofs.Locality.{Turns, over, turn, Deeper, as_before, nested_less, deeper}
 use Rattle.es6_reading.proofs.Posts.{Misses}
 use Rattle.es6_reading.proofs.RefineMore.{kept-before}
-use Rattle.es6_viability.proofs.Viable.{fill, Head, head, Any, Goes, Begins, Viable, Partly, Onward, used_up, past, done, rests, stops, nowhere, bind, bind-if, bind-half, fresh-bind, may, must, fresh-may, half-on, take, either, half-either, looks-no, looks-yes, half-looks, fresh-yes, begins, half-group, group-must, endless, weaken, head-zero, on-head, finished, fresh-choice-yes}
+use Rattle.es6_viability.specs.Insertions.{sets}
+use Rattle.es6_viability.proofs.Viable.{fill, Head, head, Any, Goes, Begins, Viable, Partly, Onward, used_up, past, done, rests, stops, nowhere, bind, bind-if, bind-half, may-set, fresh-bind, may, must, fresh-may, half-on, take, either, half-either, looks-no, looks-yes, half-looks, fresh-yes, begins, half-group, group-must, endless, weaken, head-zero, on-head, finished, fresh-choice-yes}
 use Rattle.es6_viability.proofs.Completions.{x_, Free, Closer, HasDefault, Better, Behind, behind_while, behind_end, no-comma, no-else, no-finally}
 use Rattle.es6_viability.proofs.Parts.{closing, brace-behind, semicolon-closes, colon-closes, identifier, any-name, take-mark, take-word, semicolon_, do-while-end, with-default, block, named-function, function, class}
 use Rattle.es6_viability.proofs.Expressions.{assignment, sequence, never-misfit}
+
+-- the `of` of a loop sets
+of-sets : (t x : Filled) → word (codes "of") t ≡ Some x → sets t ≡ true
+of-sets t x e = by (is_word (codes "of") t.kind) e
+  where
+    either-way : (b : Bool) → (b || true) ≡ true
+    either-way true = refl
+    either-way false = refl
+
+    by : (v : Bool) → kept_if v t ≡ Some x → (is_some (assign_at t) || v) ≡ true
+    by true e = either-way (is_some (assign_at t))
+    by false e = absurd (cc)
 
 while-behind : {A : Type 0} (y : A) (us : List Filled) → Head (Word (codes "while")) us → Behind us
 while-behind y us head = behind_while
@@ -169,19 +182,19 @@ module _ {l : ℕ} (i j : Inner) (h : Better l i j) where
   unfolding s6.first_expression
   first-expression f x s = bind _ _ (take-mark {F = Free} marks.Semicolon refl s) (λ t c. rest-of-for f _ c) (λ y us t. tt)
 
-  assigned-by : (f : Flags) {r r' : Refined Pattern} → Deeper (suc l) r r' → ((place : ℕ) → r ≡ Misfit place → ⊥) → (s : Input) → Onward Free Any (◌>>=◌ (e6.fitting r) (λ q. s6.rest_of_of i f (Assigned q))) (◌>>=◌ (e6.fitting r') (λ q. s6.rest_of_of j f (Assigned q))) s
+  assigned-by : (f : Flags) {r r' : Refined Pattern} → Deeper (suc l) r r' → ((place : ℕ) → r ≡ Misfit place → ⊥) → (s : Input) → Onward true Free Any (◌>>=◌ (e6.fitting r) (λ q. s6.rest_of_of i f (Assigned q))) (◌>>=◌ (e6.fitting r') (λ q. s6.rest_of_of j f (Assigned q))) s
   assigned-by f {r = Fits q} as_before n s = past (rest-of-of f _ s)
   assigned-by f {r = Misfit place} as_before n s = absurd (n place refl)
-  assigned-by f {r = TooNested} as_before n s = used_up
-  assigned-by f (nested_less m) n s = used_up
+  assigned-by f {r = TooNested} as_before n s = used_up refl refl
+  assigned-by f (nested_less m) n s = used_up refl refl
 
-  assigned-in-turn : (f : Flags) (x : Expression) (s : Input) → Onward Free Any (s6.assigned_in_turn i f x) (s6.assigned_in_turn j f x) s
+  assigned-in-turn : (f : Flags) (x : Expression) (s : Input) → Onward true Free Any (s6.assigned_in_turn i f x) (s6.assigned_in_turn j f x) s
   unfolding s6.assigned_in_turn
   assigned-in-turn f x s = assigned-by f (deeper (λ n. target_before n assign.Assign x) (λ k more. kept-before k more assign.Assign x) h.turns) (λ place e. never-misfit i.fuel assign.Assign x place e) s
 
   for-expression : (f : Flags) (s : Input) → Viable Free Any (λ us. Head x_ us) (s6.for_expression i f) (s6.for_expression j f) s
   unfolding s6.for_expression
-  for-expression f s = bind _ _ (h.sequence (without_in f) s) (λ x c. either (is_left x.shape) _ _ _ _ c (looks-no _ _ _ _ _ c stops (may _ _ _ _ _ c (λ t d. assigned-in-turn f _ d) (first-expression f _ c) (on-head _ (λ us. refl))) (on-head _ (λ us. refl))) (first-expression f _ c)) semicolon-closes
+  for-expression f s = bind _ _ (h.sequence (without_in f) s) (λ x c. either (is_left x.shape) _ _ _ _ c (looks-no _ _ _ _ _ c stops (may-set (word (codes "of")) _ _ _ _ c (λ t x e. of-sets t x e) (λ t d. assigned-in-turn f _ d) (first-expression f _ c) (on-head _ (λ us. refl))) (on-head _ (λ us. refl))) (first-expression f _ c)) semicolon-closes
 
   for-header : (f : Flags) (s : Input) → Viable Free Any (λ us. Head (Punctuator marks.Semicolon) us) (s6.for_header i f) (s6.for_header j f) s
   unfolding s6.for_header

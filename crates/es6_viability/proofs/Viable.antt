@@ -1,5 +1,6 @@
 -- What a reader took can be completed: there are tokens with which a reader with more turns and more room reads the whole.
 use Rattle.std.proofs.Common.{◌≡◌, ◌∙◌, ℕ, Bool, true, false, List, [], ◌∷◌, ◌++◌, map, Option, Some, None, refl, sym, ap, subst, append_assoc}
+use Rattle.std.proofs.lemmas.Bool.{false≢true}
 use Rattle.std.proofs.lemmas.List.{map-append}
 use Rattle.es6_lexer.specs.declared.token.TokenKind.{TokenKind}
 use Rattle.es6_lexer.specs.declared.token.TokenKind.TheVariants.{Punctuator}
@@ -8,6 +9,7 @@ use Rattle.es6_ast.specs.declared.settings.Stop.{Stop}
 use Rattle.es6_ast.specs.declared.settings.Stop.TheVariants.{Depth, Endless}
 use Rattle.es6_ast.specs.Tokens.{Filled, Read, begin_of}
 use Rattle.es6_reading.specs.Parser.{Input, Outcome, Took, Fault, Parser, fails, after, on, on_taken, choose, next_is, if_next, from, take_as, mark, next_mark, refused, no_number, no_expression, Inner, on_group, kept_if, is_insertable}
+use Rattle.es6_viability.specs.Insertions.{sets}
 use Rattle.es6_reading.proofs.Follows.{SameHead, nothing, same}
 use Rattle.es6_reading.proofs.Posts.{Misses}
 
@@ -60,20 +62,20 @@ pub record Fresh {A : Type 0} (F : A → List Filled → Type 0) (P : A → Type
   pub reads : (us : List Filled) → F value us → run (fills more ++ us) ≡ Took value (record { tokens = us; last = last })
   pub starts : (us : List Filled) → F value us → S (fills more ++ us)
 
--- from where a reader stood, if it took a token; one that gave up what nests too far may have stood anywhere
+-- from where a reader stood, if it took a token; one that gave up what nests too far before such a token stood behind that
 pub data Half {A : Type 0} (F : A → List Filled → Type 0) (P : A → Type 0) (run : List Filled → Outcome A) (ts : List Filled) : Outcome A → Type 0 where
   stands : {o : Outcome A} → ts ≡ left o → Stays run [] o → Half F P run ts o
   some : {o : Outcome A} (t : Filled) (front : List Filled) → ts ≡ (t ∷ front) ++ left o → Stays run (t ∷ front) o → Ends F P run (t ∷ front) → Half F P run ts o
-  gives_up : {us : List Filled} → Half F P run ts (Fault Endless us)
+  gives_up : {us : List Filled} (front : List Filled) (t : Filled) → ts ≡ front ++ t ∷ us → sets t ≡ true → Half F P run ts (Fault Endless us)
 
 pub record Goes {A : Type 0} (F : A → List Filled → Type 0) (P : A → Type 0) (S : List Filled → Type 0) (run : List Filled → Outcome A) (ts : List Filled) (o : Outcome A) : Type 0 where
   pub half : Half F P run ts o
   pub fresh : Fresh F P S run
 
--- what is read after a token that was taken
-pub data Past {A : Type 0} (F : A → List Filled → Type 0) (P : A → Type 0) (run : List Filled → Outcome A) (ts : List Filled) : Outcome A → Type 0 where
-  goes : {o : Outcome A} → Half F P run ts o → Fresh F P Anything run → Past F P run ts o
-  used_up : {us : List Filled} → Past F P run ts (Fault Endless us)
+-- what is read after a token that was taken; after one that sets it may be given up at once
+pub data Past (b : Bool) {A : Type 0} (F : A → List Filled → Type 0) (P : A → Type 0) (run : List Filled → Outcome A) (ts : List Filled) : Outcome A → Type 0 where
+  goes : {o : Outcome A} → Half F P run ts o → Fresh F P Anything run → Past b F P run ts o
+  used_up : {us : List Filled} → b ≡ true → ts ≡ us → Past b F P run ts (Fault Endless us)
 
 abbrev pub run_of : {A : Type 0} → Parser A → ℕ → List Filled → Outcome A
 run_of p last us = p (record { tokens = us; last = last })
@@ -85,8 +87,8 @@ Viable F P S p p' s = Goes F P S (run_of p' s.last) s.tokens (p s)
 abbrev pub Partly : {A : Type 0} → (A → List Filled → Type 0) → (A → Type 0) → Parser A → Parser A → Input → Type 0
 Partly F P p p' s = Half F P (run_of p' s.last) s.tokens (p s)
 
-abbrev pub Onward : {A : Type 0} → (A → List Filled → Type 0) → (A → Type 0) → Parser A → Parser A → Input → Type 0
-Onward F P p p' s = Past F P (run_of p' s.last) s.tokens (p s)
+abbrev pub Onward : {A : Type 0} → Bool → (A → List Filled → Type 0) → (A → Type 0) → Parser A → Parser A → Input → Type 0
+Onward b F P p p' s = Past b F P (run_of p' s.last) s.tokens (p s)
 
 abbrev pub Begins : {A : Type 0} → (A → List Filled → Type 0) → (A → Type 0) → (List Filled → Type 0) → Parser A → ℕ → Type 0
 Begins F P S p last = Fresh F P S (run_of p last)
@@ -98,7 +100,7 @@ module _ {A : Type 0} {F : A → List Filled → Type 0} {P : A → Type 0} wher
   pub free : {S : List Filled → Type 0} {run : List Filled → Outcome A} → Fresh F P S run → Fresh F P Anything run
   free f = record { more = f.more; value = f.value; last = f.last; ok = f.ok; reads = f.reads; starts = λ us h. tt }
 
-  pub past : {S : List Filled → Type 0} {run : List Filled → Outcome A} {ts : List Filled} {o : Outcome A} → Goes F P S run ts o → Past F P run ts o
+  pub past : {b : Bool} {S : List Filled → Type 0} {run : List Filled → Outcome A} {ts : List Filled} {o : Outcome A} → Goes F P S run ts o → Past b F P run ts o
   past g = goes g.half (free g.fresh)
 
   ends-of : {S : List Filled → Type 0} {run : List Filled → Outcome A} → Fresh F P S run → Ends F P run []
@@ -114,22 +116,22 @@ module _ {A : Type 0} {F : A → List Filled → Type 0} {P : A → Type 0} wher
       (record { more = n.more; value = n.value; last = n.last; ok = n.ok; reads = λ us m. h ((t ∷ front) ++ (fills n.more ++ us)) (same-through c.tokens t front (fills n.more ++ us) e) ∙ n.reads us m })
   relay {run' = run'} h (some {o = Fault stop vs} t front e k n) = some t front e tt
       (record { more = n.more; value = n.value; last = n.last; ok = n.ok; reads = λ us m. h ((t ∷ front) ++ (fills n.more ++ us)) (same-through vs t front (fills n.more ++ us) e) ∙ n.reads us m })
-  relay h gives_up = gives_up
+  relay h (gives_up front t e k) = gives_up front t e k
 
   -- after a token that was taken
-  behind-it : {run run' : List Filled → Outcome A} {ts : List Filled} {o : Outcome A} (t : Filled) → ((us : List Filled) → run' (t ∷ us) ≡ run us) → Past F P run ts o → Half F P run' (t ∷ ts) o
-  behind-it {run = run} {run' = run'} t h (goes (stands {o = o} e k) n) = some t [] (ap (λ vs. t ∷ vs) e) (stays-behind o k) (record { more = n.more; value = n.value; last = n.last; ok = n.ok; reads = λ us m. h (fills n.more ++ us) ∙ n.reads us m })
+  behind-it : {b : Bool} {run run' : List Filled → Outcome A} {ts : List Filled} {o : Outcome A} (t : Filled) → ((us : List Filled) → run' (t ∷ us) ≡ run us) → Past b F P run ts o → (b ≡ true → sets t ≡ true) → Half F P run' (t ∷ ts) o
+  behind-it {run = run} {run' = run'} t h (goes (stands {o = o} e k) n) set = some t [] (ap (λ vs. t ∷ vs) e) (stays-behind o k) (record { more = n.more; value = n.value; last = n.last; ok = n.ok; reads = λ us m. h (fills n.more ++ us) ∙ n.reads us m })
     where
       stays-behind : (o : Outcome A) → Stays run [] o → Stays run' (t ∷ []) o
       stays-behind (Took x c) k = λ rest m. h rest ∙ k rest m
       stays-behind (Fault stop us) k = tt
-  behind-it {run = run} {run' = run'} t h (goes (some {o = o} u front e k n) f) = some t (u ∷ front) (ap (λ vs. t ∷ vs) e) (stays-behind o k) (record { more = n.more; value = n.value; last = n.last; ok = n.ok; reads = λ us m. h ((u ∷ front) ++ (fills n.more ++ us)) ∙ n.reads us m })
+  behind-it {run = run} {run' = run'} t h (goes (some {o = o} u front e k n) f) set = some t (u ∷ front) (ap (λ vs. t ∷ vs) e) (stays-behind o k) (record { more = n.more; value = n.value; last = n.last; ok = n.ok; reads = λ us m. h ((u ∷ front) ++ (fills n.more ++ us)) ∙ n.reads us m })
     where
       stays-behind : (o : Outcome A) → Stays run (u ∷ front) o → Stays run' (t ∷ u ∷ front) o
       stays-behind (Took x c) k = λ rest m. h ((u ∷ front) ++ rest) ∙ k rest m
       stays-behind (Fault stop us) k = tt
-  behind-it t h (goes gives_up f) = gives_up
-  behind-it t h used_up = gives_up
+  behind-it t h (goes (gives_up front u e k) f) set = gives_up (t ∷ front) u (ap (λ vs. t ∷ vs) e) k
+  behind-it t h (used_up b e) set = gives_up [] t (ap (λ vs. t ∷ vs) e) (set b)
 
   -- ## Readers that take nothing
 
@@ -237,16 +239,16 @@ module _ {A B : Type 0} {F : A → List Filled → Type 0} {P : A → Type 0} {G
       by : {o : Outcome B} → Half G Q (run_of (q' x) c.last) c.tokens o → Half G Q (λ us. after (run us) q') ts o
       by (stands {o = o} i j) = none-then o e l i j
       by (some {o = o} u inner i j n) = both-took o [] e l u inner i j n
-      by gives_up = gives_up
+      by (gives_up front u i m) = gives_up front u (e ∙ i) m
   half-bind q (stands {o = Fault stop us} e l) h = stands e tt
   half-bind {ts = ts} q (some {o = Took x c} t front e l n) h = by (h x c refl)
     where
       by : {o : Outcome B} → Half G Q (run_of (q' x) c.last) c.tokens o → Half G Q (λ us. after (run us) q') ts o
       by (stands {o = o} i j) = some-then o t front e l n i j
       by (some {o = o} u inner i j m) = both-took o (t ∷ front) e l u inner i j m
-      by gives_up = gives_up
+      by (gives_up {us = us} inner u i m) = gives_up ((t ∷ front) ++ inner) u (e ∙ ap (λ vs. (t ∷ front) ++ vs) i ∙ sym (append_assoc (t ∷ front) inner (u ∷ us))) m
   half-bind q (some {o = Fault stop us} t front e l n) h = some t front e tt (ends-bind q' f k n)
-  half-bind q gives_up h = gives_up
+  half-bind q (gives_up front t e k) h = gives_up front t e k
 
 module _ {A B : Type 0} {F : A → List Filled → Type 0} {P : A → Type 0} {G : B → List Filled → Type 0} {Q : B → Type 0} {S : List Filled → Type 0} {T : A → List Filled → Type 0} {run : List Filled → Outcome A} {ts : List Filled} {o : Outcome A} where
   pub bind-seen : (q q' : A → Parser B) → Goes F P S run ts o → ((x : A) (c : Input) → o ≡ Took x c → Half G Q (run_of (q' x) c.last) c.tokens (q x c)) → ((y : A) (last : ℕ) → P y → Fresh G Q (T y) (run_of (q' y) last)) → ((y : A) (us : List Filled) → P y → T y us → F y us)
@@ -279,8 +281,8 @@ same-begin nothing = refl
 same-begin same = refl
 
 module _ {A B : Type 0} {F : A → List Filled → Type 0} {P : A → Type 0} where
-  pub half-on : (test : Filled → Option B) (p p' : B → Parser A) (q q' : Parser A) (s : Input) → ((x : B) (c : Input) → Onward F P (p x) (p' x) c) → Partly F P q q' s → Partly F P (on test p q) (on test p' q') s
-  half-on test p p' q q' s f g = at s.tokens s.last g
+  half-on-by : (b : Bool) (test : Filled → Option B) (p p' : B → Parser A) (q q' : Parser A) (s : Input) → (b ≡ true → (t : Filled) (x : B) → test t ≡ Some x → sets t ≡ true) → ((x : B) (c : Input) → Onward b F P (p x) (p' x) c) → Partly F P q q' s → Partly F P (on test p q) (on test p' q') s
+  half-on-by b test p p' q q' s set f g = at s.tokens s.last g
     where
       at : (ts : List Filled) (last : ℕ) → Partly F P q q' (record { tokens = ts; last = last }) → Partly F P (on test p q) (on test p' q') (record { tokens = ts; last = last })
       at [] last g = relay nothing-left g
@@ -296,8 +298,15 @@ module _ {A B : Type 0} {F : A → List Filled → Type 0} {P : A → Type 0} wh
           missed e us (same {us = vs}) = ap (λ o. on_taken o t vs p' q' (record { tokens = t ∷ vs; last = last })) e
 
           known : (o : Option B) → test t ≡ o → Partly F P q q' (record { tokens = t ∷ ts; last = last }) → Half F P (λ us. on test p' q' (record { tokens = us; last = last })) (t ∷ ts) (on_taken o t ts p q (record { tokens = t ∷ ts; last = last }))
-          known (Some x) e g = behind-it t (λ us. hit x e us) (f x (record { tokens = ts; last = t.span.end }))
+          known (Some x) e g = behind-it t (λ us. hit x e us) (f x (record { tokens = ts; last = t.span.end })) (λ k. set k t x e)
           known None e g = relay (missed e) g
+
+  pub half-on : (test : Filled → Option B) (p p' : B → Parser A) (q q' : Parser A) (s : Input) → ((x : B) (c : Input) → Onward false F P (p x) (p' x) c) → Partly F P q q' s → Partly F P (on test p q) (on test p' q') s
+  half-on test p p' q q' s f g = half-on-by false test p p' q q' s (λ k. absurd (false≢true k)) f g
+
+  -- a token that sets
+  pub half-set : (test : Filled → Option B) (p p' : B → Parser A) (q q' : Parser A) (s : Input) → ((t : Filled) (x : B) → test t ≡ Some x → sets t ≡ true) → ((x : B) (c : Input) → Onward true F P (p x) (p' x) c) → Partly F P q q' s → Partly F P (on test p q) (on test p' q') s
+  half-set test p p' q q' s set f g = half-on-by true test p p' q q' s (λ k. set) f g
 
   -- completed with no such token
   pub fresh-may : {S : List Filled → Type 0} (test : Filled → Option B) (p' : B → Parser A) (q' : Parser A) (last : ℕ) → Begins F P S q' last → ((us : List Filled) → S us → Misses test us) → Begins F P S (on test p' q') last
@@ -314,9 +323,13 @@ module _ {A B : Type 0} {F : A → List Filled → Type 0} {P : A → Type 0} wh
     starts = λ us h. head;
   }
 
-  pub may : {S : List Filled → Type 0} (test : Filled → Option B) (p p' : B → Parser A) (q q' : Parser A) (s : Input) → ((x : B) (c : Input) → Onward F P (p x) (p' x) c) → Viable F P S q q' s → ((us : List Filled) → S us → Misses test us)
+  pub may : {S : List Filled → Type 0} (test : Filled → Option B) (p p' : B → Parser A) (q q' : Parser A) (s : Input) → ((x : B) (c : Input) → Onward false F P (p x) (p' x) c) → Viable F P S q q' s → ((us : List Filled) → S us → Misses test us)
       → Viable F P S (on test p q) (on test p' q') s
   may test p p' q q' s f g miss = record { half = half-on test p p' q q' s f g.half; fresh = fresh-may test p' q' s.last g.fresh miss }
+
+  pub may-set : {S : List Filled → Type 0} (test : Filled → Option B) (p p' : B → Parser A) (q q' : Parser A) (s : Input) → ((t : Filled) (x : B) → test t ≡ Some x → sets t ≡ true) → ((x : B) (c : Input) → Onward true F P (p x) (p' x) c) → Viable F P S q q' s → ((us : List Filled) → S us → Misses test us)
+      → Viable F P S (on test p q) (on test p' q') s
+  may-set test p p' q q' s set f g miss = record { half = half-set test p p' q q' s set f g.half; fresh = fresh-may test p' q' s.last g.fresh miss }
 
   pub must : {S : B → List Filled → Type 0} (test : Filled → Option B) (k : TokenKind) (x : B) → test (fill k) ≡ Some x → (p p' : B → Parser A) (q q' : Parser A) (s : Input) → ((y : B) (c : Input) → Viable F P (S y) (p y) (p' y) c) → Partly F P q q' s
       → Viable F P (λ us. Head k us) (on test p q) (on test p' q') s
@@ -385,7 +398,7 @@ module _ {A : Type 0} {F : A → List Filled → Type 0} {P : A → Type 0} wher
   half-opened true b' p p' s e f = relay (λ us k. ap (λ b. choose b p' (fails Depth) (record { tokens = us; last = s.last })) e) f
   half-opened false b' p p' s e f = stops
 
-  pub half-group : (i j : Inner) → j.may_open ≡ true → (m : Mark) (p p' q q' : Parser A) (s : Input) → ((c : Input) → Onward F P p p' c) → Partly F P q q' s → Partly F P (on_group i m p q) (on_group j m p' q') s
+  pub half-group : (i j : Inner) → j.may_open ≡ true → (m : Mark) (p p' q q' : Parser A) (s : Input) → ((c : Input) → Onward false F P p p' c) → Partly F P q q' s → Partly F P (on_group i m p q) (on_group j m p' q') s
   half-group i j o m p p' q q' s f g = half-looks (next_mark m) _ _ q q' s (half-opened i.may_open j.may_open _ _ s o (half-on (mark m) (λ t. p) (λ t. p') q q' s (λ t c. f c) g)) g
 
   fresh-group : {S : List Filled → Type 0} (j : Inner) → j.may_open ≡ true → (m : Mark) → next_mark m (fill (Punctuator m)) ≡ true → (p' q' : Parser A) (last : ℕ) → Begins F P S p' 0 → Begins F P (λ us. Head (Punctuator m) us) (on_group j m p' q') last
@@ -409,7 +422,7 @@ module _ {A : Type 0} {F : A → List Filled → Type 0} {P : A → Type 0} wher
   pub fresh-without : {S : List Filled → Type 0} (j : Inner) (m : Mark) (p' q' : Parser A) (last : ℕ) → Begins F P S q' last → ((us : List Filled) → S us → next_is (next_mark m) us ≡ false) → Begins F P S (on_group j m p' q') last
   fresh-without j m p' q' last f miss = fresh-no (next_mark m) _ q' last f miss
 
-  pub group-may : {S : List Filled → Type 0} (i j : Inner) → j.may_open ≡ true → (m : Mark) (p p' q q' : Parser A) (s : Input) → ((c : Input) → Onward F P p p' c) → Viable F P S q q' s → ((us : List Filled) → S us → next_is (next_mark m) us ≡ false)
+  pub group-may : {S : List Filled → Type 0} (i j : Inner) → j.may_open ≡ true → (m : Mark) (p p' q q' : Parser A) (s : Input) → ((c : Input) → Onward false F P p p' c) → Viable F P S q q' s → ((us : List Filled) → S us → next_is (next_mark m) us ≡ false)
       → Viable F P S (on_group i m p q) (on_group j m p' q') s
   group-may i j o m p p' q q' s f g miss = record { half = half-group i j o m p p' q q' s f g.half; fresh = fresh-without j m p' q' s.last g.fresh miss }
 
@@ -425,7 +438,7 @@ module _ {A : Type 0} {F : A → List Filled → Type 0} {P : A → Type 0} wher
       half-weak : {run : List Filled → Outcome A} {ts : List Filled} {o : Outcome A} → Half F P run ts o → Half G Q run ts o
       half-weak (stands e k) = stands e k
       half-weak (some t front e k n) = some t front e k (record { more = n.more; value = n.value; last = n.last; ok = v n.value n.ok; reads = λ us h. n.reads us (w n.value us n.ok h) })
-      half-weak gives_up = gives_up
+      half-weak (gives_up front t e k) = gives_up front t e k
 
 -- ## Single tokens
 
