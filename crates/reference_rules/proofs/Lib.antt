@@ -1,0 +1,2 @@
+pub mod TriedObjects
+pub mod TriedReferences
