@@ -1,0 +1,12 @@
+pub mod Lowering
+pub mod Bindings
+pub mod Names
+pub mod Nodes
+pub mod Expressions
+pub mod Functions
+pub mod Classes
+pub mod Patterns
+pub mod Statements
+pub mod Lowered
+pub mod Modules
+pub mod Namespaces
