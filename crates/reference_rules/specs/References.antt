@@ -9,7 +9,7 @@ use Rattle.core_ast.specs.declared.parts.CoreHead.TheVariants as head
 use Rattle.core_ast.specs.declared.parts.CoreOp.{CoreOp}
 use Rattle.core_ast.specs.declared.parts.CoreOp.TheVariants as op
 use Rattle.core_ast.specs.declared.parts.Key.TheVariants.{TextKey}
-use Rattle.core_ast.specs.declared.parts.Primitive.TheVariants.{CheckReady, IterStart, Power, RefuseConst}
+use Rattle.core_ast.specs.declared.parts.Primitive.TheVariants.{CheckReady, Construct, IterStart, Power, RefuseConst}
 use Rattle.core_ast.specs.declared.parts.Unary.TheVariants.{Plus, Typeof}
 use Rattle.core_ast.specs.declared.parts.Update.{Update}
 use Rattle.core_ast.specs.declared.parts.Update.TheVariants.{DecrementAfter, DecrementBefore, IncrementAfter, IncrementBefore}
@@ -35,7 +35,7 @@ use Rattle.reference_rules.specs.declared.references.NamedValue.{NamedValue}
 use Rattle.reference_rules.specs.declared.references.NamedValue.TheVariants.{GlobalName, HostName, UndefinedName, VariableName}
 use Rattle.reference_rules.specs.declared.references.Reached.{Reached}
 use Rattle.reference_rules.specs.declared.references.Reached.TheVariants.{Inherited, Property, Value, Variable}
-use Rattle.lowering_rules.specs.Expressions.{call, spread_call, tagged}
+use Rattle.lowering_rules.specs.Expressions.{arguments, call, spread_call, tagged}
 use Rattle.lowering_rules.specs.Making.{flag, number, primitive, stored, then, through_with, to_text, two}
 use Rattle.lowering_rules.specs.Naming.{Drawn, with_temporary}
 use Rattle.reference_rules.specs.Drawing.{drawn, made_of, with_one}
@@ -340,3 +340,7 @@ called r parts site n = cond (list_any is_spread parts) (listed_call r parts sit
 abbrev pub called_as_tag : Reached → CoreExpr → List CoreExpr → Option Site → Names → Drawn CoreExpr
 called_as_tag r object values site n =
     made_of (λ c. tagged c.function c.receiver object values site) (callee false r n)
+
+-- `new` (12.3.3.1)
+abbrev pub constructed : Reached → List ListPart → Option Site → CoreExpr
+constructed r parts site = linked (value_of r) (link.Strict (op.Primitive Construct) (arguments parts ∷ []) site)
