@@ -1,10 +1,12 @@
 -- What no reader makes of a token at a break: where something may go on, it doesn't go on with that.
-use Rattle.std.proofs.Common.{◌≡◌, Bool, true, false, ◌||◌, ℕ, List, Option, Some, None, refl, sym, ap, subst}
-use Rattle.std.specs.Prelude.{codes}
+use Rattle.std.proofs.Common.{◌≡◌, ◌∙◌, Bool, true, false, ◌||◌, ◌&&◌, not, ℕ, List, Option, Some, None, refl, sym, ap, subst, eq-eqb}
+use Rattle.std.proofs.lemmas.Bool.{false≢true}
+use Rattle.std.specs.Prelude.{codes, ◌==◌}
+use Rattle.es5_ast.specs.declared.operators.BinaryOperator5.{BinaryOperator5}
 use Rattle.es5_ast.specs.Lexical.{Kind5, Punctuator, Token5}
-use Rattle.es5_ast.specs.Grammar.{is_mark}
+use Rattle.es5_ast.specs.Grammar.{is_mark, binary_kind, binary_level, is_in}
 use Rattle.es5_reading.specs.Parser.{kept_if, mark, ending}
-use Rattle.es5_reading.specs.Expressions.{after_at, assign_at, binary_at}
+use Rattle.es5_reading.specs.Expressions.{after_at, assign_at, binary_at, look_up, binary_operators, operator_of_level, unless}
 use Rattle.es5_reading.specs.Statements.{label_at, goes_on}
 use Rattle.es5_reading.proofs.CompleteTokens.{mark-miss}
 use Rattle.es5_reading.proofs.Meanings.{mark-is, assign-means, binary-means}
@@ -30,6 +32,17 @@ module _ (t : Token5) (q : IsBreak t) where
 
   pub assign-none : assign_at t ≡ None
   assign-none = none-if (assign_at t) (λ op e. q.plain (subst GoesOn (sym (assign-means op t e)) (assignment op)))
+
+  -- at any level
+  pub operator-none : look_up binary_kind binary_operators t.kind ≡ None
+  operator-none = none-if (look_up binary_kind binary_operators t.kind) (λ op e. found op (sym (ap (λ o. operator_of_level false (binary_level op) o) e) ∙ binary-none false (binary_level op)))
+    where
+      found : (op : BinaryOperator5) → operator_of_level false (binary_level op) (Some op) ≡ None → ⊥
+      found op h = at (binary_level op == binary_level op) (eq-eqb (binary_level op) (binary_level op) refl) h
+        where
+          at : (b : Bool) → b ≡ true → unless (not b || (false && is_in op)) (Some op) ≡ None → ⊥
+          at true e h = absurd (cc)
+          at false e h = absurd (false≢true e)
 
   pub ending-none : ending t ≡ None
   ending-none = ap (λ b. kept_if b t) q.no_end

@@ -1,14 +1,15 @@
 -- Texts that leave out a semicolon only where a line ends, or before `}` or the end, and where nothing before it can go on.
-use Rattle.std.specs.Prelude.{◌≡◌, ℕ, ◌≤◌, true, false, ◌||◌, List, [], ◌∷◌, ◌++◌, codes}
+use Rattle.std.specs.Prelude.{◌≡◌, ℕ, ◌≤◌, ◌⊎◌, true, false, ◌||◌, List, [], ◌∷◌, ◌++◌, codes}
 use Rattle.es5_ast.specs.declared.operators.AssignOperator5.{AssignOperator5}
 use Rattle.es5_ast.specs.declared.operators.BinaryOperator5.{BinaryOperator5}
 use Rattle.es5_ast.specs.declared.tree.Stat5.{Stat5}
 use Rattle.es5_ast.specs.Lexical.{Kind5, Punctuator, Token5}
 use Rattle.es5_ast.specs.Grammar.{is_mark, ends, assign_kind, binary_kind, Mode5, Exact, IsProgram}
-use Rattle.es5_ast.specs.Script.{inserted, Fills}
+use Rattle.es5_ast.specs.Script.{inserted, Fills, IsStrict}
+use Rattle.es5_ast.specs.Depth.{most_open}
 use Rattle.es5_ast.specs.Within.{ProgramWithin}
-use Rattle.es5_reading.specs.Parser.{Stop5, Took, Fault}
-use Rattle.es5_reading.specs.Programs.{readers, program}
+use Rattle.es5_reading.specs.Parser.{Stop5, Endless, Took, Fault}
+use Rattle.es5_reading.specs.Programs.{readers, program, script}
 use Rattle.es5_reading_laws.specs.Laws.{BeginAlike, IsFinal}
 
 -- The tokens with which an expression or a statement may go on where it could end (11.2 to 11.14, 12.2, 12.12).
@@ -50,3 +51,20 @@ BreaksAreInsertions = (tokens filled : List Token5) (statements : List Stat5) �
 abbrev pub FaultsAreDeadAtBreaks : Type 0
 FaultsAreDeadAtBreaks = (fuel room : ℕ) (tokens : List Token5) (stop : Stop5) (rest : List Token5) → program (readers true fuel room) fuel (record { tokens = tokens; last = 0 }) ≡ Fault stop rest → IsFinal stop
     → (front : List Token5) × (tokens ≡ front ++ rest) × ((mode : Mode5) (others filled : List Token5) (statements : List Stat5) → BeginAlike rest others → Breaks [] (front ++ others) filled → IsProgram mode filled statements → ⊥)
+
+-- the statements are read of all the tokens, or loops have too few turns
+abbrev pub IsReadOrEndless : ℕ → List Token5 → List Stat5 → Type 0
+IsReadOrEndless fuel tokens statements =
+    ((end : ℕ) × (script fuel tokens ≡ Took statements (record { tokens = []; last = end }))) ⊎ ((rest : List Token5) × (script fuel tokens ≡ Fault Endless rest))
+
+-- A script that tokens spell so, beginning with the directive (14.1), is read exactly so, if at most 2,048 constructs are open at once
+-- in it. With too few turns of loops the reader stops for want of them, and nowhere else.
+abbrev pub ScriptsAreReadAtBreaks : Type 0
+ScriptsAreReadAtBreaks = (tokens filled : List Token5) (statements : List Stat5) (derived : IsProgram Exact filled statements) → Breaks [] tokens filled → IsStrict filled → ProgramWithin derived most_open
+    → (fuel : ℕ) → IsReadOrEndless fuel tokens statements
+
+-- A fault of a script, but one for want of constructs that may open or of turns, stands at a token with which no script that is spelled
+-- so goes on after the tokens before it, or at the end of tokens that spell none.
+abbrev pub ScriptFaultsAreDeadAtBreaks : Type 0
+ScriptFaultsAreDeadAtBreaks = (fuel : ℕ) (tokens : List Token5) (stop : Stop5) (rest : List Token5) → script fuel tokens ≡ Fault stop rest → IsFinal stop
+    → (front : List Token5) × (tokens ≡ front ++ rest) × ((mode : Mode5) (others filled : List Token5) (statements : List Stat5) → BeginAlike rest others → Breaks [] (front ++ others) filled → IsStrict filled → IsProgram mode filled statements → ⊥)

@@ -1,6 +1,6 @@
 -- The readers tied into one another look at no token past the first one that they don't take, and read the same where more may open and
 -- loops have more turns. So a fault stands at a token with which no script goes on.
-use Rattle.std.proofs.Common.{◌≡◌, ◌∙◌, ℕ, zero, suc, ◌+◌, ◌≤◌, arith, Bool, true, false, List, [], ◌∷◌, ◌++◌, Option, Some, None, cond, refl, sym, ap, subst}
+use Rattle.std.proofs.Common.{◌≡◌, ◌∙◌, ◌⊎◌, inl, inr, ℕ, zero, suc, ◌+◌, ◌≤◌, arith, Bool, true, false, List, [], ◌∷◌, ◌++◌, Option, Some, None, cond, refl, sym, ap, subst}
 use Rattle.std.proofs.lemmas.Bool.{false≢true}
 use Rattle.std.proofs.lemmas.List.{append_cancel_right}
 use Rattle.es5_ast.specs.declared.tree.Stat5.{Stat5}
@@ -8,7 +8,7 @@ use Rattle.es5_ast.specs.Lexical.{Token5}
 use Rattle.es5_ast.specs.Grammar.{Mode5, IsProgram}
 use Rattle.es5_ast.specs.Script.{IsStrict}
 use Rattle.es5_ast.specs.Depth.{most_open}
-use Rattle.es5_reading.specs.Parser.{Input5, Stop5, Syntax, Depth, Outside, Endless, Outcome5, Took, Fault, Inner5}
+use Rattle.es5_reading.specs.Parser.{Input5, Stop5, Syntax, Outside, Endless, Outcome5, Took, Fault, Inner5}
 use Rattle.es5_reading.specs.Expressions as e5
 use Rattle.es5_reading.specs.Expressions.{begins_operand, begins_expression}
 use Rattle.es5_reading.specs.Statements as s5
@@ -17,35 +17,36 @@ use Rattle.es5_reading.specs.Programs.{readers, program, is_directive, continues
 use Rattle.es5_reading.specs.Laws.{IsReadInFull}
 use Rattle.es5_reading.proofs.Meanings.{some_same}
 use Rattle.es5_reading.proofs.Follows.{plus, SameHead, nothing, same}
-use Rattle.es5_reading_laws.specs.Laws.{BeginAlike, IsFinal, FaultsStay, FaultsAreDead}
-use Rattle.es5_reading_laws.proofs.Locality.{Slack, slack, Local, LocalOf, took_so, stops_so, too_deep, too_long, bind, done, stops, looks, endless, alike, opens_now}
+use Rattle.es5_reading_laws.specs.Laws.{BeginAlike, IsFinal, FaultsStay, AnswersLast, FaultsAreDead, FaultsSayWhatStandsThere, Says, no_token, no_directive}
+use Rattle.es5_reading_laws.proofs.Locality.{More, more_of, Slack, slack, Local, LocalOf, took_so, stops_so, too_deep, too_long, bind, done, stops, deep, left_out, looks, looks_so, endless, alike, opens_now}
 use Rattle.es5_reading_laws.proofs.LocalReaders as r
 use Rattle.es5_reading_laws.proofs.LocalReaders.{Grown}
-use Rattle.es5_reading_laws.proofs.Directive.{no-fault}
+use Rattle.es5_reading_laws.proofs.Directive.{no-fault, directive-true}
+use Rattle.es5_reading_laws.proofs.Rows.{division, with-word}
 use Rattle.es5_reading_laws.proofs.LocalLimits.{callee-limit, unary-limit, assignment-limit, sequence-limit, statement-limit, stops_there, at-limit}
 
 -- ## Where no construct may open any more
 
-no-expression : {l : ℕ} (s : Input5) → Local l e5.no_expression e5.no_expression s
+no-expression : {l : More} (s : Input5) → Local l e5.no_expression e5.no_expression s
 unfolding e5.no_expression
-no-expression s = looks _ _ _ _ _ s stops stops
+no-expression s = looks_so _ _ _ _ _ s (λ e. left_out (division s.tokens e)) stops
 
-no-statement : {l : ℕ} (s : Input5) → Local l stops_there stops_there s
-no-statement s = looks _ _ _ _ _ s stops (looks _ _ _ _ _ s stops (looks _ _ _ _ _ s stops stops))
+no-statement : {l : More} (s : Input5) → Local l stops_there stops_there s
+no-statement s = looks _ _ _ _ _ s stops (looks_so _ _ _ _ _ s (λ e. left_out (with-word s.tokens e)) (looks_so _ _ _ _ _ s (λ e. left_out (division s.tokens e)) stops))
 
-expression-alike : {l : ℕ} (s : Input5) → Local l e5.expression_at_limit e5.expression_at_limit s
+expression-alike : {l : More} (s : Input5) → Local l e5.expression_at_limit e5.expression_at_limit s
 unfolding e5.expression_at_limit
-expression-alike s = looks _ _ _ _ _ s stops (no-expression s)
+expression-alike s = looks _ _ _ _ _ s deep (no-expression s)
 
-callee-alike : {l : ℕ} (s : Input5) → Local l e5.callee_at_limit e5.callee_at_limit s
+callee-alike : {l : More} (s : Input5) → Local l e5.callee_at_limit e5.callee_at_limit s
 unfolding e5.callee_at_limit
-callee-alike s = looks _ _ _ _ _ s stops (no-expression s)
+callee-alike s = looks _ _ _ _ _ s deep (no-expression s)
 
-statement-alike : {l : ℕ} (inside : Bool) (s : Input5) → Local l (s5.statement_at_limit inside) (s5.statement_at_limit inside) s
+statement-alike : {l : More} (inside : Bool) (s : Input5) → Local l (s5.statement_at_limit inside) (s5.statement_at_limit inside) s
 unfolding s5.statement_at_limit
-statement-alike inside s = looks _ _ _ _ _ s stops (no-statement s)
+statement-alike inside s = looks _ _ _ _ _ s deep (no-statement s)
 
-module _ {l : ℕ} (m : Slack l) (j : Inner5) where
+module _ {l : More} (m : Slack l.room) (j : Inner5) where
   sequence-now : (k : Bool) (s : Input5) → Local l e5.expression_at_limit (e5.sequence j k) s
   unfolding e5.expression_at_limit
   sequence-now k s = at-limit begins_expression e5.no_expression (e5.sequence j k) m (sequence-limit j k) s (no-expression s)
@@ -69,9 +70,9 @@ module _ {l : ℕ} (m : Slack l) (j : Inner5) where
 
 -- ## All readers
 
-grown : (mode : Bool) (fuel room l : ℕ) → Grown l (readers mode fuel room) (readers mode (plus fuel l) (plus room l))
+grown : (mode : Bool) (fuel room turns more : ℕ) → Grown (more_of turns more) (readers mode fuel room) (readers mode (plus fuel turns) (plus room more))
 unfolding readers
-grown mode fuel zero zero = record {
+grown mode fuel zero turns zero = record {
   mode = refl;
   turns = refl;
   opens = alike;
@@ -79,12 +80,12 @@ grown mode fuel zero zero = record {
   assignment = λ k s. expression-alike s;
   unary = λ s. expression-alike s;
   callee = λ s. callee-alike s;
-  property = λ s. stops;
-  declared = λ k s. stops;
+  property = λ s. deep;
+  declared = λ k s. deep;
   statement = λ inside top w s. statement-alike inside s;
 }
-grown mode fuel zero (suc l) =
-    let j : Inner5 = readers mode (plus fuel (suc l)) l in
+grown mode fuel zero turns (suc more) =
+    let j : Inner5 = readers mode (plus fuel turns) more in
     record {
       mode = refl;
       turns = refl;
@@ -97,10 +98,11 @@ grown mode fuel zero (suc l) =
       declared = λ k s. too_deep slack;
       statement = λ inside top w s. statement-now slack j inside top w s;
     }
-grown mode fuel (suc room) l =
+grown mode fuel (suc room) turns more =
+    let l : More = more_of turns more in
     let i : Inner5 = readers mode fuel room in
-    let j : Inner5 = readers mode (plus fuel l) (plus room l) in
-    let deeper : Grown l i j = grown mode fuel room l in
+    let j : Inner5 = readers mode (plus fuel turns) (plus room more) in
+    let deeper : Grown l i j = grown mode fuel room turns more in
     record {
       mode = refl;
       turns = refl;
@@ -114,7 +116,7 @@ grown mode fuel (suc room) l =
       statement = λ inside top w s. r.statement l i j deeper inside top s;
     }
 
-programs : (l : ℕ) (i j : Inner5) → Grown l i j → (n : ℕ) (s : Input5) → Local l (program i n) (program j (plus n l)) s
+programs : (l : More) (i j : Inner5) → Grown l i j → (n : ℕ) (s : Input5) → Local l (program i n) (program j (plus n l.turns)) s
 unfolding program
 programs l i j h zero s = endless (λ n. program j n) l (λ c. refl) s
 programs l i j h (suc n) s = looks _ _ _ _ _ s (bind _ _ (r.statement l i j h false true s) λ x c. bind _ _ (programs l i j h n c) λ y d. done) done
@@ -134,26 +136,34 @@ record FaultOf (run : List Token5 → Outcome5 (List Stat5)) (ts : List Token5) 
 abbrev stopped_at : Stop5 → List Token5 → Outcome5 (List Stat5)
 stopped_at stop us = Fault stop us
 
-fault-of : {l : ℕ} {run : List Token5 → Outcome5 (List Stat5)} {ts us : List Token5} {stop : Stop5} {o : Outcome5 (List Stat5)} → LocalOf l run ts o → o ≡ Fault stop us → IsFinal stop → FaultOf run ts stop us
+same-stop : {a b : Stop5} {vs ws : List Token5} → stopped_at a vs ≡ stopped_at b ws → a ≡ b
+same-stop h = cc
+
+same-rest : {a b : Stop5} {vs ws : List Token5} → stopped_at a vs ≡ stopped_at b ws → vs ≡ ws
+same-rest h = cc
+
+moved : {run : List Token5 → Outcome5 (List Stat5)} {ts : List Token5} {a b : Stop5} {vs ws : List Token5} → a ≡ b → vs ≡ ws → FaultOf run ts a vs → FaultOf run ts b ws
+moved {run = run} {ts = ts} {a = a} {ws = ws} e k r = subst (λ v. FaultOf run ts v ws) e (subst (λ v. FaultOf run ts a v) k r)
+
+fault-of : {l : More} {run : List Token5 → Outcome5 (List Stat5)} {ts us : List Token5} {stop : Stop5} {o : Outcome5 (List Stat5)} → LocalOf l run ts o → o ≡ Fault stop us → IsFinal stop → FaultOf run ts stop us
 fault-of (took_so front e r) h k = absurd (cc)
-fault-of {run = run} {ts = ts} {us = us} {stop = stop} (stops_so front e r) h k = moved (same-stop h) (same-rest h) (record { front = front; splits = e; stays = r })
-  where
-    same-stop : {a b : Stop5} {vs ws : List Token5} → stopped_at a vs ≡ stopped_at b ws → a ≡ b
-    same-stop h = cc
+fault-of (stops_so front e m r) h k = moved (same-stop h) (same-rest h) (record { front = front; splits = e; stays = r })
+fault-of (too_deep m) h k = absurd (subst (λ v. IsFinal v) (sym (same-stop h)) k)
+fault-of (too_long m) h k = absurd (subst (λ v. IsFinal v) (sym (same-stop h)) k)
 
-    same-rest : {a b : Stop5} {vs ws : List Token5} → stopped_at a vs ≡ stopped_at b ws → vs ≡ ws
-    same-rest h = cc
+-- what is answered where loops have more turns, and no more constructs may open than before
+no-slack : {n : ℕ} → n ≡ zero → Slack n → ⊥
+no-slack e slack = absurd (cc)
 
-    moved : {a b : Stop5} {vs ws : List Token5} → a ≡ b → vs ≡ ws → FaultOf run ts a vs → FaultOf run ts b ws
-    moved {a = a} {ws = ws} e k r = subst (λ v. FaultOf run ts v ws) e (subst (λ v. FaultOf run ts a v) k r)
-fault-of (too_deep m) h k = absurd (subst (λ v. IsFinal v) (at h) k)
-  where
-    at : {b : Stop5} {vs ws : List Token5} → stopped_at Depth vs ≡ stopped_at b ws → b ≡ Depth
-    at h = cc
-fault-of (too_long m) h k = absurd (subst (λ v. IsFinal v) (at h) k)
-  where
-    at : {b : Stop5} {vs ws : List Token5} → stopped_at Endless vs ≡ stopped_at b ws → b ≡ Endless
-    at h = cc
+head-same : (ts : List Token5) → SameHead ts ts
+head-same [] = nothing
+head-same (t ∷ ts) = same
+
+lasting : {turns : ℕ} {run : List Token5 → Outcome5 (List Stat5)} {ts : List Token5} {o : Outcome5 (List Stat5)} → LocalOf (more_of turns zero) run ts o → ((rest : List Token5) × (o ≡ Fault Endless rest)) ⊎ (run ts ≡ o)
+lasting {run = run} (took_so {c = c} front e r) = inr (ap run e ∙ r c.tokens (head-same c.tokens))
+lasting {run = run} (stops_so {us = us} front e m r) = inr (ap run e ∙ r us (head-same us))
+lasting (too_deep m) = absurd (no-slack refl m)
+lasting (too_long {us = us} m) = inl (us, refl)
 
 plus-is : (n l : ℕ) → plus n l ≡ n + l
 plus-is zero l = none l
@@ -177,7 +187,7 @@ faults-stay mode fuel room tokens last stop rest h k =
     (f.front, f.splits, λ more others a. by f.front f.splits more others a)
   where
     faults : (l : ℕ) → FaultOf (λ us. program (readers mode (plus fuel l) (plus room l)) (plus fuel l) (record { tokens = us; last = last })) tokens stop rest
-    faults l = fault-of (programs l (readers mode fuel room) (readers mode (plus fuel l) (plus room l)) (grown mode fuel room l) fuel (record { tokens = tokens; last = last })) h k
+    faults l = fault-of (programs (more_of l l) (readers mode fuel room) (readers mode (plus fuel l) (plus room l)) (grown mode fuel room l l) fuel (record { tokens = tokens; last = last })) h k
 
     by : (front : List Token5) → tokens ≡ front ++ rest → (l : ℕ) (others : List Token5) → BeginAlike rest others → program (readers mode (fuel + l) (room + l)) (fuel + l) (record { tokens = front ++ others; last = last }) ≡ Fault stop others
     by front e l others a =
@@ -185,6 +195,20 @@ faults-stay mode fuel room tokens last stop rest h k =
         with-more mode fuel room l (record { tokens = front ++ others; last = last })
         ∙ ap (λ ts. program (readers mode (plus fuel l) (plus room l)) (plus fuel l) (record { tokens = ts ++ others; last = last })) (append_cancel_right front g'.front rest (sym e ∙ g'.splits))
         ∙ g'.stays others (alike-head rest others a)
+
+plus-none : (n : ℕ) → plus n zero ≡ n
+plus-none zero = refl
+plus-none (suc n) = ap (λ m. suc m) (plus-none n)
+
+pub answers-last : AnswersLast
+answers-last mode fuel room tokens last more =
+    elim (lasting (programs (more_of more zero) (readers mode fuel room) (readers mode (plus fuel more) (plus room zero)) (grown mode fuel room more zero) fuel (record { tokens = tokens; last = last }))) [
+      | inl e ↦ inl e
+      | inr e ↦ inr (
+          ap (λ n. program (readers mode n room) n (record { tokens = tokens; last = last })) (sym (plus-is fuel more))
+          ∙ ap (λ n. program (readers mode (plus fuel more) n) (plus fuel more) (record { tokens = tokens; last = last })) (sym (plus-none room))
+          ∙ e)
+    ]
 
 pub never-both : {x : List Stat5} {c : Input5} {stop : Stop5} {ts : List Token5} {o : Outcome5 (List Stat5)} → o ≡ Took x c → o ≡ Fault stop ts → ⊥
 never-both h k = absurd (cc)
@@ -209,17 +233,14 @@ program-dead full fuel room tokens stop rest h k =
 
 -- ## The directive
 
--- where a script that begins so stops before its statements are read, no script begins so
-record Early (tokens rest : List Token5) : Type 0 where
-  front : List Token5
-  splits : tokens ≡ front ++ rest
-  dead : (others : List Token5) → BeginAlike rest others → IsStrict (front ++ others) → ⊥
+-- where a script stops before its statements are read, all do that begin so
+pub record Early (tokens rest : List Token5) : Type 0 where
+  pub front : List Token5
+  pub splits : tokens ≡ front ++ rest
+  pub stays : (others : List Token5) → BeginAlike rest others → (fault : Stop5 × List Token5) × (directive_fault (front ++ others) ≡ Some fault)
 
 none-some : {x : Stop5 × List Token5} → None ≡ Some x → ⊥
 none-some e = cc
-
-no-tokens : {t u : Token5} {ts : List Token5} → [] ≡ t ∷ u ∷ ts → ⊥
-no-tokens e = cc
 
 second-early : (t : Token5) (ts : List Token5) (x : Stop5 × List Token5) → is_directive t ≡ true → second_fault ts ≡ Some x → Early (t ∷ ts) x.1
 second-early t [] x k e = absurd (none-some e)
@@ -233,22 +254,19 @@ second-early t (u ∷ us) x k e = by (continues u) refl e
     by true c e = subst (λ z. Early (t ∷ u ∷ us) z.1) (some_same e) (record {
       front = t ∷ [];
       splits = refl;
-      dead = λ others a s. none-some (sym (no-fault (t ∷ others) s) ∙ ap (λ z. directive_fault (t ∷ z)) a.1 ∙ stays a.0 c);
+      stays = λ others a. ((Syntax, u ∷ a.0), ap (λ z. directive_fault (t ∷ z)) a.1 ∙ stays a.0 c);
     })
 
-directive-early : (tokens : List Token5) (x : Stop5 × List Token5) → directive_fault tokens ≡ Some x → Early tokens x.1
-directive-early [] x e = subst (λ z. Early [] z.1) (some_same e) (record { front = []; splits = refl; dead = λ others a s. no-tokens (sym a ∙ s.first) })
+pub directive-early : (tokens : List Token5) (x : Stop5 × List Token5) → directive_fault tokens ≡ Some x → Early tokens x.1
+directive-early [] x e = subst (λ z. Early [] z.1) (some_same e) (record { front = []; splits = refl; stays = λ others a. ((Outside 1, []), ap (λ z. directive_fault z) a) })
 directive-early (t ∷ ts) x e = by (is_directive t) refl e
   where
     stays : (others : List Token5) → is_directive t ≡ false → directive_fault (t ∷ others) ≡ Some (Outside 1, t ∷ others)
     stays others k = ap (λ b. cond b (second_fault others) (Some (Outside 1, t ∷ others))) k
 
     by : (b : Bool) → is_directive t ≡ b → cond b (second_fault ts) (Some (Outside 1, t ∷ ts)) ≡ Some x → Early (t ∷ ts) x.1
-    by false k e = subst (λ z. Early (t ∷ ts) z.1) (some_same e) (record { front = []; splits = refl; dead = λ others a s. none-some (sym (no-fault others s) ∙ ap (λ z. directive_fault z) a.1 ∙ stays a.0 k) })
+    by false k e = subst (λ z. Early (t ∷ ts) z.1) (some_same e) (record { front = []; splits = refl; stays = λ others a. ((Outside 1, t ∷ a.0), ap (λ z. directive_fault z) a.1 ∙ stays a.0 k) })
     by true k e = second-early t ts x k e
-
-same-places : {a b : Stop5} {vs ws : List Token5} → stopped_at a vs ≡ stopped_at b ws → vs ≡ ws
-same-places h = cc
 
 pub dead-faults : IsReadInFull → FaultsAreDead
 unfolding script
@@ -257,4 +275,42 @@ dead-faults full fuel tokens stop rest h k = by (directive_fault tokens) refl h
     by : (o : Option (Stop5 × List Token5)) → directive_fault tokens ≡ o → unless_fault o (program (readers true fuel most_open) fuel (record { tokens = tokens; last = 0 })) ≡ Fault stop rest
         → (front : List Token5) × (tokens ≡ front ++ rest) × ((mode : Mode5) (others : List Token5) (statements : List Stat5) → BeginAlike rest others → IsStrict (front ++ others) → IsProgram mode (front ++ others) statements → ⊥)
     by None e h = let d = program-dead full fuel most_open tokens stop rest h k in (d.front, d.splits, λ mode others statements a s p. d.dead mode others statements a p)
-    by (Some x) e h = let d = subst (λ z. Early tokens z) (same-places h) (directive-early tokens x e) in (d.front, d.splits, λ mode others statements a s p. d.dead others a s)
+    by (Some x) e h = let d = subst (λ z. Early tokens z) (same-rest h) (directive-early tokens x e) in (d.front, d.splits, λ mode others statements a s p. none-some (sym (no-fault (d.front ++ others) s) ∙ (d.stays others a).1))
+
+-- ## What stands there
+
+said : {run : List Token5 → Outcome5 (List Stat5)} {ts us : List Token5} {stop : Stop5} {o : Outcome5 (List Stat5)} → LocalOf (more_of zero zero) run ts o → o ≡ Fault stop us → Says stop us
+said (took_so front e r) h = absurd (cc)
+said (stops_so front e m r) h = moved-says (same-stop h) (same-rest h) m
+  where
+    moved-says : {a b : Stop5} {vs ws : List Token5} → a ≡ b → vs ≡ ws → Says a vs → Says b ws
+    moved-says {a = a} {ws = ws} e k m = subst (λ v. Says v ws) e (subst (λ v. Says a v) k m)
+said (too_deep m) h = absurd (no-slack refl m)
+said (too_long m) h = absurd (no-slack refl m)
+
+second-says : (ts : List Token5) (x : Stop5 × List Token5) → second_fault ts ≡ Some x → Says x.0 x.1
+second-says [] x e = absurd (none-some e)
+second-says (t ∷ ts) x e = by (continues t) e
+  where
+    by : (b : Bool) → cond b (Some (Syntax, t ∷ ts)) None ≡ Some x → Says x.0 x.1
+    by true e = subst (λ z. Says z.0 z.1) (some_same e) tt
+    by false e = absurd (none-some e)
+
+directive-says : (tokens : List Token5) (x : Stop5 × List Token5) → directive_fault tokens ≡ Some x → Says x.0 x.1
+directive-says [] x e = subst (λ z. Says z.0 z.1) (some_same e) no_token
+directive-says (t ∷ ts) x e = by (is_directive t) refl e
+  where
+    by : (b : Bool) → is_directive t ≡ b → cond b (second_fault ts) (Some (Outside 1, t ∷ ts)) ≡ Some x → Says x.0 x.1
+    by true k e = second-says ts x e
+    by false k e = subst (λ z. Says z.0 z.1) (some_same e) (no_directive (λ d. false≢true (sym k ∙ directive-true t d.0 d.1)))
+
+pub faults-say : FaultsSayWhatStandsThere
+unfolding script
+faults-say fuel tokens stop rest h = by (directive_fault tokens) refl h
+  where
+    s : Input5
+    s = record { tokens = tokens; last = 0 }
+
+    by : (o : Option (Stop5 × List Token5)) → directive_fault tokens ≡ o → unless_fault o (program (readers true fuel most_open) fuel s) ≡ Fault stop rest → Says stop rest
+    by None e h = said (programs (more_of zero zero) (readers true fuel most_open) (readers true (plus fuel zero) (plus most_open zero)) (grown true fuel most_open zero zero) fuel s) h
+    by (Some x) e h = subst (λ z. Says z rest) (same-stop h) (subst (λ z. Says x.0 z) (same-rest h) (directive-says tokens x e))

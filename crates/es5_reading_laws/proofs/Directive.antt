@@ -15,7 +15,7 @@ nothing-found true o e = refl
 nothing-found false o e = ap (λ p. is_some p) e
 
 -- a semicolon goes on with no literal
-continues-not : (t : Token5) → IsEnd t → continues t ≡ false
+pub continues-not : (t : Token5) → IsEnd t → continues t ≡ false
 unfolding continues binary_operators assign_operators
 continues-not t h =
     let k = t.kind in
@@ -30,7 +30,7 @@ continues-not t h =
       nothing-found t.after_line _ (end-none (λ j. look_up update_kind (IncrementAfter ∷ DecrementAfter ∷ []) j) k h refl refl),
     ) refl
 
-directive-true : (t : Token5) → t.kind ≡ Text (codes "use strict") → t.end ≡ t.begin + 12 → is_directive t ≡ true
+pub directive-true : (t : Token5) → t.kind ≡ Text (codes "use strict") → t.end ≡ t.begin + 12 → is_directive t ≡ true
 directive-true t e p = both (is_text (codes "use strict") t.kind) (t.end == t.begin + 12) (ap (λ k. is_text (codes "use strict") k) e ∙ bytes_eq-refl (codes "use strict")) (eq-eqb t.end (t.begin + 12) p)
   where
     both : (a b : Bool) → a ≡ true → b ≡ true → (a && b) ≡ true

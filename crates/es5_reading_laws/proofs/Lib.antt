@@ -10,3 +10,4 @@ pub mod LocalReaders
 pub mod LocalLimits
 pub mod DeadFaults
 pub mod Ordered
+pub mod Rows

@@ -14,7 +14,7 @@ use Rattle.es5_reading.specs.Statements as s5
 use Rattle.es5_reading.specs.Statements.{begins_statement, statement_words, is_any_word}
 use Rattle.es5_reading.proofs.CompleteTokens.{mark-miss, word-miss}
 use Rattle.es5_reading.proofs.Meanings.{same_bytes}
-use Rattle.es5_reading_laws.proofs.Locality.{Slack, Local, LocalOf, too_deep, relay, same-next}
+use Rattle.es5_reading_laws.proofs.Locality.{More, Slack, Local, LocalOf, too_deep, relay, same-next}
 
 none-if : {A : Type 0} (o : Option A) → is_some o ≡ false → o ≡ None
 none-if None h = refl
@@ -256,7 +256,7 @@ module _ (i : Inner5) (inside : Bool) where
   statement-limit (t ∷ ts) last h = statement-none t ts (no-statement inside t h) last
 
 -- a reader where no construct may open any more, and one where some may
-pub at-limit : {A : Type 0} {l : ℕ} (test : Token5 → Bool) (q p' : Parser A) → Slack l → ((ts : List Token5) (last : ℕ) → next_is test ts ≡ false → p' (record { tokens = ts; last = last }) ≡ q (record { tokens = ts; last = last }))
+pub at-limit : {A : Type 0} {l : More} (test : Token5 → Bool) (q p' : Parser A) → Slack l.room → ((ts : List Token5) (last : ℕ) → next_is test ts ≡ false → p' (record { tokens = ts; last = last }) ≡ q (record { tokens = ts; last = last }))
     → (s : Input5) → Local l q q s → Local l (if_next test (fails Depth) q) p' s
 at-limit {A = A} {l = l} test q p' m f s g = by (next_is test s.tokens) refl
   where

@@ -13,15 +13,16 @@ use Rattle.es5_reading.specs.Parser.{Input5, Outcome5, Syntax, Parser, fails, ch
 use Rattle.es5_reading.specs.Expressions as e5
 use Rattle.es5_reading.specs.Statements as s5
 use Rattle.es5_reading.proofs.Follows.{plus}
-use Rattle.es5_reading_laws.proofs.Locality.{Local, LocalOf, bind, done, stops, either, next, take, looks, begins, insertable, Opens, group, endless}
+use Rattle.es5_reading_laws.proofs.Locality.{More, Local, LocalOf, bind, done, stops, left_out, either, next, take, looks, looks_so, begins, insertable, Opens, group, endless}
+use Rattle.es5_reading_laws.proofs.Rows.{division, with-word, in-word, in-word-if}
 use Rattle.es5_reading_laws.proofs.Places.{identifier_from, key_from, label_from, accessor_function_from, links_from, chain_from, postfix_from, unary_from, binary_body, conditional_from, assignment_from, sequence_from, property_from, block_from, declared_from, condition_from, cases_from, handler_from, statement_from}
 
 -- ## The readers
 
 -- the second may do more: so many constructs more may open, and each loop has so many turns more
-pub record Grown (l : ℕ) (i j : Inner5) : Type 0 where
+pub record Grown (l : More) (i j : Inner5) : Type 0 where
   pub mode : i.inserting ≡ j.inserting
-  pub turns : j.fuel ≡ plus i.fuel l
+  pub turns : j.fuel ≡ plus i.fuel l.turns
   pub opens : Opens l i.may_open j.may_open
   pub sequence : (k : Bool) (s : Input5) → Local l (i.sequence k) (j.sequence k) s
   pub assignment : (k : Bool) (s : Input5) → Local l (i.assignment k) (j.assignment k) s
@@ -31,8 +32,8 @@ pub record Grown (l : ℕ) (i j : Inner5) : Type 0 where
   pub declared : (k : Bool) (s : Input5) → Local l (i.declared k) (j.declared k) s
   pub statement : (inside top : Bool) → (top ≡ true → i.may_open ≡ true) → (s : Input5) → Local l (i.statement inside top) (j.statement inside top) s
 
-module _ (l : ℕ) (i j : Inner5) (h : Grown l i j) where
-  with_turns : {A : Type 0} {o : Outcome5 A} (p : ℕ → Parser A) (s : Input5) → LocalOf l (λ us. p (plus i.fuel l) (record { tokens = us; last = s.last })) s.tokens o → LocalOf l (λ us. p j.fuel (record { tokens = us; last = s.last })) s.tokens o
+module _ (l : More) (i j : Inner5) (h : Grown l i j) where
+  with_turns : {A : Type 0} {o : Outcome5 A} (p : ℕ → Parser A) (s : Input5) → LocalOf l (λ us. p (plus i.fuel l.turns) (record { tokens = us; last = s.last })) s.tokens o → LocalOf l (λ us. p j.fuel (record { tokens = us; last = s.last })) s.tokens o
   with_turns {o = o} p s r = subst (λ n. LocalOf l (λ us. p n (record { tokens = us; last = s.last })) s.tokens o) (sym h.turns) r
 
   grouped_ : {A : Type 0} (m : List ℕ) (p p' q q' : Parser A) (s : Input5) → ((c : Input5) → Local l p p' c) → Local l q q' s → Local l (on_group i m p q) (on_group j m p' q') s
@@ -56,7 +57,7 @@ module _ (l : ℕ) (i j : Inner5) (h : Grown l i j) where
 
   pub no_expression : (s : Input5) → Local l e5.no_expression e5.no_expression s
   unfolding e5.no_expression
-  no_expression s = looks _ _ _ _ _ s stops stops
+  no_expression s = looks_so _ _ _ _ _ s (λ e. left_out (division s.tokens e)) stops
 
   accessor_parameters : (b : Bool) (s : Input5) → Local l (e5.accessor_parameters b) (e5.accessor_parameters b) s
   unfolding e5.accessor_parameters e5.one_parameter e5.no_parameter
@@ -67,7 +68,7 @@ module _ (l : ℕ) (i j : Inner5) (h : Grown l i j) where
   unfolding semicolon
   semicolon_ s = next _ _ _ _ _ s (λ t c. done) (subst (λ b. Local l (choose i.inserting inserts (fails Syntax)) (choose b inserts (fails Syntax)) s) h.mode (either i.inserting _ _ _ _ s (insertable _ _ _ _ s done stops) stops))
 
-  more_parameters : (n : ℕ) (s : Input5) → Local l (e5.more_parameters n) (e5.more_parameters (plus n l)) s
+  more_parameters : (n : ℕ) (s : Input5) → Local l (e5.more_parameters n) (e5.more_parameters (plus n l.turns)) s
   unfolding e5.more_parameters
   more_parameters zero s = endless (λ n. e5.more_parameters n) l (λ c. refl) s
   more_parameters (suc n) s = bind _ _ (identifier s) λ x c. next _ _ _ _ _ c (λ t d. bind _ _ (more_parameters n d) λ y k. done) (bind _ _ (take _ c) λ t d. done)
@@ -76,7 +77,7 @@ module _ (l : ℕ) (i j : Inner5) (h : Grown l i j) where
   unfolding e5.parameters
   parameters s = next _ _ _ _ _ s (λ t c. done) (with_turns (λ n. e5.more_parameters n) s (more_parameters i.fuel s))
 
-  statements : (inside top : Bool) → (top ≡ true → i.may_open ≡ true) → (n : ℕ) (s : Input5) → Local l (e5.statements i inside top n) (e5.statements j inside top (plus n l)) s
+  statements : (inside top : Bool) → (top ≡ true → i.may_open ≡ true) → (n : ℕ) (s : Input5) → Local l (e5.statements i inside top n) (e5.statements j inside top (plus n l.turns)) s
   unfolding e5.statements
   statements inside top w zero s = endless (λ n. e5.statements j inside top n) l (λ c. refl) s
   statements inside top w (suc n) s = next _ _ _ _ _ s (λ t c. done) (bind _ _ (h.statement inside top w s) λ x c. bind _ _ (statements inside top w n c) λ y d. done)
@@ -101,17 +102,17 @@ module _ (l : ℕ) (i j : Inner5) (h : Grown l i j) where
   unfolding e5.accessor
   accessor at b s = bind _ _ (key s) λ x c. bind _ _ (accessor_function b c) λ y d. done
 
-  properties : (n : ℕ) (s : Input5) → Local l (e5.properties i n) (e5.properties j (plus n l)) s
+  properties : (n : ℕ) (s : Input5) → Local l (e5.properties i n) (e5.properties j (plus n l.turns)) s
   unfolding e5.properties
   properties zero s = endless (λ n. e5.properties j n) l (λ c. refl) s
   properties (suc n) s = next _ _ _ _ _ s (λ t c. done) (bind _ _ (h.property s) λ x c. next _ _ _ _ _ c (λ t d. bind _ _ (properties n d) λ y k. done) (bind _ _ (take _ c) λ t d. done))
 
-  elements : (n : ℕ) (s : Input5) → Local l (e5.elements i n) (e5.elements j (plus n l)) s
+  elements : (n : ℕ) (s : Input5) → Local l (e5.elements i n) (e5.elements j (plus n l.turns)) s
   unfolding e5.elements
   elements zero s = endless (λ n. e5.elements j n) l (λ c. refl) s
   elements (suc n) s = next _ _ _ _ _ s (λ t c. done) (next _ _ _ _ _ s (λ t c. bind _ _ (elements n c) λ x d. done) (bind _ _ (h.assignment false s) λ x c. next _ _ _ _ _ c (λ t d. bind _ _ (elements n d) λ y k. done) (bind _ _ (take _ c) λ t d. done)))
 
-  more_arguments : (n : ℕ) (s : Input5) → Local l (e5.more_arguments i n) (e5.more_arguments j (plus n l)) s
+  more_arguments : (n : ℕ) (s : Input5) → Local l (e5.more_arguments i n) (e5.more_arguments j (plus n l.turns)) s
   unfolding e5.more_arguments
   more_arguments zero s = endless (λ n. e5.more_arguments j n) l (λ c. refl) s
   more_arguments (suc n) s = bind _ _ (h.assignment false s) λ x c. next _ _ _ _ _ c (λ t d. bind _ _ (more_arguments n d) λ y k. done) (bind _ _ (take _ c) λ t d. done)
@@ -145,10 +146,10 @@ module _ (l : ℕ) (i j : Inner5) (h : Grown l i j) where
   unfolding e5.call_link
   call_link at s = bind _ _ (arguments s) λ x d. done
 
-  links : (calls : Bool) (n : ℕ) (s : Input5) → Local l (e5.links i calls n) (e5.links j calls (plus n l)) s
+  links : (calls : Bool) (n : ℕ) (s : Input5) → Local l (e5.links i calls n) (e5.links j calls (plus n l.turns)) s
   unfolding e5.links
   links calls zero s = endless (λ n. e5.links j calls n) l (λ c. refl) s
-  links calls (suc n) s = begins (links_from i calls (e5.links i calls n)) (links_from j calls (e5.links j calls (plus n l))) s (λ at. next _ _ _ _ _ s (λ t c. bind _ _ (member_link at c) λ x d. bind _ _ (links calls n d) λ y k. done)
+  links calls (suc n) s = begins (links_from i calls (e5.links i calls n)) (links_from j calls (e5.links j calls (plus n l.turns))) s (λ at. next _ _ _ _ _ s (λ t c. bind _ _ (member_link at c) λ x d. bind _ _ (links calls n d) λ y k. done)
       (grouped_ _ _ _ _ _ s (λ c. bind _ _ (index_link at c) λ x d. bind _ _ (links calls n d) λ y k. done)
       (either calls _ _ _ _ s (grouped_ _ _ _ _ _ s (λ c. bind _ _ (call_link at c) λ x d. bind _ _ (links calls n d) λ y k. done) done) done)))
 
@@ -172,7 +173,7 @@ module _ (l : ℕ) (i j : Inner5) (h : Grown l i j) where
   unfolding e5.unary
   unary s = begins (unary_from i) (unary_from j) s (λ at. next _ _ _ _ _ s (λ op c. prefixed at op c) (next _ _ _ _ _ s (λ op c. updated at op c) (postfix s)))
 
-  operands : (p q : Parser Read5) → ((s : Input5) → Local l (p) (q) s) → (k : Bool) (level n : ℕ) (s : Input5) → Local l (e5.operands p k level n) (e5.operands q k level (plus n l)) s
+  operands : (p q : Parser Read5) → ((s : Input5) → Local l (p) (q) s) → (k : Bool) (level n : ℕ) (s : Input5) → Local l (e5.operands p k level n) (e5.operands q k level (plus n l.turns)) s
   unfolding e5.operands
   operands p q f k level zero s = endless (λ n. e5.operands q k level n) l (λ c. refl) s
   operands p q f k level (suc n) s = next _ _ _ _ _ s (λ op c. bind _ _ (f c) λ x d. bind _ _ (operands p q f k level n d) λ y l. done) done
@@ -199,7 +200,7 @@ module _ (l : ℕ) (i j : Inner5) (h : Grown l i j) where
   unfolding e5.assignment
   assignment k s = begins (assignment_from i k) (assignment_from j k) s (λ at. bind _ _ (conditional k s) λ x c. either (is_left x.shape) _ _ _ _ c (next _ _ _ _ _ c (λ op d. assigned k at x.value op d) done) done)
 
-  parts : (k : Bool) (n : ℕ) (s : Input5) → Local l (e5.parts i k n) (e5.parts j k (plus n l)) s
+  parts : (k : Bool) (n : ℕ) (s : Input5) → Local l (e5.parts i k n) (e5.parts j k (plus n l.turns)) s
   unfolding e5.parts
   parts k zero s = endless (λ n. e5.parts j k n) l (λ c. refl) s
   parts k (suc n) s = bind _ _ (assignment k s) λ x c. next _ _ _ _ _ c (λ t d. bind _ _ (parts k n d) λ y l. done) done
@@ -240,7 +241,7 @@ module _ (l : ℕ) (i j : Inner5) (h : Grown l i j) where
   unfolding s5.block
   block inside s = begins (block_from i inside) (block_from j inside) s (λ at. grouped_ _ _ _ _ _ s (λ c. bind _ _ (with_turns (λ n. e5.statements j inside false n) c (statements inside false (λ k. absurd (false≢true k)) i.fuel c)) λ x d. done) stops)
 
-  list : (p q : Parser Declared5) → ((s : Input5) → Local l (p) (q) s) → (n : ℕ) (s : Input5) → Local l (s5.declared_list p n) (s5.declared_list q (plus n l)) s
+  list : (p q : Parser Declared5) → ((s : Input5) → Local l (p) (q) s) → (n : ℕ) (s : Input5) → Local l (s5.declared_list p n) (s5.declared_list q (plus n l.turns)) s
   unfolding s5.declared_list
   list p q f zero s = endless (λ n. s5.declared_list q n) l (λ c. refl) s
   list p q f (suc n) s = bind _ _ (f s) λ x c. next _ _ _ _ _ c (λ t d. bind _ _ (list p q f n d) λ y l. done) done
@@ -257,7 +258,7 @@ module _ (l : ℕ) (i j : Inner5) (h : Grown l i j) where
   unfolding s5.condition
   condition inside s = begins (condition_from i inside) (condition_from j inside) s (λ at. bind _ _ (take _ s) λ t c. bind _ _ (paren c) λ x d. bind _ _ (under inside d) λ y m. done)
 
-  otherwise : (inside : Bool) (n : ℕ) (s : Input5) → Local l (s5.otherwise i inside n) (s5.otherwise j inside (plus n l)) s
+  otherwise : (inside : Bool) (n : ℕ) (s : Input5) → Local l (s5.otherwise i inside n) (s5.otherwise j inside (plus n l.turns)) s
   unfolding s5.otherwise
   otherwise inside zero s = endless (λ n. s5.otherwise j inside n) l (λ c. refl) s
   otherwise inside (suc n) s = next _ _ _ _ _ s (λ t c. looks _ _ _ _ _ c (bind _ _ (condition inside c) λ x d. bind _ _ (otherwise inside n d) λ y l. done) (bind _ _ (under inside c) λ x d. done)) done
@@ -269,8 +270,8 @@ module _ (l : ℕ) (i j : Inner5) (h : Grown l i j) where
   for_first : (s : Input5) → Local l (s5.for_first_part i) (s5.for_first_part j) s
   unfolding s5.for_first_part s5.for_var s5.after_first_declared s5.for_expression
   for_first s = next _ _ _ _ _ s (λ t c. done) (next _ _ _ _ _ s
-      (λ t c. bind _ _ (h.declared true c) λ x d. looks _ _ _ _ _ d stops (next _ _ _ _ _ d (λ u b. bind _ _ (with_turns (λ n. s5.declared_list (j.declared true) n) b (list _ _ (λ m. h.declared true m) i.fuel b)) λ y m. bind _ _ (take _ m) λ v o. done) (bind _ _ (take _ d) λ v o. done)))
-      (bind _ _ (h.sequence true s) λ x c. looks _ _ _ _ _ c stops (bind _ _ (take _ c) λ v o. done)))
+      (λ t c. bind _ _ (h.declared true c) λ x d. looks_so _ _ _ _ _ d (λ e. left_out (in-word d.tokens e)) (next _ _ _ _ _ d (λ u b. bind _ _ (with_turns (λ n. s5.declared_list (j.declared true) n) b (list _ _ (λ m. h.declared true m) i.fuel b)) λ y m. bind _ _ (take _ m) λ v o. done) (bind _ _ (take _ d) λ v o. done)))
+      (bind _ _ (h.sequence true s) λ x c. looks_so _ _ _ _ _ c (λ e. left_out (in-word-if (is_left x.shape) c.tokens e)) (bind _ _ (take _ c) λ v o. done)))
 
   optional : (p : List ℕ) (s : Input5) → Local l (s5.optional i p) (s5.optional j p) s
   unfolding s5.optional
@@ -284,7 +285,7 @@ module _ (l : ℕ) (i j : Inner5) (h : Grown l i j) where
   unfolding s5.returned
   returned s = looks _ _ _ _ _ s (bind _ _ (sequence false s) λ x c. done) done
 
-  in_case : (inside : Bool) (n : ℕ) (s : Input5) → Local l (s5.in_case i inside n) (s5.in_case j inside (plus n l)) s
+  in_case : (inside : Bool) (n : ℕ) (s : Input5) → Local l (s5.in_case i inside n) (s5.in_case j inside (plus n l.turns)) s
   unfolding s5.in_case
   in_case inside zero s = endless (λ n. s5.in_case j inside n) l (λ c. refl) s
   in_case inside (suc n) s = looks _ _ _ _ _ s done (bind _ _ (under inside s) λ x c. bind _ _ (in_case inside n c) λ y d. done)
@@ -297,10 +298,10 @@ module _ (l : ℕ) (i j : Inner5) (h : Grown l i j) where
   unfolding s5.default_clause
   default_clause inside at s = bind _ _ (take _ s) λ u b. bind _ _ (with_turns (λ n. s5.in_case j inside n) b (in_case inside i.fuel b)) λ y m. done
 
-  cases : (inside may : Bool) (n : ℕ) (s : Input5) → Local l (s5.cases i inside may n) (s5.cases j inside may (plus n l)) s
+  cases : (inside may : Bool) (n : ℕ) (s : Input5) → Local l (s5.cases i inside may n) (s5.cases j inside may (plus n l.turns)) s
   unfolding s5.cases
   cases inside may zero s = endless (λ n. s5.cases j inside may n) l (λ c. refl) s
-  cases inside may (suc n) s = begins (cases_from i inside may (s5.cases i inside may n) (s5.cases i inside false n)) (cases_from j inside may (s5.cases j inside may (plus n l)) (s5.cases j inside false (plus n l))) s (λ at. next _ _ _ _ _ s (λ t c. done) (next _ _ _ _ _ s
+  cases inside may (suc n) s = begins (cases_from i inside may (s5.cases i inside may n) (s5.cases i inside false n)) (cases_from j inside may (s5.cases j inside may (plus n l.turns)) (s5.cases j inside false (plus n l.turns))) s (λ at. next _ _ _ _ _ s (λ t c. done) (next _ _ _ _ _ s
       (λ t c. bind _ _ (case_clause inside at c) λ x d. bind _ _ (cases inside may n d) λ y m. done)
       (either may _ _ _ _ s (next _ _ _ _ _ s (λ t c. bind _ _ (default_clause inside at c) λ x d. bind _ _ (cases inside false n d) λ y m. done) stops) stops)))
 
@@ -333,7 +334,7 @@ module _ (l : ℕ) (i j : Inner5) (h : Grown l i j) where
   plain : (inside top : Bool) (at : ℕ) (s : Input5) → Local l (s5.plain_statement i inside top at) (s5.plain_statement j inside top at) s
   unfolding s5.plain_statement s5.declaration s5.expression_statement
   plain inside top at s = looks _ _ _ _ _ s (either top _ _ _ _ s (next _ _ _ _ _ s (λ t c. bind _ _ (identifier c) λ x d. bind _ _ (rest_of_function _ _ d) λ y l. done) stops) stops)
-      (looks _ _ _ _ _ s stops (bind _ _ (sequence false s) λ x c. label_or_end inside at _ _ c))
+      (looks_so _ _ _ _ _ s (λ e. left_out (with-word s.tokens e)) (bind _ _ (sequence false s) λ x c. label_or_end inside at _ _ c))
 
   jump : (inside top : Bool) (at : ℕ) (s : Input5) → Local l (s5.jump_statement i inside top at) (s5.jump_statement j inside top at) s
   unfolding s5.jump_statement s5.continue_statement s5.break_statement s5.throw_statement s5.debugger_statement s5.return_statement

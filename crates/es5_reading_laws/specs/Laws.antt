@@ -1,12 +1,12 @@
 -- What is proved of the model beyond the laws of es5_reading, in the definitions of es5_ast.
-use Rattle.std.specs.Prelude.{◌≡◌, ℕ, ◌+◌, ◌≤◌, Bool, false, List, [], ◌∷◌, ◌++◌}
+use Rattle.std.specs.Prelude.{◌≡◌, ◌⊎◌, ℕ, ◌+◌, ◌≤◌, Bool, false, List, [], ◌∷◌, ◌++◌, codes}
 use Rattle.es5_ast.specs.declared.tree.Stat5.{Stat5}
-use Rattle.es5_ast.specs.Lexical.{Token5, Tokens5}
+use Rattle.es5_ast.specs.Lexical.{Word, Punctuator, Token5, Tokens5}
 use Rattle.es5_ast.specs.Grammar.{Mode5, Exact, IsProgram}
 use Rattle.es5_ast.specs.Within.{ProgramWithin}
 use Rattle.es5_ast.specs.Script.{IsStrict}
 use Rattle.es5_ast.specs.Depth.{most_open, open_constructs}
-use Rattle.es5_ast.specs.Dead.{AreInOrder}
+use Rattle.es5_ast.specs.Dead.{AreInOrder, IsDirective}
 use Rattle.es5_reading.specs.Parser.{Stop5, Syntax, Depth, Outside, Endless, Took, Fault}
 use Rattle.es5_reading.specs.Programs.{readers, program, script}
 
@@ -35,6 +35,25 @@ IsFinal Depth = ⊥
 IsFinal (Outside rule) = Unit {0}
 IsFinal Endless = ⊥
 
+-- What stands where a script stops at a row of table V: no directive of strict code (14.1), `with` (12.10), the `in` of a for-in
+-- statement (12.6.4), or a slash, with which no expression begins but a regular expression (7.8.5).
+pub data IsRow : ℕ → List Token5 → Type 0 where
+  no_token : IsRow 1 []
+  no_directive : {t : Token5} {ts : List Token5} → (IsDirective t → ⊥) → IsRow 1 (t ∷ ts)
+  with : {t : Token5} {ts : List Token5} → t.kind ≡ Word (codes "with") → IsRow 2 (t ∷ ts)
+  for_in : {t : Token5} {ts : List Token5} → t.kind ≡ Word (codes "in") → IsRow 3 (t ∷ ts)
+  regular_expression : {t : Token5} {ts : List Token5} → (t.kind ≡ Punctuator (codes "/")) ⊎ (t.kind ≡ Punctuator (codes "/=")) → IsRow 4 (t ∷ ts)
+
+abbrev pub Says : Stop5 → List Token5 → Type 0
+Says Syntax rest = Unit {0}
+Says Depth rest = Unit {0}
+Says (Outside rule) rest = IsRow rule rest
+Says Endless rest = Unit {0}
+
+-- A fault for what the profile leaves out names the row that stands there.
+abbrev pub FaultsSayWhatStandsThere : Type 0
+FaultsSayWhatStandsThere = (fuel : ℕ) (tokens : List Token5) (stop : Stop5) (rest : List Token5) → script fuel tokens ≡ Fault stop rest → Says stop rest
+
 -- the same first token, or none
 abbrev pub BeginAlike : List Token5 → List Token5 → Type 0
 BeginAlike [] us = us ≡ []
@@ -46,7 +65,13 @@ FaultsStay = (inserting : Bool) (fuel room : ℕ) (tokens : List Token5) (last :
     → (front : List Token5) × (tokens ≡ front ++ rest) × ((more : ℕ) (others : List Token5) → BeginAlike rest others
     → program (readers inserting (fuel + more) (room + more)) (fuel + more) (record { tokens = front ++ others; last = last }) ≡ Fault stop others)
 
--- Such a fault stands at a token with which no script goes on after the tokens before it, if every semicolon stands among the tokens.
+-- What is answered is the same where loops have more turns, unless the reader stops for want of these.
+abbrev pub AnswersLast : Type 0
+AnswersLast = (inserting : Bool) (fuel room : ℕ) (tokens : List Token5) (last more : ℕ)
+    → ((rest : List Token5) × (program (readers inserting fuel room) fuel (record { tokens = tokens; last = last }) ≡ Fault Endless rest))
+    ⊎ (program (readers inserting (fuel + more) room) (fuel + more) (record { tokens = tokens; last = last }) ≡ program (readers inserting fuel room) fuel (record { tokens = tokens; last = last }))
+
+-- A fault for neither stands at a token with which no script goes on after the tokens before it, if every semicolon stands among the tokens.
 abbrev pub FaultsAreDead : Type 0
 FaultsAreDead = (fuel : ℕ) (tokens : List Token5) (stop : Stop5) (rest : List Token5) → script fuel tokens ≡ Fault stop rest → IsFinal stop
     → (front : List Token5) × (tokens ≡ front ++ rest) × ((mode : Mode5) (others : List Token5) (statements : List Stat5) → BeginAlike rest others → IsStrict (front ++ others) → IsProgram mode (front ++ others) statements → ⊥)

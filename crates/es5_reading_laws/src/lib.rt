@@ -1,7 +1,7 @@
 //! Laws of the model that reads scripts, beyond those of `es5_reading`. Each is the contract of a function that does nothing.
 #![tactic(auto)]
 
-ghost use Rattle.es5_reading_laws.specs.Laws.{AreWithin, FaultsAreDead, FaultsStay, ShallowScriptsAreRead, TextsAreInOrder};
+ghost use Rattle.es5_reading_laws.specs.Laws.{AnswersLast, AreWithin, FaultsAreDead, FaultsSayWhatStandsThere, FaultsStay, ShallowScriptsAreRead, TextsAreInOrder};
 
 /// The tokens of a text stand one behind the other.
 pub fn tokens_of_a_text_stand_in_order()
@@ -24,8 +24,19 @@ pub fn faults_stay_with_more_room()
     ensures { FaultsStay }
 {}
 
+/// What is answered stays where loops have more turns, unless it is that they had too few.
+pub fn answers_stay_with_more_turns()
+    ensures { AnswersLast }
+{}
+
 /// A fault, but one for want of constructs that may open or of turns, stands at a token with which no script goes on after the
 /// tokens before it, where every semicolon stands among the tokens.
 pub fn faults_stand_where_no_script_goes_on()
     ensures { FaultsAreDead }
+{}
+
+/// A fault for what the profile leaves out says what stands there: no directive, `with`, the `in` of a for-in statement, or a
+/// regular expression.
+pub fn faults_say_what_stands_there()
+    ensures { FaultsSayWhatStandsThere }
 {}

@@ -1,6 +1,6 @@
 -- What is answered for the tokens of a text is a fault of it, or its script.
-use Rattle.std.proofs.Common.{◌≡◌, inl, inr, ℕ, Bool, true, false, List, [], ◌∷◌, ◌++◌, map, Option, Some, None, refl, sym, ap, subst, append-nil}
-use Rattle.std.specs.Prelude.{Result, Ok, Err, cond}
+use Rattle.std.proofs.Common.{◌≡◌, inl, inr, ℕ, Bool, true, false, List, [], ◌∷◌, ◌++◌, map, Option, Some, None, refl, sym, ap, subst}
+use Rattle.std.specs.Prelude.{Result, Ok, Err, IfOk, IfErr, cond}
 use Rattle.std.specs.Str.{chars, IsUtf8}
 use Rattle.es_text.specs.declared.Span.{Span}
 use Rattle.es_text.specs.declared.units.TextFault.{TextFault}
@@ -23,66 +23,72 @@ use Rattle.es5_tokens.specs.Tokens.{token5, Reads}
 use Rattle.es5_reading.specs.Parser as p
 use Rattle.es5_reading.specs.Parser.{Input5, Stop5, Outcome5}
 use Rattle.es5_reading.specs.Programs.{script}
+use Rattle.es5_reading.proofs.Filled.{complete}
 use Rattle.es5_reading.proofs.Places.{places}
+use Rattle.es5_reading.proofs.Stays.{full-readings}
+use Rattle.es5_reading_laws.specs.Laws.{IsFinal, Says}
+use Rattle.es5_reading_laws.proofs.DeadFaults.{faults-say, faults-stay}
+use Rattle.es5_break_laws.proofs.WholeScripts.{whole-dead}
+use Rattle.es5_cursor.specs.Readers.{turns}
 use Rattle.es5_text.specs.declared.fault.Fault5.{Fault5}
 use Rattle.es5_text.specs.declared.fault.Fault5.TheVariants.{Lexical5, Syntax5, Early5, Outside5, Depth5, OutOfMemory}
-use Rattle.es5_text.specs.Parsed.{IsDerived}
+use Rattle.es5_text.specs.Accepted.{NoneGoesOn}
+use Rattle.es5_text.specs.Parsed.{IsDerived, IsParsed}
 use Rattle.es5_text.specs.Answer.{Answers, answer_of, at_end, by_rule, of_pair, of_stop, of_text, is_missing, stopped}
 use Rattle.es5_text.specs.Faults.{IsFault, IsReached, Lexed5, place_of}
-use Rattle.es5_text.specs.Read.{IsRefused, out_of_memory, not_utf8, unread, statements_of}
-use Rattle.es5_text.proofs.Parsed.{derived_of}
+use Rattle.es5_text.specs.Read.{IsRead, IsRefused, out_of_memory, not_utf8, unread, paired, statements_of}
+use Rattle.es5_text.proofs.Parsed.{derived_of, parsed_of}
 
-abbrev pub IsAnswer : List ℕ → Result (List Stat5) Fault5 → Type 0
+abbrev IsAnswer : List ℕ → Result (List Stat5) Fault5 → Type 0
 IsAnswer bytes (Ok xs) = Unit {0}
 IsAnswer bytes (Err fault) = IsFault bytes fault
 
-pub text_refused : (bytes : List ℕ) (fault : TextFault) → IsTextFault bytes fault → IsFault bytes (of_text fault)
-text_refused bytes (text_fault.NotUtf8 at) h = inl h
-text_refused bytes text_fault.OutOfMemory h = tt
+-- where the reader stops
+record Stands (bytes : List ℕ) (stop : Stop5) (at : ℕ) : Type 0 where
+  reached : IsReached bytes at
+  dead : IsFinal stop → NoneGoesOn reached.front reached.rest
+  says : Says stop reached.rest
 
-stop_is : (bytes : List ℕ) (at : ℕ) (stop : Stop5) → IsReached bytes at → IsFault bytes (of_stop stop at)
-stop_is bytes at p.Syntax h = h
-stop_is bytes at p.Depth h = h
-stop_is bytes at (p.Outside rule) h = inr h
-stop_is bytes at p.Endless h = tt
-
-reached : (bytes : List ℕ) (l : Lexed5 bytes) (front rest : List Token5) → map token5 l.tokens ≡ front ++ rest → IsReached bytes (place_of l.end rest)
-reached bytes l front rest e = record { lexed = l; front = front; rest = rest; parts = e; place = refl }
-
-end_reached : (bytes : List ℕ) (l : Lexed5 bytes) → IsReached bytes l.end
-end_reached bytes l = reached bytes l (map token5 l.tokens) [] (sym (append-nil (map token5 l.tokens)))
+stop_is : (bytes : List ℕ) (at : ℕ) (stop : Stop5) → Stands bytes stop at → IsFault bytes (of_stop stop at)
+stop_is bytes at p.Syntax s = record { reached = s.reached; dead = s.dead tt }
+stop_is bytes at p.Depth s = s.reached
+stop_is bytes at (p.Outside rule) s = inr (inl (record { dead = record { reached = s.reached; dead = s.dead tt }; row = s.says }))
+stop_is bytes at p.Endless s = tt
 
 by_missing : (bytes : List ℕ) (b : Bool) (x y : Fault5) → IsFault bytes x → IsFault bytes y → IsFault bytes (cond b x y)
 by_missing bytes true x y h k = h
 by_missing bytes false x y h k = k
 
-end_is : (bytes : List ℕ) (l : Lexed5 bytes) (stop : Stop5) (fault : Option TokenFault) → l.fault ≡ fault → IsFault bytes (at_end stop l.end fault)
-end_is bytes l stop None e = stop_is bytes l.end stop (end_reached bytes l)
-end_is bytes l stop (Some Lexical) e = inr (record { lexed = l; ended = e; place = refl })
-end_is bytes l stop (Some Number) e = by_missing bytes (is_missing stop) _ _ (stop_is bytes l.end stop (end_reached bytes l)) (inr (end_reached bytes l))
+end_is : (bytes : List ℕ) (l : Lexed5 bytes) (stop : Stop5) (fault : Option TokenFault) → Stands bytes stop l.end → l.fault ≡ fault → IsFault bytes (at_end stop l.end fault)
+end_is bytes l stop None s e = stop_is bytes l.end stop s
+end_is bytes l stop (Some Lexical) s e = inr (record { lexed = l; ended = e; place = refl })
+end_is bytes l stop (Some Number) s e = by_missing bytes (is_missing stop) _ _ (stop_is bytes l.end stop s) (inr (inr (refl, record { lexed = l; ended = e; place = refl })))
 
-stopped_is : (bytes : List ℕ) (l : Lexed5 bytes) (stop : Stop5) (front rest : List Token5) → map token5 l.tokens ≡ front ++ rest → IsFault bytes (stopped stop rest l.end l.fault)
-stopped_is bytes l stop front [] e = end_is bytes l stop l.fault refl
-stopped_is bytes l stop front (t ∷ ts) e = stop_is bytes t.begin stop (reached bytes l front (t ∷ ts) e)
+stopped_is : (bytes : List ℕ) (l : Lexed5 bytes) (stop : Stop5) (rest : List Token5) → Stands bytes stop (place_of l.end rest) → IsFault bytes (stopped stop rest l.end l.fault)
+stopped_is bytes l stop [] s = end_is bytes l stop l.fault s refl
+stopped_is bytes l stop (t ∷ ts) s = stop_is bytes t.begin stop s
 
 took_is : (bytes : List ℕ) (l : Lexed5 bytes) (xs : List Stat5) (c : Input5) (fault : Option TokenFault) → l.fault ≡ fault → IsAnswer bytes (answer_of (p.Took xs c) l.end fault)
 took_is bytes l xs c None e = tt
 took_is bytes l xs c (Some Lexical) e = inr (record { lexed = l; ended = e; place = refl })
-took_is bytes l xs c (Some Number) e = inr (end_reached bytes l)
+took_is bytes l xs c (Some Number) e = inr (inr (refl, record { lexed = l; ended = e; place = refl }))
 
-pub answer_is : (bytes : List ℕ) (l : Lexed5 bytes) (fuel : ℕ) (o : Outcome5 (List Stat5)) → script fuel (map token5 l.tokens) ≡ o → IsAnswer bytes (answer_of o l.end l.fault)
+abbrev reached : (bytes : List ℕ) (l : Lexed5 bytes) (front rest : List Token5) → map token5 l.tokens ≡ front ++ rest → IsReached bytes (place_of l.end rest)
+reached bytes l front rest e = record { lexed = l; front = front; rest = rest; parts = e; place = refl }
+
+-- a fault for want of constructs or of turns stands among the tokens, any other where no script goes on
+stands : (bytes : List ℕ) (l : Lexed5 bytes) (fuel : ℕ) (stop : Stop5) (rest : List Token5) → script fuel (map token5 l.tokens) ≡ p.Fault stop rest → Stands bytes stop (place_of l.end rest)
+stands bytes l fuel stop rest e = by stop e (faults-say fuel (map token5 l.tokens) stop rest e) (λ final. whole-dead (full-readings complete) faults-stay fuel (map token5 l.tokens) stop rest e final)
+  where
+    by : (stop : Stop5) → script fuel (map token5 l.tokens) ≡ p.Fault stop rest → Says stop rest → (IsFinal stop → (front : List Token5) × (map token5 l.tokens ≡ front ++ rest) × NoneGoesOn front rest) → Stands bytes stop (place_of l.end rest)
+    by p.Syntax e m d = let h = d tt in record { reached = reached bytes l h.0 rest h.1; dead = λ final. h.2; says = m }
+    by p.Depth e m d = let h = places fuel (map token5 l.tokens) p.Depth rest e in record { reached = reached bytes l h.0 rest h.1; dead = λ final. absurd final; says = m }
+    by (p.Outside rule) e m d = let h = d tt in record { reached = reached bytes l h.0 rest h.1; dead = λ final. h.2; says = m }
+    by p.Endless e m d = let h = places fuel (map token5 l.tokens) p.Endless rest e in record { reached = reached bytes l h.0 rest h.1; dead = λ final. absurd final; says = m }
+
+answer_is : (bytes : List ℕ) (l : Lexed5 bytes) (fuel : ℕ) (o : Outcome5 (List Stat5)) → script fuel (map token5 l.tokens) ≡ o → IsAnswer bytes (answer_of o l.end l.fault)
 answer_is bytes l fuel (p.Took xs c) e = took_is bytes l xs c l.fault refl
-answer_is bytes l fuel (p.Fault stop rest) e = let at = places fuel (map token5 l.tokens) stop rest e in stopped_is bytes l stop at.0 rest at.1
-
--- what is answered in place of it says the same, but that memory may run out
-pub answered : (bytes : List ℕ) (r wanted : Result (List Stat5) Fault5) → IsAnswer bytes wanted → Answers r wanted → IsAnswer bytes r
-answered bytes (Ok xs) wanted h e = tt
-answered bytes (Err (Lexical5 at)) wanted h e = subst (IsAnswer bytes) e h
-answered bytes (Err (Syntax5 at)) wanted h e = subst (IsAnswer bytes) e h
-answered bytes (Err (Early5 rule at)) wanted h e = subst (IsAnswer bytes) e h
-answered bytes (Err (Outside5 rule at)) wanted h e = subst (IsAnswer bytes) e h
-answered bytes (Err (Depth5 at)) wanted h e = subst (IsAnswer bytes) e h
-answered bytes (Err OutOfMemory) wanted h e = tt
+answer_is bytes l fuel (p.Fault stop rest) e = stopped_is bytes l stop rest (stands bytes l fuel stop rest e)
 
 record Whole (o : Outcome5 (List Stat5)) (fault : Option TokenFault) (xs : List Stat5) : Type 0 where
   after : Input5
@@ -99,19 +105,39 @@ whole (p.Took ys c) end (Some fault) xs e = absurd (cc)
 whole (p.Fault stop rest) end fault xs e = absurd (cc)
 
 -- the script of tokens that are read up to their end
-pub derived_answer : (bytes : List ℕ) (l : Lexed5 bytes) (fuel : ℕ) (xs : List Stat5) (span : Span) → answer_of (script fuel (map token5 l.tokens)) l.end l.fault ≡ Ok xs → span ≡ across (map token5 l.tokens) []
+derived_answer : (bytes : List ℕ) (l : Lexed5 bytes) (fuel : ℕ) (xs : List Stat5) (span : Span) → answer_of (script fuel (map token5 l.tokens)) l.end l.fault ≡ Ok xs → span ≡ across (map token5 l.tokens) []
     → IsDerived bytes (record { span = span; statements = xs })
 derived_answer bytes l fuel xs span e s =
     let w = whole (script fuel (map token5 l.tokens)) l.end l.fault xs e in
     derived_of bytes l.tokens l.end fuel xs w.after span l.utf8 (subst (λ f. Reads (chars bytes) l.tokens l.end f) w.ended l.reads) w.read s
 
 -- the pair that comes first of a script that is none of the profile
-pub pair_is : (bytes : List ℕ) (tree : Script) (pair : Pair) → IsDerived bytes tree → IsFirst (pair_of pair) (script_pairs tree.statements) → IsFault bytes (of_pair pair)
+pair_is : (bytes : List ℕ) (tree : Script) (pair : Pair) → IsDerived bytes tree → IsFirst (pair_of pair) (script_pairs tree.statements) → IsFault bytes (of_pair pair)
 pair_is bytes tree pair d h = at pair.rule refl
   where
     at : (rule : Rule) → pair.rule ≡ rule → IsFault bytes (by_rule rule pair.at)
     at (Early n) e = record { script = tree; derived = d; first = subst (λ r. IsFirst (record { rule = rule_of r; at = pair.at }) (script_pairs tree.statements)) e h }
     at (Outside n) e = inl (record { script = tree; derived = d; first = subst (λ r. IsFirst (record { rule = rule_of r; at = pair.at }) (script_pairs tree.statements)) e h })
+
+-- ## Of what is read
+
+pub parsed : (bytes : List ℕ) (r : Result Script Fault5) → IsRead bytes r → IfOk r (λ tree. IsParsed bytes tree)
+parsed bytes (Ok tree) h = parsed_of bytes tree (derived_answer bytes h.lexed turns tree.statements tree.span h.read h.span) h.legal
+parsed bytes (Err fault) h = tt
+
+refusal : (bytes : List ℕ) (fault : Fault5) → IsRefused bytes fault → IsFault bytes fault
+refusal bytes fault (out_of_memory e) = subst (IsFault bytes) (sym e) tt
+refusal bytes fault (not_utf8 at h e) = subst (IsFault bytes) (sym e) (inl h)
+refusal bytes fault (unread l e) = subst (IsAnswer bytes) e (answer_is bytes l turns _ refl)
+refusal bytes fault (paired l statements pair e h f) =
+    let derived = derived_answer bytes l turns statements (across (map token5 l.tokens) []) e refl in
+    subst (IsFault bytes) (sym f) (pair_is bytes (record { span = across (map token5 l.tokens) []; statements = statements }) pair derived h)
+
+pub faults : (bytes : List ℕ) (r : Result Script Fault5) → IsRead bytes r → IfErr r (λ fault. IsFault bytes fault)
+faults bytes (Ok tree) h = tt
+faults bytes (Err fault) h = refusal bytes fault h
+
+-- ## Of the parts of the reading
 
 -- the tokens that are read of a text's characters
 abbrev pub lexed_of : (bytes text : List ℕ) (tokens : List Token) (end : ℕ) (fault : Option TokenFault) → IsUtf8 bytes → text ≡ chars bytes

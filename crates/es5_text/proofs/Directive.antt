@@ -1,11 +1,10 @@
 -- How a script begins, by what is known of its first two tokens.
-use Rattle.std.proofs.Common.{◌≡◌, ℕ, zero, suc, true, false, Bool, List, [], ◌∷◌, Option, Some, None, refl, sym, ap, ◌∙◌}
+use Rattle.std.proofs.Common.{◌≡◌, ℕ, zero, suc, true, false, List, [], ◌∷◌, Some, None, refl, sym, ap, ◌∙◌}
 use Rattle.std.specs.Prelude.{cond}
-use Rattle.es5_ast.specs.declared.tree.Stat5.{Stat5}
 use Rattle.es5_ast.specs.Lexical.{Token5}
-use Rattle.es5_reading.specs.Parser.{Input5, Stop5, Syntax, Outside, Outcome5, Fault, next_is}
+use Rattle.es5_reading.specs.Parser.{Input5, Stop5, Syntax, Outside, Fault, next_is}
 use Rattle.es5_ast.specs.Depth.{most_open}
-use Rattle.es5_reading.specs.Programs.{readers, program, is_directive, continues, second_fault, directive_fault, unless_fault, script}
+use Rattle.es5_reading.specs.Programs.{readers, program, is_directive, second_fault, directive_fault, unless_fault, script}
 use Rattle.es5_cursor.specs.Takes.{passed}
 use Rattle.es5_text.specs.Directive.{continues_behind}
 use Rattle.es5_cursor.specs.Readers.{turns, inner}

@@ -1,3 +1,4 @@
+pub mod Accepted
 pub mod Directive
 pub mod Faults
 pub mod Parsed

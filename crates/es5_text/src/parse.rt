@@ -4,6 +4,7 @@ ghost use Rattle.std.specs.Prelude.{◌≡◌, ◌≤◌, [], map, length, IfOk,
 ghost use Rattle.es5_ast.specs.Grammar.{across};
 ghost use Rattle.es5_cursor.specs.Reads.{stop5};
 ghost use Rattle.es5_reading.specs.Programs.{script};
+ghost use Rattle.es5_text.specs.Accepted.{AcceptsAtBreaks};
 ghost use Rattle.es5_text.specs.Answer.{Answers, answer_of, at_end, of_stop, of_token, stopped};
 ghost use Rattle.es5_text.specs.Faults.{IsFault};
 ghost use Rattle.es5_text.specs.Read.{IsRead};
@@ -29,10 +30,20 @@ pub fn parse5(alloc: Global, bytes: &[u8]) -> Result<Script, Fault5>
     requires { length bytes.now ≤ 67108864 }
     // The bytes spell the script.
     ensures parsed { IfOk result (λ script. IsParsed bytes.now script) }
-    // A fault says where the text is none.
+    // A script whose semicolons are missing only at breaks is answered, if not too many constructs are open.
+    ensures accepted { AcceptsAtBreaks bytes.now result }
+    // A fault says where the text is none, and that no such script goes on there.
     ensures fault { IfErr result (λ fault. IsFault bytes.now fault) }
     // What is answered is what the laws of `es5_reading` speak of.
     ensures read { IsRead bytes.now result }
+{
+    read_text(alloc, bytes)
+}
+
+/// The same, as the model reads the text's tokens.
+fn read_text(alloc: Global, bytes: &[u8]) -> Result<Script, Fault5>
+    requires { length bytes.now ≤ 67108864 }
+    ensures { IsRead bytes.now result }
 {
     let text = chars_of(alloc, bytes)?;
     let tokens = tokens5(alloc, text.as_slice())?;

@@ -1,71 +1,13 @@
--- The tokens of the text are read, and what is read of them is its script or says where it is none.
-use Rattle.std.proofs.Common.{◌≡◌, ◌∙◌, length, [], map, refl, sym, ap, subst, arith}
-use Rattle.std.specs.Prelude.{Err}
-use Rattle.std.proofs.lemmas.Result.{err_from_is_err_and}
-use Rattle.es5_ast.specs.Lexical.{width}
-use Rattle.es5_ast.specs.Grammar.{across}
-use Rattle.es5_tokens.specs.Tokens.{token5}
-use Rattle.es5_tokens.proofs.Widths.{width_chars}
-use Rattle.es5_text.specs.Faults.{IsFault, Lexed5}
-use Rattle.es5_text.specs.Read.{IsRefused, paired, statements_of}
-use Rattle.es5_cursor.specs.Readers.{turns}
-use Rattle.es5_text.proofs.Answered.{answer_is, answered, derived_answer, lexed_of, not_text, pair_is, refused}
-use Rattle.es5_text.proofs.Parsed.{parsed_of}
+-- What the laws of the model say of what is read.
+use Rattle.es5_text.proofs.Accepted.{accepts}
+use Rattle.es5_text.proofs.Answered.{parsed, faults}
 use Rattle.es5_text.proofs.parse.parse5.Goals as goal
 
-pub tokens5-requires : goal.tokens5-requires
-tokens5-requires c =
-    let size : width c.as_slice.result.now ≡ length c.args.bytes.now = ap width (c.as_slice.ensures.value ∙ c.in_ok-text.ensures.0) ∙ width_chars c.args.bytes.now c.in_ok-text.ensures.1 in
-    record { limit = omega (arith, size, c.requires) }
-
-pub returns-in_err-text-clause-read : goal.returns-in_err-text-clause-read
-returns-in_err-text-clause-read c =
-    let p = err_from_is_err_and c.from_residual.result c.from_residual.ensures.1 in
-    rw (p.1, p.2) (not_text c.args.bytes.now c.in_err-text.field-0.0 c.in_err-text.ensures)
-
-pub returns-in_err-statements-clause-fault : goal.returns-in_err-statements-clause-fault
-returns-in_err-statements-clause-fault c =
-    let t = c.in_ok-tokens.tokens in
-    let lexed : Lexed5 c.args.bytes.now = lexed_of c.args.bytes.now c.as_slice.result.now t.list.items t.end t.fault c.in_ok-text.ensures.1 (c.as_slice.ensures.value ∙ c.in_ok-text.ensures.0) c.in_ok-tokens.ensures.exact c.in_ok-tokens.ensures.tokens in
-    let fault : IsFault c.args.bytes.now c.in_err-statements.field-0.0 = answered c.args.bytes.now (Err c.in_err-statements.field-0.0) (statements_of lexed) (answer_is c.args.bytes.now lexed turns _ refl) c.in_err-statements.ensures in
-    let p = err_from_is_err_and c.from_residual-in_err-statements.result c.from_residual-in_err-statements.ensures.1 in
-    rw (p.1, p.2) fault
-
-pub returns-in_err-statements-clause-read : goal.returns-in_err-statements-clause-read
-returns-in_err-statements-clause-read c =
-    let t = c.in_ok-tokens.tokens in
-    let lexed : Lexed5 c.args.bytes.now = lexed_of c.args.bytes.now c.as_slice.result.now t.list.items t.end t.fault c.in_ok-text.ensures.1 (c.as_slice.ensures.value ∙ c.in_ok-text.ensures.0) c.in_ok-tokens.ensures.exact c.in_ok-tokens.ensures.tokens in
-    let fault : IsRefused c.args.bytes.now c.in_err-statements.field-0.0 = refused c.args.bytes.now lexed c.in_err-statements.field-0.0 c.in_err-statements.ensures in
-    let p = err_from_is_err_and c.from_residual-in_err-statements.result c.from_residual-in_err-statements.ensures.1 in
-    rw (p.1, p.2) fault
-
-pub returns-in-Some-clause-fault : goal.returns-in-Some-clause-fault
-returns-in-Some-clause-fault c =
-    let t = c.in_ok-tokens.tokens in
-    let lexed : Lexed5 c.args.bytes.now = lexed_of c.args.bytes.now c.as_slice.result.now t.list.items t.end t.fault c.in_ok-text.ensures.1 (c.as_slice.ensures.value ∙ c.in_ok-text.ensures.0) c.in_ok-tokens.ensures.exact c.in_ok-tokens.ensures.tokens in
-    let derived = derived_answer c.args.bytes.now lexed turns c.in_ok-statements.statements c.whole_span.result c.in_ok-statements.ensures (c.whole_span.ensures ∙ ap (λ list. across (map token5 list) []) c.as_slice-2.ensures.value) in
-    subst (IsFault c.args.bytes.now) (sym c.from.ensures) (pair_is c.args.bytes.now _ c.in-Some.pair derived (rw c.in-Some.is at c.in_ok-pair.ensures.first))
-
-pub returns-in-Some-clause-read : goal.returns-in-Some-clause-read
-returns-in-Some-clause-read c =
-    let t = c.in_ok-tokens.tokens in
-    let lexed : Lexed5 c.args.bytes.now = lexed_of c.args.bytes.now c.as_slice.result.now t.list.items t.end t.fault c.in_ok-text.ensures.1 (c.as_slice.ensures.value ∙ c.in_ok-text.ensures.0) c.in_ok-tokens.ensures.exact c.in_ok-tokens.ensures.tokens in
-    paired lexed c.in_ok-statements.statements c.in-Some.pair c.in_ok-statements.ensures (rw c.in-Some.is at c.in_ok-pair.ensures.first) c.from.ensures
-
 pub returns-clause-parsed : goal.returns-clause-parsed
-returns-clause-parsed c =
-    let t = c.in_ok-tokens.tokens in
-    let lexed : Lexed5 c.args.bytes.now = lexed_of c.args.bytes.now c.as_slice.result.now t.list.items t.end t.fault c.in_ok-text.ensures.1 (c.as_slice.ensures.value ∙ c.in_ok-text.ensures.0) c.in_ok-tokens.ensures.exact c.in_ok-tokens.ensures.tokens in
-    let derived = derived_answer c.args.bytes.now lexed turns c.in_ok-statements.statements c.whole_span.result c.in_ok-statements.ensures (c.whole_span.ensures ∙ ap (λ list. across (map token5 list) []) c.as_slice-2.ensures.value) in
-    parsed_of c.args.bytes.now _ derived (c.in_ok-pair.ensures.none.0 c.in-None.is)
+returns-clause-parsed c = parsed c.args.bytes.now _ c.read_text.ensures
 
-pub returns-clause-read : goal.returns-clause-read
-returns-clause-read c =
-    let t = c.in_ok-tokens.tokens in
-    let lexed : Lexed5 c.args.bytes.now = lexed_of c.args.bytes.now c.as_slice.result.now t.list.items t.end t.fault c.in_ok-text.ensures.1 (c.as_slice.ensures.value ∙ c.in_ok-text.ensures.0) c.in_ok-tokens.ensures.exact c.in_ok-tokens.ensures.tokens in
-    record {
-      lexed = lexed;
-      read = c.in_ok-statements.ensures;
-      span = c.whole_span.ensures ∙ ap (λ list. across (map token5 list) []) c.as_slice-2.ensures.value;
-      legal = c.in_ok-pair.ensures.none.0 c.in-None.is;
-    }
+pub returns-clause-accepted : goal.returns-clause-accepted
+returns-clause-accepted c = accepts c.args.bytes.now _ c.read_text.ensures
+
+pub returns-clause-fault : goal.returns-clause-fault
+returns-clause-fault c = faults c.args.bytes.now _ c.read_text.ensures
