@@ -1,0 +1,7 @@
+use Rattle.std.proofs.Common.{◌≡◌, ◌++◌, drop}
+use Rattle.std.specs.List.{flat_map}
+use Rattle.statement_rules.specs.Bodies.{export_links}
+use Rattle.lower_bodies.proofs.namespaces.export_links.Given as goal
+
+abbrev pub invariant-loop-one : goal.invariant-loop-one
+invariant-loop-one l = l.links ++ flat_map export_links (drop l.one-index l.exports) ≡ flat_map export_links l.exports

@@ -1,0 +1,6 @@
+use Rattle.std.proofs.Common.{◌≡◌, ◌++◌, drop, map}
+use Rattle.statement_rules.specs.Bodies.{namespace_made}
+use Rattle.lower_bodies.proofs.namespaces.push_namespaces.Given as goal
+
+abbrev pub invariant-loop-one : goal.invariant-loop-one
+invariant-loop-one l = l.out ++ map namespace_made (drop l.one-index l.namespaces) ≡ l.initial.out ++ map namespace_made l.namespaces

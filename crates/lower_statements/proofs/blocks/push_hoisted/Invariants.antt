@@ -1,0 +1,6 @@
+use Rattle.std.proofs.Common.{◌≡◌, ◌++◌, drop, map}
+use Rattle.statement_rules.specs.Statements.{hoisted}
+use Rattle.lower_statements.proofs.blocks.push_hoisted.Given as goal
+
+abbrev pub invariant-loop-function : goal.invariant-loop-function
+invariant-loop-function l = l.out ++ map hoisted (drop l.function-index l.functions) ≡ l.initial.out ++ map hoisted l.functions

@@ -1,0 +1,4 @@
+pub mod Gets
+pub mod Marks
+pub mod Unwound
+pub mod Walks
