@@ -7,3 +7,4 @@ pub mod Every
 pub mod Trees
 pub mod Converse
 pub mod Printed
+pub mod Split
