@@ -39,7 +39,7 @@ use Rattle.es6_reading.proofs.Follows.{semi, not-before-arrow}
 use Rattle.es6_reading.proofs.Posts.{fault, choose-holds, refused-holds}
 use Rattle.es6_reading.proofs.SoundPrimary.{no-operand}
 use Rattle.es6_viability.proofs.Viable.{left}
-use Rattle.es6_viability.proofs.Beside.{Gap, Beside, BesideBy, Stops, Both, over, turn, both-same, outcome-inside, hit, missed, low, group-past, done, stopped, bind, bind-ends, nowhere, number, expression, either, may, must, take, looks-may, looks-must, looks-taken, on-line, begins, begins-free, opened, opened-past, group-must, group-may, Crosses}
+use Rattle.es6_viability.proofs.Beside.{Gap, Loss, Beside, BesideBy, Stops, Both, over, turn, both-same, outcome-inside, hit, missed, low, group-past, done, stopped, bind, bind-ends, nowhere, number, expression, either, may, must, take, looks-may, looks-must, looks-taken, on-line, begins, begins-free, opened, opened-past, group-must, group-may, Crosses}
 
 no-arrow : (t : Filled) → (t.newline || ends_block t.kind) ≡ true → is_arrow t ≡ false
 no-arrow t h = not-before-arrow (t ∷ []) h
@@ -380,11 +380,11 @@ module _ {g : Gap} (i j : Inner) (h : Crosses g i j) where
   unfolding t6.parted_template
   parted f at r s = bind _ _ (template_parts f h.turns s) λ ms c. done
 
-  template_may : {A : Type 0} {b : Bool} (f : Flags) (at : ℕ) (p p3 : Template → Parser A) (q q3 : Parser A) (s : Input) → ((m : Template) (c : Input) → BesideBy b g (p m) (p3 m) c) → BesideBy b g q q3 s → BesideBy b g (t6.on_template i f at p q) (t6.on_template j f at p3 q3) s
-  template_may {A = A} {b = b} f at p p3 q q3 s k l = may _ _ _ _ _ (λ d at. refl) s (λ r c. k _ c) (looks-taken (λ t. is_some (stretch_at true false t)) _ _ _ _ (λ at. refl)
+  template_may : {A : Type 0} {b : Loss} (f : Flags) (at : ℕ) (p p3 : Template → Parser A) (q q3 : Parser A) (s : Input) → ((m : Template) (c : Input) → BesideBy (Some b) g (p m) (p3 m) c) → BesideBy (Some b) g q q3 s → BesideBy (Some b) g (t6.on_template i f at p q) (t6.on_template j f at p3 q3) s
+  template_may {A = A} {b = b} f at p p3 q q3 s k l = may _ _ _ _ _ (λ d at. refl) s (λ r c. k _ c) (looks-taken (λ t. is_some (stretch_at true false t)) _ _ _ _ (λ d at. refl)
       (λ e. opened-past j.may_open h.opens _ (record { tokens = g.next ∷ g.behind; last = g.at }) (length g.behind) (taken (stretch_at true false g.next) refl e)) s (opened i.may_open j.may_open h.opens _ _ s parted-may) l)
     where
-      parted-may : BesideBy b g (on (stretch_at true false) (λ r. ◌>>=◌ (t6.parted_template i f at r) p) q) (on (stretch_at true false) (λ r. ◌>>=◌ (t6.parted_template j f at r) p3) q3) s
+      parted-may : BesideBy (Some b) g (on (stretch_at true false) (λ r. ◌>>=◌ (t6.parted_template i f at r) p) q) (on (stretch_at true false) (λ r. ◌>>=◌ (t6.parted_template j f at r) p3) q3) s
       parted-may = may _ _ _ _ _ (λ d at. refl) s (λ r c. bind _ _ (parted f at r c) λ m d. k m d) l
 
       taken : (v : Option Stretch) → stretch_at true false g.next ≡ v → is_some (stretch_at true false g.next) ≡ true
@@ -393,7 +393,7 @@ module _ {g : Gap} (i j : Inner) (h : Crosses g i j) where
       taken (Some r) e k' = subst (λ o. length (left o) ≤ length g.behind) (sym (hit (stretch_at true false) g.next g.behind g.at (λ r. ◌>>=◌ (t6.parted_template j f at r) p3) q3 r e))
           (outcome-inside p3 (length g.behind) (t6.parted_template j f at r (record { tokens = g.behind; last = g.next.span.end })) ((parted f at r (record { tokens = g.behind; last = g.next.span.end })).inside g.behind) (λ m c. (k m c).inside c.tokens))
 
-  template_must : {A : Type 0} {b : Bool} (f : Flags) (at : ℕ) (p p3 : Template → Parser A) (q q3 : Parser A) → Stops q → (s : Input) → ((m : Template) (c : Input) → BesideBy b g (p m) (p3 m) c) → BesideBy b g q q3 s → BesideBy b g (t6.on_template i f at p q) (t6.on_template j f at p3 q3) s
+  template_must : {A : Type 0} {b : Loss} (f : Flags) (at : ℕ) (p p3 : Template → Parser A) (q q3 : Parser A) → Stops q → (s : Input) → ((m : Template) (c : Input) → BesideBy (Some b) g (p m) (p3 m) c) → BesideBy (Some b) g q q3 s → BesideBy (Some b) g (t6.on_template i f at p q) (t6.on_template j f at p3 q3) s
   template_must f at p p3 q q3 n s k l = template_may f at p p3 q q3 s k l
 
   -- ## Primary expressions
@@ -557,16 +557,16 @@ module _ {g : Gap} (i j : Inner) (h : Crosses g i j) where
 
   after_conditional : (f : Flags) (at : ℕ) (x : Reading) (s : Input) → Beside g (e.after_conditional i f at x) (e.after_conditional j f at x) s
   unfolding e.after_conditional
-  after_conditional f at x s = looks-may _ _ _ _ _ (λ d at. sym (no-arrow g.next g.line)) s (subst (λ n. Beside g (e.arrow_if i f at x (e.parameters_before i.fuel x.shape x.value)) (e.arrow_if j f at x (e.parameters_before n x.shape x.value)) s) (both-same h.turns) (arrow_if f at x (e.parameters_before i.fuel x.shape x.value) s))
+  after_conditional f at x s = looks-may _ _ _ _ _ refl (λ e. sym (no-arrow g.next (g.line e))) s (subst (λ n. Beside g (e.arrow_if i f at x (e.parameters_before i.fuel x.shape x.value)) (e.arrow_if j f at x (e.parameters_before n x.shape x.value)) s) (both-same h.turns) (arrow_if f at x (e.parameters_before i.fuel x.shape x.value) s))
       (either (is_left x.shape) _ _ _ _ s (may _ _ _ _ _ assign-none s (λ op c. assigned_with f at _ op c) done) done)
 
-  yield-semi : (d : Bool) (at : ℕ) → not (e.ends_yield (semi d at)) ≡ not (e.ends_yield g.next)
+  yield-semi : g.do_while ≡ false → not (e.ends_yield (semi false g.at)) ≡ not (e.ends_yield g.next)
   unfolding e.ends_yield
-  yield-semi d at = sym (on-line (λ u. not (e.ends_yield u) ≡ false) (λ k span. refl) (λ span. refl) (λ span. refl) g.next g.line)
+  yield-semi k = sym (on-line (λ u. not (e.ends_yield u) ≡ false) (λ k span. refl) (λ span. refl) (λ span. refl) g.next (g.line k))
 
   after_yield : (f : Flags) (at : ℕ) (s : Input) → Beside g (e.after_yield i f at) (e.after_yield j f at) s
   unfolding e.after_yield
-  after_yield f at s = may _ _ _ _ _ (λ d at. refl) s (λ t c. bind _ _ (h.assignment f c) λ x d. done) (looks-may _ _ _ _ _ yield-semi s (bind _ _ (h.assignment f s) λ x c. done) done)
+  after_yield f at s = may _ _ _ _ _ (λ d at. refl) s (λ t c. bind _ _ (h.assignment f c) λ x d. done) (looks-may _ _ _ _ _ refl yield-semi s (bind _ _ (h.assignment f s) λ x c. done) done)
 
   without_yield : (f : Flags) (at : ℕ) (s : Input) → Beside g (e.without_yield i f at) (e.without_yield j f at) s
   unfolding e.without_yield
@@ -619,7 +619,7 @@ module _ {g : Gap} (i j : Inner) (h : Crosses g i j) where
 
   after_name : (f : Flags) (at : ℕ) (n : Identifier) (s : Input) → Beside g (e.after_name i f at n) (e.after_name j f at n) s
   unfolding e.after_name
-  after_name f at n s = looks-taken (λ t. next_mark marks.Colon t || next_mark marks.LeftParenthesis t) _ _ _ _ (λ place. refl) (λ k. after-key-past f at (WordKey n.span n.name) k) s (after_key f at _ s) (shorthand f at n s)
+  after_name f at n s = looks-taken (λ t. next_mark marks.Colon t || next_mark marks.LeftParenthesis t) _ _ _ _ (λ d place. refl) (λ k. after-key-past f at (WordKey n.span n.name) k) s (after_key f at _ s) (shorthand f at n s)
 
   pub property : (f : Flags) (s : Input) → Beside g (e.one_property i f) (e.one_property j f) s
   unfolding e.one_property e.after_accessor_word t6.accessor t6.key no_number

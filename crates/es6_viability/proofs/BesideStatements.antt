@@ -43,7 +43,7 @@ use Rattle.es6_reading.proofs.LocalModules as m'
 use Rattle.es6_reading.proofs.LocalReaders.{gain, grown}
 use Rattle.es6_reading.proofs.Locality.{LocalOf, took_so, stops_so, too_deep, too_long, not_inserted, Slack, same_mode}
 use Rattle.es6_viability.proofs.Viable.{left}
-use Rattle.es6_viability.proofs.Beside.{Gap, Beside, BesideOr, Stops, Idle, rests, stands, idle-bind, Both, over, turn, both, both-same, outcome-inside, hit, low, on-line, done, stopped, never-agrees, bind, bind-idle, bind-ends, or-lost, looks-idle, nowhere, either, may, must, take, looks-may, looks-must, looks-taken, begins, begins-free, group-must, semicolon_, do_while_end, Crosses}
+use Rattle.es6_viability.proofs.Beside.{Gap, Loss, BesideBy, Beside, BesideOr, never-rests, bind-kept, bind-sure, bind-closed, Stops, Idle, rests, stands, idle-bind, Both, over, turn, both, both-same, outcome-inside, hit, low, on-line, done, stopped, never-agrees, bind, bind-idle, bind-ends, or-lost, looks-idle, nowhere, either, may, must, take, looks-may, looks-must, looks-taken, begins, begins-free, group-must, semicolon_, do_while_end, Crosses}
 use Rattle.es6_viability.proofs.BesideExpressions.{identifier, any_name, fitting, block, initialized, one_part, object_part, binding, member, property, chain, unary, power, assignment, sequence, function, named_function, class, chain-stops, assignment-stops, sequence-stops, part-stops, object-part-stops, member-stops, property-stops, block-stops}
 
 -- ## Parts of statements
@@ -158,9 +158,13 @@ module _ {g : Gap} (i j : Inner) (h : Crosses g i j) where
   unfolding s6.variables_statement
   variables_statement f at kind s = bind _ _ (variables _ _ (λ c. initialized i j h f f c) h.turns s) λ qs c. bind _ _ (semicolon_ i j h.inserting h.plain c) λ t d. done
 
-  parenthesized : (f : Flags) (s : Input) → Beside g (s6.parenthesized i f) (s6.parenthesized j f) s
-  unfolding s6.parenthesized
-  parenthesized f s = group-must i j h.opens marks.LeftParenthesis _ _ _ _ (λ d at us last. refused-holds _) s (λ c. bind _ _ (h.sequence (with_in f) c) λ x d. bind _ _ (take _ (λ d at. refl) d) λ t k. done) (nowhere s)
+  parenthesized : {b : Option Loss} (f : Flags) (s : Input) → BesideBy b g (s6.parenthesized i f) (s6.parenthesized j f) s
+  unfolding s6.parenthesized refused
+  parenthesized f s = group-must i j h.opens marks.LeftParenthesis _ _ _ _ (λ d at us last. fault) s (λ c. bind-ends _ _ (λ x d at us last. fault) (h.sequence (with_in f) c) λ x d. bind-kept _ _ (take _ (λ d at. refl) d) λ t k. done) (nowhere s)
+
+  parenthesized-stops : (f : Flags) → Stops (s6.parenthesized i f)
+  unfolding s6.parenthesized refused
+  parenthesized-stops f d at us last = fault
 
   -- ## If and loops
 
@@ -188,7 +192,7 @@ module _ {g : Gap} (i j : Inner) (h : Crosses g i j) where
 
   do_statement : (f : Flags) (at : ℕ) (s : Input) → BesideOr g (s6.do_statement i f at) (s6.do_statement j f at) s
   unfolding s6.do_statement refused
-  do_statement f at s = bind-ends _ _ (λ x. (λ d at us last. fault)) (h.statement f Under s) λ x c. bind _ _ (take _ (λ d at. refl) c) λ t d. bind _ _ (parenthesized f d) λ y k. bind-idle _ _ (λ u. (λ d at us last. rests)) (do_while_end i j h.inserting h.plain k) λ u m. done
+  do_statement f at s = bind-ends _ _ (λ x. (λ d at us last. fault)) (h.statement f Under s) λ x c. bind _ _ (take _ (λ d at. refl) c) λ t d. bind-sure _ _ (λ at us. parenthesized-stops f true at us d.last) (parenthesized f d) λ y k. bind-closed _ _ (λ u. (λ d at us last. rests)) (do_while_end i j h.inserting h.plain k) λ u m. done
 
   while_statement : (f : Flags) (at : ℕ) (s : Input) → BesideOr g (s6.while_statement i f at) (s6.while_statement j f at) s
   unfolding s6.while_statement
@@ -256,12 +260,12 @@ module _ {g : Gap} (i j : Inner) (h : Crosses g i j) where
   unfolding s6.break_statement
   break_statement at s = bind _ _ (optional-label s) λ x c. bind _ _ (semicolon_ i j h.inserting h.plain c) λ t d. done
 
-  value-semi : (d : Bool) (at : ℕ) → s6.goes_on (semi d at) ≡ s6.goes_on g.next
-  value-semi d at = goes-on-semi d at ∙ sym (on-line (λ u. s6.goes_on u ≡ false) (λ k span. refl) (λ span. refl) (λ span. refl) g.next g.line)
+  value-semi : g.do_while ≡ false → s6.goes_on (semi false g.at) ≡ s6.goes_on g.next
+  value-semi e = goes-on-semi false g.at ∙ sym (on-line (λ u. s6.goes_on u ≡ false) (λ k span. refl) (λ span. refl) (λ span. refl) g.next (g.line e))
 
   returned : (f : Flags) (s : Input) → Beside g (s6.returned i f) (s6.returned j f) s
   unfolding s6.returned
-  returned f s = looks-may _ _ _ _ _ value-semi s (bind _ _ (sequence i j h (with_in f) s) λ x c. done) done
+  returned f s = looks-may _ _ _ _ _ refl value-semi s (bind _ _ (sequence i j h (with_in f) s) λ x c. done) done
 
   return_statement : (f : Flags) (at : ℕ) (s : Input) → BesideOr g (s6.return_statement i f at) (s6.return_statement j f at) s
   unfolding s6.return_statement
@@ -434,12 +438,12 @@ module _ {g : Gap} (i j : Inner) (h : Crosses g i j) where
   from-past at ns e = outcome-inside (λ x. made at (λ span. item.ExportNames span ns (Some x))) (length g.behind) (m6.from_clause j (record { tokens = g.next ∷ g.behind; last = g.at }))
       (subst (λ o. length (left (after o (λ t. ◌>>=◌ m6.specifier (λ x. ◌>>=◌ (semicolon j) (λ u. returns x))))) ≤ length g.behind) (sym (hit (word (codes "from")) g.next g.behind g.at (λ t. returns t) refused g.next (ap (λ v. kept_if v g.next) e)))
       (outcome-inside (λ x. ◌>>=◌ (semicolon j) (λ u. returns x)) (length g.behind) (m6.specifier (record { tokens = g.behind; last = g.next.span.end })) ((specifier {g = g} (record { tokens = g.behind; last = g.next.span.end })).inside g.behind)
-      (λ x d. outcome-inside (λ u. returns x) (length d.tokens) (semicolon j d) ((semicolon_ {g = g} {b = false} i j h.inserting h.plain d).inside d.tokens) (λ u k. low (length k.tokens)))))
+      (λ x d. outcome-inside (λ u. returns x) (length d.tokens) (semicolon j d) ((semicolon_ {g = g} {b = None} i j h.inserting h.plain d).inside d.tokens) (λ u k. low (length k.tokens)))))
       (λ x c. low (length c.tokens))
 
   export_names : (at : ℕ) (s : Input) → BesideOr g (m6.export_names i at) (m6.export_names j at) s
   unfolding m6.export_names
-  export_names at s = bind _ _ (group-must i j h.opens marks.LeftBrace _ _ _ _ (λ d at us last. refused-holds _) s (λ c. exports h.turns c) (nowhere s)) λ ns c. looks-taken (next_word (codes "from")) _ _ _ _ (λ place. refl) (from-past at ns) c (bind _ _ (from_clause c) λ x d. done) (own_names at ns c)
+  export_names at s = bind _ _ (group-must i j h.opens marks.LeftBrace _ _ _ _ (λ d at us last. refused-holds _) s (λ c. exports h.turns c) (nowhere s)) λ ns c. looks-taken (next_word (codes "from")) _ _ _ _ (λ d place. refl) (from-past at ns) c (bind _ _ (from_clause c) λ x d. done) (own_names at ns c)
 
   export_all : (at : ℕ) (s : Input) → BesideOr g (m6.export_all i at) (m6.export_all j at) s
   unfolding m6.export_all
@@ -517,20 +521,20 @@ module _ (g : Gap) where
         plain = refl;
         turns = both fuel;
         opens = refl;
-        sequence = λ f s. record { across = λ s'. never-agrees (expression-limit _ s); inside = λ us. inside-of (x'.sequence j j' l f (record { tokens = us; last = s.last })) };
-        assignment = λ f s. record { across = λ s'. never-agrees (expression-limit _ s); inside = λ us. inside-of (x'.assignment j j' l f (record { tokens = us; last = s.last })) };
-        power = λ f s. record { across = λ s'. never-agrees (expression-limit _ s); inside = λ us. inside-of (x'.power j j' l f Among (record { tokens = us; last = s.last })) };
-        unary = λ f s. record { across = λ s'. never-agrees (expression-limit _ s); inside = λ us. inside-of (x'.unary j j' l f (record { tokens = us; last = s.last })) };
-        callee = λ f s. record { across = λ s'. never-agrees (operand-limit s); inside = λ us. inside-of (x'.chain j j' l f Callee (record { tokens = us; last = s.last })) };
-        heritage = λ f s. record { across = λ s'. never-agrees (operand-limit s); inside = λ us. inside-of (x'.chain j j' l f Heritage (record { tokens = us; last = s.last })) };
-        block = λ f s. record { across = λ s'. never-agrees fault; inside = λ us. inside-of (x'.block j j' l f (record { tokens = us; last = s.last })) };
-        property = λ f s. record { across = λ s'. never-agrees fault; inside = λ us. inside-of (x'.property j j' l f (record { tokens = us; last = s.last })) };
-        target = λ f s. record { across = λ s'. never-agrees fault; inside = λ us. inside-of (x'.binding j j' l f (record { tokens = us; last = s.last })) };
-        part = λ f s. record { across = λ s'. never-agrees fault; inside = λ us. inside-of (x'.one_part j j' l f (record { tokens = us; last = s.last })) };
-        object_part = λ f s. record { across = λ s'. never-agrees fault; inside = λ us. inside-of (x'.object_part j j' l f (record { tokens = us; last = s.last })) };
-        variable = λ f s. record { across = λ s'. never-agrees fault; inside = λ us. inside-of (x'.initialized j j' l f f (record { tokens = us; last = s.last })) };
-        member = λ f s. record { across = λ s'. never-agrees fault; inside = λ us. inside-of (x'.member j j' l f (record { tokens = us; last = s.last })) };
-        statement = λ f stand s. record { across = λ s'. never-agrees (statement-limit f stand s); inside = λ us. inside-of (m'.statement j j' l f stand (record { tokens = us; last = s.last })) };
+        sequence = λ f s. record { across = λ s'. never-agrees (expression-limit _ s); inside = λ us. inside-of (x'.sequence j j' l f (record { tokens = us; last = s.last })); idle = λ at us. never-rests (expression-limit _ _) };
+        assignment = λ f s. record { across = λ s'. never-agrees (expression-limit _ s); inside = λ us. inside-of (x'.assignment j j' l f (record { tokens = us; last = s.last })); idle = λ at us. never-rests (expression-limit _ _) };
+        power = λ f s. record { across = λ s'. never-agrees (expression-limit _ s); inside = λ us. inside-of (x'.power j j' l f Among (record { tokens = us; last = s.last })); idle = λ at us. never-rests (expression-limit _ _) };
+        unary = λ f s. record { across = λ s'. never-agrees (expression-limit _ s); inside = λ us. inside-of (x'.unary j j' l f (record { tokens = us; last = s.last })); idle = λ at us. never-rests (expression-limit _ _) };
+        callee = λ f s. record { across = λ s'. never-agrees (operand-limit s); inside = λ us. inside-of (x'.chain j j' l f Callee (record { tokens = us; last = s.last })); idle = λ at us. never-rests (operand-limit _) };
+        heritage = λ f s. record { across = λ s'. never-agrees (operand-limit s); inside = λ us. inside-of (x'.chain j j' l f Heritage (record { tokens = us; last = s.last })); idle = λ at us. never-rests (operand-limit _) };
+        block = λ f s. record { across = λ s'. never-agrees fault; inside = λ us. inside-of (x'.block j j' l f (record { tokens = us; last = s.last })); idle = λ at us. never-rests fault };
+        property = λ f s. record { across = λ s'. never-agrees fault; inside = λ us. inside-of (x'.property j j' l f (record { tokens = us; last = s.last })); idle = λ at us. never-rests fault };
+        target = λ f s. record { across = λ s'. never-agrees fault; inside = λ us. inside-of (x'.binding j j' l f (record { tokens = us; last = s.last })); idle = λ at us. never-rests fault };
+        part = λ f s. record { across = λ s'. never-agrees fault; inside = λ us. inside-of (x'.one_part j j' l f (record { tokens = us; last = s.last })); idle = λ at us. never-rests fault };
+        object_part = λ f s. record { across = λ s'. never-agrees fault; inside = λ us. inside-of (x'.object_part j j' l f (record { tokens = us; last = s.last })); idle = λ at us. never-rests fault };
+        variable = λ f s. record { across = λ s'. never-agrees fault; inside = λ us. inside-of (x'.initialized j j' l f f (record { tokens = us; last = s.last })); idle = λ at us. never-rests fault };
+        member = λ f s. record { across = λ s'. never-agrees fault; inside = λ us. inside-of (x'.member j j' l f (record { tokens = us; last = s.last })); idle = λ at us. never-rests fault };
+        statement = λ f stand s. record { across = λ s'. never-agrees (statement-limit f stand s); inside = λ us. inside-of (m'.statement j j' l f stand (record { tokens = us; last = s.last })); idle = λ at us. never-rests (statement-limit f stand _) };
         sequence_stops = λ f d at us last. expression-limit _ _;
         assignment_stops = λ f d at us last. expression-limit _ _;
         callee_stops = λ f d at us last. operand-limit _;

@@ -1,6 +1,6 @@
 -- What completes constructs, and what may follow what is completed.
 use Rattle.std.specs.Prelude.{codes, is_some, not}
-use Rattle.std.proofs.Common.{◌≡◌, ℕ, suc, Bool, true, false, List, [], ◌∷◌, Some, None, refl}
+use Rattle.std.proofs.Common.{◌≡◌, ℕ, suc, ◌≤◌, Bool, true, false, List, [], ◌∷◌, Some, None, refl}
 use Rattle.es_outside.specs.HostNames.{reserved_words}
 use Rattle.es6_lexer.specs.declared.token.TokenKind.{TokenKind}
 use Rattle.es6_lexer.specs.declared.token.TokenKind.TheVariants.{Word, Punctuator, Template, End}
@@ -19,9 +19,10 @@ use Rattle.es6_reading.specs.Parser.{Input, next_is, mark, word, next_mark, Read
 use Rattle.es6_reading.specs.Refine.{Fits, refine_parameters}
 use Rattle.es6_reading.specs.Words.{free_name, stretch_at, after_at, assign_at, assign_operators, binary_at, binary_operators, is_arrow, unary_at, unary_operators}
 use Rattle.es6_reading.specs.Expressions.{star_at, ends_yield}
+use Rattle.es6_reading.proofs.Derived.{Sound}
 use Rattle.es6_reading.proofs.Locality.{Turns}
 use Rattle.es6_reading.proofs.Posts.{Misses}
-use Rattle.es6_viability.proofs.Viable.{fill, Head, head, Any, Viable}
+use Rattle.es6_viability.proofs.Viable.{fill, Head, head, Any, Viable, Limit}
 
 -- a name
 abbrev pub x_ : TokenKind
@@ -120,24 +121,27 @@ HasDefault q = is_some q.default ≡ true
 
 -- ## Readers of what stands one construct deeper
 
-pub record Better (l : ℕ) (i j : Inner) : Type 0 where
+pub record Better (lim : Limit) (l : ℕ) (i j : Inner) : Type 0 where
+  pub sound : i.inserting ≡ false → Sound i
+  -- a reader gives up only what has more tokens than loops have turns
+  pub gives_up : (m : ℕ) → (i.inserting ≡ false → i.fuel ≤ suc m) → lim.allows m
   pub mode : j.inserting ≡ i.inserting
   pub turns : Turns (suc l) i.fuel j.fuel
   pub opens : j.may_open ≡ true
-  pub sequence : (f : Flags) (s : Input) → Viable (λ y us. Closer false us) Any (λ us. Head x_ us) (i.sequence f) (j.sequence f) s
-  pub assignment : (f : Flags) (s : Input) → Viable (λ y us. Closer false us) Any (λ us. Head x_ us) (i.assignment f) (j.assignment f) s
-  pub power : (f : Flags) (s : Input) → Viable (λ y us. After us) Any (λ us. Head x_ us) (i.power f) (j.power f) s
-  pub unary : (f : Flags) (s : Input) → Viable (λ y us. After us) Any (λ us. Head x_ us) (i.unary f) (j.unary f) s
-  pub callee : (f : Flags) (s : Input) → Viable (λ y us. After us) Any (λ us. Head x_ us) (i.callee f) (j.callee f) s
-  pub heritage : (f : Flags) (s : Input) → Viable (λ y us. After us) Any (λ us. Head x_ us) (i.heritage f) (j.heritage f) s
-  pub block : (f : Flags) (s : Input) → Viable Free Any (λ us. Head (Punctuator marks.LeftBrace) us) (i.block f) (j.block f) s
-  pub property : (f : Flags) (s : Input) → Viable (λ y us. Head (Punctuator marks.RightBrace) us) Any (λ us. Head x_ us) (i.property f) (j.property f) s
-  pub target : (f : Flags) (s : Input) → Viable Free Any (λ us. Head x_ us) (i.target f) (j.target f) s
-  pub part : (f : Flags) (s : Input) → Viable (λ y us. Closer false us) Any (λ us. Head x_ us) (i.part f) (j.part f) s
-  pub object_part : (f : Flags) (s : Input) → Viable (λ y us. Head (Punctuator marks.RightBrace) us) Any (λ us. Head x_ us) (i.object_part f) (j.object_part f) s
-  pub variable : (f : Flags) (s : Input) → Viable (λ y us. Closer false us) HasDefault (λ us. Head x_ us) (i.variable f) (j.variable f) s
-  pub member : (f : Flags) (s : Input) → Viable Free Any (λ us. Head x_ us) (i.member f) (j.member f) s
-  pub statement : (f : Flags) (stand : Stand) (s : Input) → Viable (λ y us. Behind us) Any (λ us. Head (Punctuator marks.Semicolon) us) (i.statement f stand) (j.statement f stand) s
+  pub sequence : (f : Flags) (s : Input) → Viable lim (λ y us. Closer false us) Any (λ us. Head x_ us) (i.sequence f) (j.sequence f) s
+  pub assignment : (f : Flags) (s : Input) → Viable lim (λ y us. Closer false us) Any (λ us. Head x_ us) (i.assignment f) (j.assignment f) s
+  pub power : (f : Flags) (s : Input) → Viable lim (λ y us. After us) Any (λ us. Head x_ us) (i.power f) (j.power f) s
+  pub unary : (f : Flags) (s : Input) → Viable lim (λ y us. After us) Any (λ us. Head x_ us) (i.unary f) (j.unary f) s
+  pub callee : (f : Flags) (s : Input) → Viable lim (λ y us. After us) Any (λ us. Head x_ us) (i.callee f) (j.callee f) s
+  pub heritage : (f : Flags) (s : Input) → Viable lim (λ y us. After us) Any (λ us. Head x_ us) (i.heritage f) (j.heritage f) s
+  pub block : (f : Flags) (s : Input) → Viable lim Free Any (λ us. Head (Punctuator marks.LeftBrace) us) (i.block f) (j.block f) s
+  pub property : (f : Flags) (s : Input) → Viable lim (λ y us. Head (Punctuator marks.RightBrace) us) Any (λ us. Head x_ us) (i.property f) (j.property f) s
+  pub target : (f : Flags) (s : Input) → Viable lim Free Any (λ us. Head x_ us) (i.target f) (j.target f) s
+  pub part : (f : Flags) (s : Input) → Viable lim (λ y us. Closer false us) Any (λ us. Head x_ us) (i.part f) (j.part f) s
+  pub object_part : (f : Flags) (s : Input) → Viable lim (λ y us. Head (Punctuator marks.RightBrace) us) Any (λ us. Head x_ us) (i.object_part f) (j.object_part f) s
+  pub variable : (f : Flags) (s : Input) → Viable lim (λ y us. Closer false us) HasDefault (λ us. Head x_ us) (i.variable f) (j.variable f) s
+  pub member : (f : Flags) (s : Input) → Viable lim Free Any (λ us. Head x_ us) (i.member f) (j.member f) s
+  pub statement : (f : Flags) (stand : Stand) (s : Input) → Viable lim (λ y us. Behind us) Any (λ us. Head (Punctuator marks.Semicolon) us) (i.statement f stand) (j.statement f stand) s
 
 -- ## Tests of what follows
 

@@ -1,6 +1,6 @@
 -- Expressions can be completed wherever their readers stop.
-use Rattle.std.specs.Prelude.{codes, is_some}
-use Rattle.std.proofs.Common.{◌≡◌, ◌∙◌, ℕ, zero, suc, ◌+◌, Bool, true, false, ◌||◌, ◌&&◌, List, [], ◌∷◌, ◌++◌, Option, Some, None, refl, sym, ap, subst}
+use Rattle.std.specs.Prelude.{codes, is_some, ◌⊎◌}
+use Rattle.std.proofs.Common.{◌≡◌, ◌∙◌, ℕ, zero, suc, ◌+◌, ◌≤◌, Bool, true, false, ◌&&◌, List, [], ◌∷◌, ◌++◌, length, Option, Some, None, refl, sym, ap, subst, inl, inr}
 use Rattle.std.proofs.lemmas.Bool.{false≢true}
 use Rattle.es_text.specs.declared.Span.{Span}
 use Rattle.es6_lexer.specs.declared.token.TokenKind.TheVariants.{Punctuator}
@@ -29,19 +29,23 @@ use Rattle.es6_ast.specs.declared.tree.Parameter.{Parameter}
 use Rattle.es6_ast.specs.declared.tree.Pattern.{Pattern}
 use Rattle.es6_ast.specs.declared.tree.Rest.{Rest as Dots}
 use Rattle.es6_ast.specs.Settings.{is_leading, has_calls}
-use Rattle.es6_ast.specs.Tokens.{Filled, is_word}
+use Rattle.es6_ast.specs.Tokens.{Filled}
 use Rattle.es6_ast.specs.Grammar.{with_in, of_function, of_arrow}
-use Rattle.es6_reading.specs.Parser.{Input, Took, Parser, ◌>>=◌, returns, mark, made, choose, after, if_next, on_group, next_is, next_mark, Reading, is_left, is_covered, Inner}
+use Rattle.es6_reading.specs.Parser.{Input, Took, Parser, ◌>>=◌, returns, on, mark, made, choose, after, if_next, on_group, next_is, next_mark, Reading, is_left, is_covered, Inner}
 use Rattle.es6_reading.specs.Refine.{Refined, Fits, Misfit, TooNested, refined_map, refined_cons, fits_if, is_name_in, begin_of_expression, made_part, part_in, target_in, refine, refine_part, parts_of, parameters_of, rest_parameter, refine_parameters, target_before, else_itself, refine_pattern}
 use Rattle.es6_reading.proofs.RefineParameters.{IsNoSequence, one-alone}
 use Rattle.es6_reading.specs.Words.{free_name, unary_at, before_at, after_at, assign_at, binary_at, is_arrow, arrow_at, stretch_at}
 use Rattle.es6_reading.specs.Expressions as e
 use Rattle.es6_reading.proofs.FollowPrimary as primary'
 use Rattle.es6_reading.proofs.FollowLevels as levels'
+use Rattle.es6_reading.proofs.Derived.{Sound}
 use Rattle.es6_reading.proofs.Locality.{Turns, over, turn, Deeper, as_before, nested_less, deeper}
 use Rattle.es6_reading.proofs.Posts.{Holds, took, fault, of_took, on-holds, if-holds, any as any-holds, bind as holds-bind}
 use Rattle.es6_reading.proofs.RefineMore.{kept-before, kept-parameters-of, kept-parameters-before}
-use Rattle.es6_viability.proofs.Viable.{fill, Head, head, Any, Begins, Viable, Partly, Onward, used_up, past, done, done-ok, rests, stops, nowhere, number-by, expression-by, bind, bind-if, bind-half, half-bind, fresh-bind, may, must, fresh-may, fresh-must, half-on, half-set, either, half-either, looks-no, looks-yes, half-looks, fresh-no, fresh-yes, begins, half-begins, half-group, group-may, endless, weaken, head-zero, on-head, finished, finished-ok, free, half-choice-no, fresh-choice-no, on-missed, no-next, nothing-more, bind-seen}
+use Rattle.es6_viability.proofs.Viable.{Limit, half-within, goes-within, bind-by, allowed-before, fill, Head, head, Any, Begins, Viable, Partly, Onward, used_up, past, done, done-ok, rests, stops, nowhere, number-by, expression-by, bind, bind-if, bind-half, half-bind, fresh-bind, may, must, fresh-may, fresh-must, half-on, either, half-either, looks-no, looks-yes, half-looks, fresh-no, fresh-yes, begins, half-begins, half-group, group-may, endless, weaken, head-zero, on-head, finished, finished-ok, free, half-choice-no, fresh-choice-no, on-missed, no-next, nothing-more, bind-seen}
+use Rattle.es6_viability.proofs.LeftSides.{LeftIn}
+use Rattle.es6_viability.proofs.LeftSides.{conditional as left-conditional}
+use Rattle.es6_viability.proofs.Nesting.{deep-has-tokens}
 use Rattle.es6_viability.proofs.Completions.{x_, Free, Closer, After, FollowOf, Follow, EndOf, End_, end-follow, follow-after, Refines, AllowedOf, Allowed, Better, no-dot, no-index, no-call, no-template, no-parted, no-postfix, no-power, no-binary, no-question, no-arrow, no-assign, no-comma, no-star, no-value, x-free, x-no-unary}
 use Rattle.es6_viability.proofs.Parts.{closing, bracket-closes, brace-closes, colon-closes, identifier, any-name, take-mark, take-word, function, class, half-template, method-after-key, generator-method, accessor, key}
 
@@ -105,30 +109,30 @@ empty-refines : (n : ℕ) (span : Span) → Refines n (expr.Cover span None None
 unfolding refine_parameters
 empty-refines n span = ([], rw expr.outs-Cover refl)
 
-no-operand : {F : Reading → List Filled → Type 0} {P : Reading → Type 0} (role : Role) (p' : Parser Reading) (s : Input) → Partly F P (e.no_operand role) p' s
+no-operand : {lim : Limit} {F : Reading → List Filled → Type 0} {P : Reading → Type 0} (role : Role) (p' : Parser Reading) (s : Input) → Partly lim F P (e.no_operand role) p' s
 no-operand Leading p' s = expression-by p' s
 no-operand Among p' s = expression-by p' s
 no-operand Heritage p' s = number-by p' s
 no-operand Callee p' s = number-by p' s
 
 module _ (role : Role) (n : ℕ) where
-  covered : is_leading role ≡ true → (at : ℕ) (held : Option Expression) (rest : Option Dots) → ((span : Span) → Refines n (expr.Cover span held rest)) → (s : Input) → Viable Follow (Allowed role n) (λ us. Head (Punctuator marks.Arrow) us) (e.covered at held rest) (e.covered at held rest) s
+  covered : {lim : Limit} → is_leading role ≡ true → (at : ℕ) (held : Option Expression) (rest : Option Dots) → ((span : Span) → Refines n (expr.Cover span held rest)) → (s : Input) → Viable lim Follow (Allowed role n) (λ us. Head (Punctuator marks.Arrow) us) (e.covered at held rest) (e.covered at held rest) s
   unfolding e.covered
   covered leads at held rest r s = looks-yes _ _ _ _ _ s (done-ok (leads, r _)) (nowhere s) (on-head _ (λ us. refl))
 
-  covered-rest : is_leading role ≡ true → (at dots : ℕ) (held : Option Expression) → ((rest : Dots) (span : Span) → Refines n (expr.Cover span held (Some rest))) → (s : Input) → Viable Follow (Allowed role n) (λ us. Head x_ us) (e.covered_rest at dots held) (e.covered_rest at dots held) s
+  covered-rest : {lim : Limit} → is_leading role ≡ true → (at dots : ℕ) (held : Option Expression) → ((rest : Dots) (span : Span) → Refines n (expr.Cover span held (Some rest))) → (s : Input) → Viable lim Follow (Allowed role n) (λ us. Head x_ us) (e.covered_rest at dots held) (e.covered_rest at dots held) s
   unfolding e.covered_rest
   covered-rest leads at dots held r s = bind _ _ (identifier s) (λ m c. bind _ _ (take-mark {F = Free} marks.RightParenthesis refl c) (λ t d. covered leads at held _ (r _) d) (λ y us t. tt)) (λ y us t. tt)
 
-  closed-group : (at : ℕ) (held : Expression) (s : Input) → Viable Follow (Allowed role n) (λ us. Head (Punctuator marks.RightParenthesis) us) (e.closed_group at held) (e.closed_group at held) s
+  closed-group : {lim : Limit} (at : ℕ) (held : Expression) (s : Input) → Viable lim Follow (Allowed role n) (λ us. Head (Punctuator marks.RightParenthesis) us) (e.closed_group at held) (e.closed_group at held) s
   unfolding e.closed_group
   closed-group at held s = bind _ _ (take-mark {F = Free} marks.RightParenthesis refl s) (λ t c. done-ok tt) (λ y us t. tt)
 
-  rest-after : {l : ℕ} → is_leading role ≡ true → (at dots inside : ℕ) (k : e.Held) {r : Refined (List Parameter)} → Deeper l r (parameters_of n (k.first ∷ k.more)) → (s : Input)
-      → Partly Follow (Allowed role n) (e.rest_after at dots (e.whole inside k) r) (e.rest_after at dots (e.whole inside k) (parameters_of n (k.first ∷ k.more))) s
-  rest-after {l = l} leads at dots inside k d s = by d refl
+  rest-after : {lim : Limit} {l : ℕ} → is_leading role ≡ true → (at dots inside : ℕ) (k : e.Held) {r : Refined (List Parameter)} → Deeper l r (parameters_of n (k.first ∷ k.more)) → (s : Input)
+      → Partly lim Follow (Allowed role n) (e.rest_after at dots (e.whole inside k) r) (e.rest_after at dots (e.whole inside k) (parameters_of n (k.first ∷ k.more))) s
+  rest-after {lim = lim} {l = l} leads at dots inside k d s = by d refl
     where
-      by : {r r' : Refined (List Parameter)} → Deeper l r r' → parameters_of n (k.first ∷ k.more) ≡ r' → Partly Follow (Allowed role n) (e.rest_after at dots (e.whole inside k) r) (e.rest_after at dots (e.whole inside k) r') s
+      by : {r r' : Refined (List Parameter)} → Deeper l r r' → parameters_of n (k.first ∷ k.more) ≡ r' → Partly lim Follow (Allowed role n) (e.rest_after at dots (e.whole inside k) r) (e.rest_after at dots (e.whole inside k) r') s
       by {r = Fits es} as_before h = half-on _ _ _ _ _ s (λ t c. past (covered-rest leads at dots (Some (e.whole inside k)) (λ rest span. held-refines n inside k rest span es h) c)) (nowhere s)
       by {r = Misfit place} as_before h = nowhere s
       by {r = TooNested} as_before h = stops
@@ -186,12 +190,23 @@ pub operands-none : (f : Flags) (level : ℕ) (q' : Parser Reading) (m : ℕ) (u
 unfolding e.operands
 operands-none f level q' m us last a = on-missed (binary_at f level) _ _ us last (no-binary f level us a)
 
-module _ {l : ℕ} (i j : Inner) (h : Better l i j) where
-  argument : (f : Flags) (s : Input) → Viable (λ y us. Closer false us) Any (λ us. Head x_ us) (e.argument i f) (e.argument j f) s
+-- an assignment is given up whose left side isn't looked into deep enough
+abbrev pub Unsettled : ℕ → Reading → Type 0
+Unsettled n x = (is_left x.shape ≡ true) × ((op : AssignOperator) × (target_before n op x.value ≡ TooNested))
+
+pub unsettled-grows : (lim : Limit) (n : ℕ) (x : Reading) (m k : ℕ) → m ≤ k → lim.allows m ⊎ Unsettled n x → lim.allows k ⊎ Unsettled n x
+unsettled-grows lim n x m k l (inl a) = inl (lim.grows m k l a)
+unsettled-grows lim n x m k l (inr u) = inr u
+
+abbrev pub unsettled : Limit → ℕ → Reading → Limit
+unsettled lim n x = record { allows = λ m. lim.allows m ⊎ Unsettled n x; grows = unsettled-grows lim n x }
+
+module _ {lim : Limit} {l : ℕ} (i j : Inner) (h : Better lim l i j) where
+  argument : (f : Flags) (s : Input) → Viable lim (λ y us. Closer false us) Any (λ us. Head x_ us) (e.argument i f) (e.argument j f) s
   unfolding e.argument
   argument f s = begins (primary'.argument_from i f) (primary'.argument_from j f) s head-zero (λ place. may _ _ _ _ _ s (λ t c. past (bind _ _ (h.assignment (with_in f) c) (λ x d. done) (λ y us t. t))) (bind _ _ (h.assignment (with_in f) s) (λ x c. done) (λ y us t. t)) (on-head _ (λ us. refl)))
 
-  elements : (f : Flags) {n m : ℕ} (w : Turns (suc l) n m) (s : Input) → Viable Free Any (λ us. Head (Punctuator marks.RightBracket) us) (e.elements i f n) (e.elements j f m) s
+  elements : (f : Flags) {n m : ℕ} (w : Turns (suc l) n m) (s : Input) → Viable lim Free Any (λ us. Head (Punctuator marks.RightBracket) us) (e.elements i f n) (e.elements j f m) s
   unfolding e.elements
   elements f over s = endless (record { more = Punctuator marks.RightBracket ∷ []; value = record { elements = []; ends_in_comma = false }; last = 0; ok = tt; reads = λ us h. refl; starts = λ us h. head })
   elements f (turn w) s = must (mark marks.RightBracket) (Punctuator marks.RightBracket) (fill (Punctuator marks.RightBracket)) refl _ _ _ _ s (λ t c. done)
@@ -200,22 +215,22 @@ module _ {l : ℕ} (i j : Inner) (h : Better l i j) where
       (λ t d. past (must (mark marks.RightBracket) (Punctuator marks.RightBracket) (fill (Punctuator marks.RightBracket)) refl _ _ _ _ d (λ u k. done) (bind-half _ _ (elements f w d).half (λ y k. done) (λ y us t. tt))))
       (bind _ _ (take-mark {F = Free} marks.RightBracket refl c) (λ t d. done) (λ y us t. tt)) (on-head _ (λ us. refl))) bracket-closes))
 
-  more-arguments : (f : Flags) {n m : ℕ} (w : Turns (suc l) n m) (s : Input) → Viable Free Any (λ us. Head x_ us) (e.more_arguments i f n) (e.more_arguments j f m) s
+  more-arguments : (f : Flags) {n m : ℕ} (w : Turns (suc l) n m) (s : Input) → Viable lim Free Any (λ us. Head x_ us) (e.more_arguments i f n) (e.more_arguments j f m) s
   unfolding e.more_arguments
-  more-arguments f over s = endless (fresh-bind _ (λ q last u. fresh-may (mark marks.Comma) _ _ last (fresh-bind _ (λ t k v. finished) (λ y us v z. tt) (take-mark {F = Free} marks.RightParenthesis refl (record { tokens = []; last = last })).fresh) (on-head _ (λ us. refl))) (λ y us v z. closing y us z) (argument f s).fresh)
+  more-arguments f over s = endless (fresh-bind _ (λ q last u. fresh-may (mark marks.Comma) _ _ last (fresh-bind _ (λ t k v. finished) (λ y us v z. tt) (take-mark {lim = lim} {F = Free} marks.RightParenthesis refl (record { tokens = []; last = last })).fresh) (on-head _ (λ us. refl))) (λ y us v z. closing y us z) (argument f s).fresh)
   more-arguments f (turn w) s = bind _ _ (argument f s) (λ a c. may _ _ _ _ _ c (λ t d. past (bind _ _ (more-arguments f w d) (λ x k. done) (λ y us t. tt))) (bind _ _ (take-mark {F = Free} marks.RightParenthesis refl c) (λ t d. done) (λ y us t. tt)) (on-head _ (λ us. refl))) closing
 
-  arguments : (f : Flags) (s : Input) → Viable Free Any (λ us. Head (Punctuator marks.RightParenthesis) us) (e.arguments i f) (e.arguments j f) s
+  arguments : (f : Flags) (s : Input) → Viable lim Free Any (λ us. Head (Punctuator marks.RightParenthesis) us) (e.arguments i f) (e.arguments j f) s
   unfolding e.arguments
   arguments f s = must (mark marks.RightParenthesis) (Punctuator marks.RightParenthesis) (fill (Punctuator marks.RightParenthesis)) refl _ _ _ _ s (λ t c. done) (more-arguments f h.turns s).half
 
-  properties : (f : Flags) {n m : ℕ} (w : Turns (suc l) n m) (s : Input) → Viable Free Any (λ us. Head (Punctuator marks.RightBrace) us) (e.properties i f n) (e.properties j f m) s
+  properties : (f : Flags) {n m : ℕ} (w : Turns (suc l) n m) (s : Input) → Viable lim Free Any (λ us. Head (Punctuator marks.RightBrace) us) (e.properties i f n) (e.properties j f m) s
   unfolding e.properties
   properties f over s = endless (record { more = Punctuator marks.RightBrace ∷ []; value = []; last = 0; ok = tt; reads = λ us h. refl; starts = λ us h. head })
   properties f (turn w) s = must (mark marks.RightBrace) (Punctuator marks.RightBrace) (fill (Punctuator marks.RightBrace)) refl _ _ _ _ s (λ t c. done)
       (bind-half _ _ (h.property f s).half (λ x c. may _ _ _ _ _ c (λ t d. past (bind _ _ (properties f w d) (λ y k. done) (λ y us t. tt))) (bind _ _ (take-mark {F = Free} marks.RightBrace refl c) (λ t d. done) (λ y us t. tt)) (on-head _ (λ us. refl))) (λ y us t. t))
 
-  held-parts : (f : Flags) (role : Role) {n m : ℕ} (w : Turns (suc l) n m) (s : Input) → Viable (λ y us. Head (Punctuator marks.RightParenthesis) us) ClosesHeld (λ us. Head x_ us) (e.held_parts i f role n) (e.held_parts j f role m) s
+  held-parts : (f : Flags) (role : Role) {n m : ℕ} (w : Turns (suc l) n m) (s : Input) → Viable lim (λ y us. Head (Punctuator marks.RightParenthesis) us) ClosesHeld (λ us. Head x_ us) (e.held_parts i f role n) (e.held_parts j f role m) s
   unfolding e.held_parts
   held-parts f role over s = endless (fresh-bind _ (λ x last u. fresh-may (mark marks.Comma) _ _ last (finished-ok refl) (on-head _ (λ us. refl))) (λ y us v z. closing y us z) (h.assignment (with_in f) s).fresh)
   held-parts f role (turn w) s = bind _ _ (h.assignment (with_in f) s) (λ x c. may _ _ _ _ _ c (λ t d. past (looks-no _ _ _ _ _ d rests (bind-if _ _ (held-parts f role w d) (λ y k. rests) (λ y last ok. finished-ok ok) (λ y us ok z. z)) (on-head _ (λ us. no-dots role us)))) (done-ok refl) (on-head _ (λ us. refl))) closing
@@ -238,20 +253,20 @@ module _ {l : ℕ} (i j : Inner) (h : Better l i j) where
       no-rest [] e = false≢true e
       no-rest (t ∷ ts) e = false≢true (sym (ap (λ b. b && next_mark marks.Ellipsis t) leads) ∙ e)
 
-  held-leading : (f : Flags) (at : ℕ) (s : Input) → Viable Follow (Allowed Leading j.fuel) (λ us. Head x_ us) (e.held_group i f Leading at) (e.held_group j f Leading at) s
+  held-leading : (f : Flags) (at : ℕ) (s : Input) → Viable lim Follow (Allowed Leading j.fuel) (λ us. Head x_ us) (e.held_group i f Leading at) (e.held_group j f Leading at) s
   unfolding e.held_group
   held-leading f at s = begins (primary'.held_group_from i f Leading at) (primary'.held_group_from j f Leading at) s head-zero (λ place. bind-if _ _ (held-parts f Leading h.turns s)
       (λ k c. half-either k.before_rest _ _ _ _ c (half-begins (primary'.rest_from at (e.whole place k) (parameters_of i.fuel (k.first ∷ k.more))) (primary'.rest_from at (e.whole place k) (parameters_of j.fuel (k.first ∷ k.more))) c
       (λ dots. rest-after Leading j.fuel refl at dots place k (deeper (λ n. parameters_of n (k.first ∷ k.more)) (λ m more. kept-parameters-of m more (k.first ∷ k.more)) h.turns) c)) (closed-group Leading j.fuel at (e.whole place k) c).half)
-      (λ k last ok. fresh-choice-no k.before_rest ok _ _ last (closed-group Leading j.fuel at (e.whole place k) (record { tokens = []; last = last })).fresh) (λ k us ok z. z))
+      (λ k last ok. fresh-choice-no k.before_rest ok _ _ last (closed-group Leading j.fuel {lim = lim} at (e.whole place k) (record { tokens = []; last = last })).fresh) (λ k us ok z. z))
 
-  held-among : (f : Flags) (role : Role) → is_leading role ≡ false → (at : ℕ) (s : Input) → Viable Follow (Allowed role j.fuel) (λ us. Head x_ us) (e.held_group i f role at) (e.held_group j f role at) s
+  held-among : (f : Flags) (role : Role) → is_leading role ≡ false → (at : ℕ) (s : Input) → Viable lim Follow (Allowed role j.fuel) (λ us. Head x_ us) (e.held_group i f role at) (e.held_group j f role at) s
   unfolding e.held_group
   held-among f role leads at s = begins (primary'.held_group_from i f role at) (primary'.held_group_from j f role at) s head-zero (λ place. bind-seen _ _ (held-parts f role h.turns s)
       (λ k c seen. half-choice-no k.before_rest (of_took {Q = λ k c. ClosesHeld k} {x = k} {c = c} (subst (λ o. Holds (λ k c. ClosesHeld k) o) seen (held-closes f role leads i.fuel s))) _ _ _ _ c (closed-group role j.fuel at (e.whole place k) c).half)
-      (λ k last ok. fresh-choice-no k.before_rest ok _ _ last (closed-group role j.fuel at (e.whole place k) (record { tokens = []; last = last })).fresh) (λ k us ok z. z))
+      (λ k last ok. fresh-choice-no k.before_rest ok _ _ last (closed-group role j.fuel {lim = lim} at (e.whole place k) (record { tokens = []; last = last })).fresh) (λ k us ok z. z))
 
-  grouped : (f : Flags) (role : Role) (at : ℕ) (s : Input) → Viable Follow (Allowed role j.fuel) (λ us. Head x_ us) (e.grouped i f role at) (e.grouped j f role at) s
+  grouped : (f : Flags) (role : Role) (at : ℕ) (s : Input) → Viable lim Follow (Allowed role j.fuel) (λ us. Head x_ us) (e.grouped i f role at) (e.grouped j f role at) s
   unfolding e.grouped
   grouped f Leading at s = may (mark marks.RightParenthesis) _ _ _ _ s (λ t c. past (covered Leading j.fuel refl at None None (empty-refines j.fuel) c)) (begins (primary'.dots_from i f Leading at) (primary'.dots_from j f Leading at) s head-zero (λ dots. may (mark marks.Ellipsis) _ _ _ _ s
       (λ t c. past (covered-rest Leading j.fuel refl at dots None (rest-refines j.fuel) c)) (held-leading f at s) (on-head _ (λ us. refl)))) (on-head _ (λ us. refl))
@@ -259,55 +274,55 @@ module _ {l : ℕ} (i j : Inner) (h : Better l i j) where
   grouped f Heritage at s = held-among f Heritage refl at s
   grouped f Callee at s = held-among f Callee refl at s
 
-  bracketed : (f : Flags) (role : Role) (at : ℕ) (s : Input) → Partly Follow (Allowed role j.fuel) (e.bracketed i f role at) (e.bracketed j f role at) s
+  bracketed : (f : Flags) (role : Role) (at : ℕ) (s : Input) → Partly lim Follow (Allowed role j.fuel) (e.bracketed i f role at) (e.bracketed j f role at) s
   unfolding e.bracketed
   bracketed f role at s = half-group i j h.opens marks.LeftBracket _ _ _ _ s (λ c. past (bind _ _ (elements f h.turns c) (λ k d. done-ok tt) (λ y us t. tt)))
       (half-group i j h.opens marks.LeftBrace _ _ _ _ s (λ c. past (bind _ _ (properties f h.turns c) (λ x d. done-ok tt) (λ y us t. tt))) (no-operand role (e.no_operand role) s))
 
-  composed : (f : Flags) (role : Role) (at : ℕ) (s : Input) → Partly Follow (Allowed role j.fuel) (e.composed i f role at) (e.composed j f role at) s
+  composed : (f : Flags) (role : Role) (at : ℕ) (s : Input) → Partly lim Follow (Allowed role j.fuel) (e.composed i f role at) (e.composed j f role at) s
   unfolding e.composed
   composed f role at s = half-on _ _ _ _ _ s (λ t c. past (bind _ _ (function i j h true at c) (λ x d. done-ok tt) (λ y us t. tt))) (half-on _ _ _ _ _ s (λ t c. past (bind _ _ (class i j h f true at c) (λ x d. done-ok tt) (λ y us t. tt)))
       (half-template i j h f at _ _ _ _ s (λ m c. done-ok tt) (half-group i j h.opens marks.LeftParenthesis _ _ _ _ s (λ c. past (grouped f role at c)) (bracketed f role at s))))
 
-  primary : (f : Flags) (role : Role) (at : ℕ) (s : Input) → Viable Follow (Allowed role j.fuel) (λ us. Head x_ us) (e.primary i f role at) (e.primary j f role at) s
+  primary : (f : Flags) (role : Role) (at : ℕ) (s : Input) → Viable lim Follow (Allowed role j.fuel) (λ us. Head x_ us) (e.primary i f role at) (e.primary j f role at) s
   unfolding e.primary
   primary f role at s = may _ _ _ _ _ s (λ t c. past (done-ok tt)) (must free_name x_ (codes "x") x-free _ _ _ _ s (λ name c. done-ok tt) (half-on _ _ _ _ _ s (λ t c. past (done-ok tt)) (composed f role at s))) (on-head _ (λ us. refl))
 
-  after-new : (f : Flags) (role : Role) (at : ℕ) (s : Input) → Viable Follow (Allowed role j.fuel) (λ us. Head x_ us) (e.after_new i f at) (e.after_new j f at) s
+  after-new : (f : Flags) (role : Role) (at : ℕ) (s : Input) → Viable lim Follow (Allowed role j.fuel) (λ us. Head x_ us) (e.after_new i f at) (e.after_new j f at) s
   unfolding e.after_new e.after_callee
   after-new f role at s = may _ _ _ _ _ s (λ t c. past (bind _ _ (take-word {F = Free} (codes "target") refl c) (λ u d. done-ok tt) (λ y us t. tt)))
       (bind _ _ (h.callee f s) (λ x c. group-may i j h.opens marks.LeftParenthesis _ _ _ _ c (λ d. past (bind _ _ (arguments f d) (λ y k. done-ok tt) (λ y us t. tt))) (done-ok tt) no-call) (λ y us t. t)) (on-head _ (λ us. refl))
 
-  after-super : (f : Flags) (role : Role) (at : ℕ) (s : Input) → Viable Follow (Allowed role j.fuel) (λ us. Head (Punctuator marks.Dot) us) (e.after_super i f role at) (e.after_super j f role at) s
+  after-super : (f : Flags) (role : Role) (at : ℕ) (s : Input) → Viable lim Follow (Allowed role j.fuel) (λ us. Head (Punctuator marks.Dot) us) (e.after_super i f role at) (e.after_super j f role at) s
   unfolding e.after_super e.super_call
   after-super f role at s = must (mark marks.Dot) (Punctuator marks.Dot) (fill (Punctuator marks.Dot)) refl _ _ _ _ s (λ t c. bind _ _ (any-name c) (λ n d. done-ok tt) (λ y us t. tt))
       (half-group i j h.opens marks.LeftBracket _ _ _ _ s (λ c. past (bind _ _ (h.sequence (with_in f) c) (λ x d. bind _ _ (take-mark {F = Free} marks.RightBracket refl d) (λ t k. done-ok tt) (λ y us t. tt)) bracket-closes))
       (half-either (has_calls role) _ _ _ _ s (half-group i j h.opens marks.LeftParenthesis _ _ _ _ s (λ c. past (bind _ _ (arguments f c) (λ x d. done-ok tt) (λ y us t. tt))) (nowhere s)) (nowhere s)))
 
-  head_ : (f : Flags) (role : Role) (at : ℕ) (s : Input) → Viable Follow (Allowed role j.fuel) (λ us. Head x_ us) (e.head i f role at) (e.head j f role at) s
+  head_ : (f : Flags) (role : Role) (at : ℕ) (s : Input) → Viable lim Follow (Allowed role j.fuel) (λ us. Head x_ us) (e.head i f role at) (e.head j f role at) s
   unfolding e.head
   head_ f role at s = may _ _ _ _ _ s (λ t c. past (after-new f role at c)) (may _ _ _ _ _ s (λ t c. past (after-super f role at c)) (primary f role at s) (on-head _ (λ us. refl))) (on-head _ (λ us. refl))
 
   -- ## Accesses and calls
 
-  member-link : (at : ℕ) (s : Input) → Viable Free Any (λ us. Head x_ us) (e.member_link at) (e.member_link at) s
+  member-link : (at : ℕ) (s : Input) → Viable lim Free Any (λ us. Head x_ us) (e.member_link at) (e.member_link at) s
   unfolding e.member_link
   member-link at s = bind _ _ (any-name s) (λ n c. done) (λ y us t. tt)
 
-  index : (f : Flags) (at : ℕ) (s : Input) → Viable Free Any (λ us. Head x_ us) (e.index_link i f at) (e.index_link j f at) s
+  index : (f : Flags) (at : ℕ) (s : Input) → Viable lim Free Any (λ us. Head x_ us) (e.index_link i f at) (e.index_link j f at) s
   unfolding e.index_link
   index f at s = bind _ _ (h.sequence (with_in f) s) (λ x c. bind _ _ (take-mark {F = Free} marks.RightBracket refl c) (λ t d. done) (λ y us t. tt)) bracket-closes
 
-  call : (f : Flags) (at : ℕ) (s : Input) → Viable Free Any (λ us. Head (Punctuator marks.RightParenthesis) us) (e.call_link i f at) (e.call_link j f at) s
+  call : (f : Flags) (at : ℕ) (s : Input) → Viable lim Free Any (λ us. Head (Punctuator marks.RightParenthesis) us) (e.call_link i f at) (e.call_link j f at) s
   unfolding e.call_link
   call f at s = bind _ _ (arguments f s) (λ x c. done) (λ y us t. tt)
 
   on-link : {F : List Link → List Filled → Type 0} {P : List Link → Type 0} {S : Link → List Filled → Type 0} (f : Flags) (calls : Bool) (at : ℕ) (p p' : Link → Parser (List Link)) (q q' : Parser (List Link)) (s : Input)
-      → ((x : Link) (c : Input) → Viable F P (S x) (p x) (p' x) c) → Partly F P q q' s → Partly F P (e.on_link i f calls at p q) (e.on_link j f calls at p' q') s
+      → ((x : Link) (c : Input) → Viable lim F P (S x) (p x) (p' x) c) → Partly lim F P q q' s → Partly lim F P (e.on_link i f calls at p q) (e.on_link j f calls at p' q') s
   on-link f calls at p p' q q' s k g = half-on _ _ _ _ _ s (λ t c. past (bind _ _ (member-link _ c) (λ x d. k x d) (λ y us t. tt))) (half-group i j h.opens marks.LeftBracket _ _ _ _ s (λ c. past (bind _ _ (index f _ c) (λ x d. k x d) (λ y us t. tt)))
       (half-template i j h f _ _ _ _ _ s (λ m c. k _ c) (half-either calls _ _ _ _ s (half-group i j h.opens marks.LeftParenthesis _ _ _ _ s (λ c. past (bind _ _ (call f _ c) (λ x d. k x d) (λ y us t. tt))) g) g)))
 
-  links : (f : Flags) (calls : Bool) {n m : ℕ} (w : Turns (suc l) n m) (s : Input) → Viable (λ y us. After us) Any (λ us. After us) (e.links i f calls n) (e.links j f calls m) s
+  links : (f : Flags) (calls : Bool) {n m : ℕ} (w : Turns (suc l) n m) (s : Input) → Viable lim (λ y us. After us) Any (λ us. After us) (e.links i f calls n) (e.links j f calls m) s
   unfolding e.links
   links f calls over s = endless (nothing-more [] s.last tt (λ us k. links-none j f calls l us s.last k))
   links f calls (turn {n = n} {m = m} w) s = record {
@@ -316,7 +331,7 @@ module _ {l : ℕ} (i j : Inner) (h : Better l i j) where
   }
 
   -- behind one there are some
-  links-some : (f : Flags) (calls : Bool) {n m : ℕ} (w : Turns (suc l) n m) (s : Input) → Partly (λ y us. After us) NonEmpty (e.links i f calls n) (e.links j f calls m) s
+  links-some : (f : Flags) (calls : Bool) {n m : ℕ} (w : Turns (suc l) n m) (s : Input) → Partly lim (λ y us. After us) NonEmpty (e.links i f calls n) (e.links j f calls m) s
   unfolding e.links
   links-some f calls over s = stops
   links-some f calls (turn {n = n} {m = m} w) s = half-begins (primary'.links_from i f calls (e.links i f calls n)) (primary'.links_from j f calls (e.links j f calls m)) s (λ place. on-link f calls _ _ _ _ _ s (λ x c. bind _ _ (links f calls w c) (λ ls d. done-ok tt) (λ y us t. t)) rests)
@@ -329,7 +344,7 @@ module _ {l : ℕ} (i j : Inner) (h : Better l i j) where
   links-end f calls role at x {m = suc m} w last ok = nothing-more x last ok (λ us k. ap (λ o. after o (λ ls. made at (e.chained x ls))) (links-none j f calls m us last (follow-after x.shape us k)))
   links-end f calls role at x {m = zero} w last ok = absurd (turns-left w)
 
-  pub chain : (f : Flags) (role : Role) (s : Input) → Viable Follow (Allowed role j.fuel) (λ us. Head x_ us) (e.chain i f role) (e.chain j f role) s
+  pub chain : (f : Flags) (role : Role) (s : Input) → Viable lim Follow (Allowed role j.fuel) (λ us. Head x_ us) (e.chain i f role) (e.chain j f role) s
   unfolding e.chain
   chain f role s = begins (primary'.chain_from i f role) (primary'.chain_from j f role) s head-zero (λ place. bind-if _ _ (head_ f role _ s)
       (λ x c. half-bind _ _ (λ ls last u. chained-fresh role place x ls last u) (λ y us u k. k) _ (links-some f (has_calls role) h.turns c) (λ ls d e. rests))
@@ -337,31 +352,31 @@ module _ {l : ℕ} (i j : Inner) (h : Better l i j) where
 
   -- ## Operators
 
-  postfix : (f : Flags) (role : Role) (s : Input) → Viable Follow (Allowed role j.fuel) (λ us. Head x_ us) (e.postfix i f role) (e.postfix j f role) s
+  postfix : (f : Flags) (role : Role) (s : Input) → Viable lim Follow (Allowed role j.fuel) (λ us. Head x_ us) (e.postfix i f role) (e.postfix j f role) s
   unfolding e.postfix
   postfix f role s = begins (levels'.postfix_from i f role) (levels'.postfix_from j f role) s head-zero (λ place. bind-if _ _ (chain f role s) (λ x c. half-on _ _ _ _ _ c (λ op d. past (done-ok tt)) rests)
       (λ y last ok. fresh-may after_at _ _ last (finished-ok ok) (λ us k. no-postfix us (follow-after y.shape us k))) (λ y us ok k. k))
 
-  prefixed : (f : Flags) (role : Role) (at : ℕ) (op : UnaryOperator) (s : Input) → Viable Follow (Allowed role j.fuel) (λ us. Head x_ us) (e.prefixed i f at op) (e.prefixed j f at op) s
+  prefixed : (f : Flags) (role : Role) (at : ℕ) (op : UnaryOperator) (s : Input) → Viable lim Follow (Allowed role j.fuel) (λ us. Head x_ us) (e.prefixed i f at op) (e.prefixed j f at op) s
   unfolding e.prefixed
   prefixed f role at op s = bind _ _ (h.unary f s) (λ x c. done-ok tt) (λ y us t. t)
 
-  update : (f : Flags) (role : Role) (s : Input) → Viable Follow (Allowed role j.fuel) (λ us. Head x_ us) (e.update i f role) (e.update j f role) s
+  update : (f : Flags) (role : Role) (s : Input) → Viable lim Follow (Allowed role j.fuel) (λ us. Head x_ us) (e.update i f role) (e.update j f role) s
   unfolding e.update e.updated
   update f role s = begins (levels'.update_from i f role) (levels'.update_from j f role) s head-zero (λ place. may before_at _ _ _ _ s (λ op c. past (bind _ _ (h.unary f c) (λ x d. done-ok tt) (λ y us t. t))) (postfix f role s) (on-head _ (λ us. refl)))
 
-  pub unary : (f : Flags) (s : Input) → Viable Follow (Allowed Among j.fuel) (λ us. Head x_ us) (e.unary i f) (e.unary j f) s
+  pub unary : (f : Flags) (s : Input) → Viable lim Follow (Allowed Among j.fuel) (λ us. Head x_ us) (e.unary i f) (e.unary j f) s
   unfolding e.unary
   unary f s = begins (levels'.unary_from i f) (levels'.unary_from j f) s head-zero (λ place. may unary_at _ _ _ _ s (λ op c. past (prefixed f Among _ op c)) (update f Among s) (on-head _ (λ us. x-no-unary)))
 
-  pub power : (f : Flags) (role : Role) (s : Input) → Viable Follow (Allowed role j.fuel) (λ us. Head x_ us) (e.power i f role) (e.power j f role) s
+  pub power : (f : Flags) (role : Role) (s : Input) → Viable lim Follow (Allowed role j.fuel) (λ us. Head x_ us) (e.power i f role) (e.power j f role) s
   unfolding e.power e.raised
   power f role s = begins (levels'.power_from i f role) (levels'.power_from j f role) s head-zero (λ place. may unary_at _ _ _ _ s (λ op c. past (prefixed f role _ op c))
       (bind-if _ _ (update f role s) (λ x c. half-on _ _ _ _ _ c (λ t d. past (bind _ _ (h.power f d) (λ y k. done-ok tt) (λ y us t. t))) rests) (λ y last ok. fresh-may (mark marks.StarStar) _ _ last (finished-ok ok) (λ us k. no-power us (follow-after y.shape us k))) (λ y us ok k. k))
       (on-head _ (λ us. x-no-unary)))
 
-  module _ (f : Flags) (level : ℕ) (q q' : Parser Reading) (k : (s : Input) → Viable (λ y us. After us) Any (λ us. Head x_ us) q q' s) where
-    operands : {n m : ℕ} (w : Turns (suc l) n m) (s : Input) → Viable (λ y us. After us) Any (λ us. After us) (e.operands q f level n) (e.operands q' f level m) s
+  module _ (f : Flags) (level : ℕ) (q q' : Parser Reading) (k : (s : Input) → Viable lim (λ y us. After us) Any (λ us. Head x_ us) q q' s) where
+    operands : {n m : ℕ} (w : Turns (suc l) n m) (s : Input) → Viable lim (λ y us. After us) Any (λ us. After us) (e.operands q f level n) (e.operands q' f level m) s
     unfolding e.operands
     operands over s = endless (nothing-more [] s.last tt (λ us a. operands-none f level q' l us s.last a))
     operands (turn {n = n} {m = m} w) s = record {
@@ -369,7 +384,7 @@ module _ {l : ℕ} (i j : Inner) (h : Better l i j) where
       fresh = nothing-more [] s.last tt (λ us a. operands-none f level q' m us s.last a);
     }
 
-    operands-some : {n m : ℕ} (w : Turns (suc l) n m) (s : Input) → Partly (λ y us. After us) NonEmpty (e.operands q f level n) (e.operands q' f level m) s
+    operands-some : {n m : ℕ} (w : Turns (suc l) n m) (s : Input) → Partly lim (λ y us. After us) NonEmpty (e.operands q f level n) (e.operands q' f level m) s
     unfolding e.operands
     operands-some over s = stops
     operands-some (turn w) s = half-on _ _ _ _ _ s (λ op c. past (bind _ _ (k c) (λ x d. bind _ _ (operands w d) (λ y z. done-ok tt) (λ y us t. t)) (λ y us t. t))) rests
@@ -382,48 +397,53 @@ module _ {l : ℕ} (i j : Inner) (h : Better l i j) where
   operated-fresh role at x [] last u = absurd u
   operated-fresh role at x (y ∷ os) last u = finished-ok tt
 
-  binary_ : (f : Flags) (role : Role) (up level : ℕ) (s : Input) → Viable Follow (Allowed role j.fuel) (λ us. Head x_ us) (e.binary_from i f role up level) (e.binary_from j f role up level) s
+  binary_ : (f : Flags) (role : Role) (up level : ℕ) (s : Input) → Viable lim Follow (Allowed role j.fuel) (λ us. Head x_ us) (e.binary_from i f role up level) (e.binary_from j f role up level) s
   unfolding e.binary_from
   binary_ f role zero level s = power f role s
   binary_ f role (suc up) level s = begins (levels'.binary_body i f role up level) (levels'.binary_body j f role up level) s head-zero (λ place. bind-if _ _ (binary_ f role up _ s)
       (λ x c. half-bind _ _ (λ os last u. operated-fresh role place x os last u) (λ y us u k. k) _ (operands-some f level _ _ (λ d. weaken (λ y ok. tt) (λ y us ok k. among-follow j.fuel y.shape y.value ok us k) (binary_ f Among up (level + 1) d)) h.turns c) (λ os d e. rests))
       (λ x last ok. operands-end f level _ _ (λ d. weaken (λ y ok. tt) (λ y us ok k. among-follow j.fuel y.shape y.value ok us k) (binary_ f Among up (level + 1) d)) role place x h.turns last ok) (λ x us ok k. k))
 
-  branches : (f : Flags) (at : ℕ) (test : Expression) (s : Input) → Viable End_ (Allowed Leading j.fuel) (λ us. Head x_ us) (e.branches i f at test) (e.branches j f at test) s
+  branches : (f : Flags) (at : ℕ) (test : Expression) (s : Input) → Viable lim End_ (Allowed Leading j.fuel) (λ us. Head x_ us) (e.branches i f at test) (e.branches j f at test) s
   unfolding e.branches
   branches f at test s = bind _ _ (h.assignment (with_in f) s) (λ y c. bind _ _ (take-mark {F = Free} marks.Colon refl c) (λ u d. bind _ _ (h.assignment f d) (λ z k. done-ok tt) (λ y us t. t)) (λ y us t. tt)) colon-closes
 
-  conditional : (f : Flags) (s : Input) → Viable End_ (Allowed Leading j.fuel) (λ us. Head x_ us) (e.conditional i f) (e.conditional j f) s
+  conditional : (f : Flags) (s : Input) → Viable lim End_ (Allowed Leading j.fuel) (λ us. Head x_ us) (e.conditional i f) (e.conditional j f) s
   unfolding e.conditional
   conditional f s = begins (levels'.conditional_from i f) (levels'.conditional_from j f) s head-zero (λ place. bind-if _ _ (binary_ f Leading 10 3 s) (λ x c. half-on _ _ _ _ _ c (λ t d. past (branches f _ x.value d)) rests)
       (λ y last ok. fresh-may (mark marks.Question) _ _ last (finished-ok ok) (λ us k. no-question us (follow-after y.shape us (end-follow y.shape us k)))) (λ y us ok k. end-follow y.shape us k))
 
   -- ## Arrows and assignments
 
-  arrow-body : (f : Flags) (at : ℕ) (es : List Parameter) (s : Input) → Viable (λ y us. Closer false us) Any (λ us. Head x_ us) (e.arrow_body i f at es) (e.arrow_body j f at es) s
+  arrow-body : (f : Flags) (at : ℕ) (es : List Parameter) (s : Input) → Viable lim (λ y us. Closer false us) Any (λ us. Head x_ us) (e.arrow_body i f at es) (e.arrow_body j f at es) s
   unfolding e.arrow_body
   arrow-body f at es s = looks-no _ _ _ _ _ s (bind-half _ _ (h.block (of_function false) s).half (λ b c. done) (λ y us t. tt)) (bind _ _ (h.assignment (of_arrow f) s) (λ x c. done) (λ y us t. t)) (on-head _ (λ us. refl))
 
-  arrow-if : (f : Flags) (at : ℕ) (x : Reading) {r r' : Refined (List Parameter)} → Deeper (suc l) r r' → (s : Input) → Partly (λ y us. Closer false us) Any (e.arrow_if i f at x r) (e.arrow_if j f at x r') s
+  arrow-if : (f : Flags) (at : ℕ) (x : Reading) {r r' : Refined (List Parameter)} → Deeper (suc l) r r' → (s : Input) → Partly lim (λ y us. Closer false us) Any (e.arrow_if i f at x r) (e.arrow_if j f at x r') s
   arrow-if f at x {r = Fits es} as_before s = half-on _ _ _ _ _ s (λ t c. past (arrow-body f at es c)) (nowhere s)
   arrow-if f at x {r = Misfit place} as_before s = half-either (is_covered x.shape) _ _ _ _ s (nowhere s) rests
   arrow-if f at x {r = TooNested} as_before s = stops
   arrow-if f at x (nested_less m) s = stops
 
-  assigned-by : (f : Flags) (at : ℕ) (op : AssignOperator) {r r' : Refined Pattern} → Deeper (suc l) r r' → ((place : ℕ) → r ≡ Misfit place → ⊥) → (s : Input)
-      → Onward true (λ y us. Closer false us) Any (◌>>=◌ (e.fitting r) (λ q. ◌>>=◌ (i.assignment f) (λ y. made at (λ span. e.other (expr.Assign span op q y.value))))) (◌>>=◌ (e.fitting r') (λ q. ◌>>=◌ (j.assignment f) (λ y. made at (λ span. e.other (expr.Assign span op q y.value))))) s
-  assigned-by f at op {r = Fits q} as_before n s = past (bind _ _ (h.assignment f s) (λ y d. done) (λ y us t. t))
-  assigned-by f at op {r = Misfit place} as_before n s = absurd (n place refl)
-  assigned-by f at op {r = TooNested} as_before n s = used_up refl refl
-  assigned-by f at op (nested_less m) n s = used_up refl refl
+  -- where what nests too far is given up
+  assigned-by : (f : Flags) (at : ℕ) (x : Reading) (op : AssignOperator) {r r' : Refined Pattern} → Deeper (suc l) r r' → is_left x.shape ≡ true → target_before i.fuel op x.value ≡ r → (s : Input)
+      → Onward (unsettled lim i.fuel x) (λ y us. Closer false us) Any (◌>>=◌ (e.fitting r) (λ q. ◌>>=◌ (i.assignment f) (λ y. made at (λ span. e.other (expr.Assign span op q y.value))))) (◌>>=◌ (e.fitting r') (λ q. ◌>>=◌ (j.assignment f) (λ y. made at (λ span. e.other (expr.Assign span op q y.value))))) s
+  assigned-by f at x op {r = Fits q} as_before left k s = past (goes-within (λ n a. inl a) (bind _ _ (h.assignment f s) (λ y d. done) (λ y us t. t)))
+  assigned-by f at x op {r = Misfit place} as_before left k s = absurd (never-misfit i.fuel op x.value place k)
+  assigned-by f at x op {r = TooNested} as_before left k s = used_up (inr (left, (op, k)))
+  assigned-by f at x op (nested_less m) left k s = used_up (inr (left, (op, k)))
 
-  pub assigned-with : (f : Flags) (at : ℕ) (x : Expression) (op : AssignOperator) (s : Input) → Onward true (λ y us. Closer false us) Any (e.assigned_with i f at x op) (e.assigned_with j f at x op) s
+  assigned-with : (f : Flags) (at : ℕ) (x : Reading) (op : AssignOperator) → is_left x.shape ≡ true → (s : Input) → Onward (unsettled lim i.fuel x) (λ y us. Closer false us) Any (e.assigned_with i f at x.value op) (e.assigned_with j f at x.value op) s
   unfolding e.assigned_with
-  assigned-with f at x op s = assigned-by f at op (deeper (λ n. target_before n op x) (λ k more. kept-before k more op x) h.turns) (λ place e. never-misfit i.fuel op x place e) s
+  assigned-with f at x op left s = assigned-by f at x op (deeper (λ n. target_before n op x.value) (λ k more. kept-before k more op x.value) h.turns) left refl s
 
-  after-half : (f : Flags) (at : ℕ) (x : Reading) (s : Input) → Partly (λ y us. Closer false us) Any (e.after_conditional i f at x) (e.after_conditional j f at x) s
+  after-half : (f : Flags) (at : ℕ) (x : Reading) (s : Input) → Partly (unsettled lim i.fuel x) (λ y us. Closer false us) Any (e.after_conditional i f at x) (e.after_conditional j f at x) s
   unfolding e.after_conditional
-  after-half f at x s = half-looks _ _ _ _ _ s (arrow-if f at x (deeper (λ n. e.parameters_before n x.shape x.value) (λ k more. kept-parameters-before k more x.shape x.value) h.turns) s) (half-either (is_left x.shape) _ _ _ _ s (half-set assign_at _ _ _ _ s (λ t op e. ap (λ o. is_some o || is_word (codes "of") t.kind) e) (λ op c. assigned-with f at _ op c) rests) rests)
+  after-half f at x s = half-looks _ _ _ _ _ s (half-within (λ n a. inl a) (arrow-if f at x (deeper (λ n. e.parameters_before n x.shape x.value) (λ k more. kept-parameters-before k more x.shape x.value) h.turns) s)) (by (is_left x.shape) refl)
+    where
+      by : (v : Bool) → is_left x.shape ≡ v → Partly (unsettled lim i.fuel x) (λ y us. Closer false us) Any (choose v (on assign_at (λ op. e.assigned_with i f at x.value op) (returns x)) (returns x)) (choose v (on assign_at (λ op. e.assigned_with j f at x.value op) (returns x)) (returns x)) s
+      by true k = half-on _ _ _ _ _ s (λ op c. assigned-with f at x op k c) rests
+      by false k = rests
 
   after-fresh : (f : Flags) (at : ℕ) (x : Expression) (sh : Shape) (last : ℕ) → AllowedOf Leading j.fuel sh x → Begins (λ (y : Reading) us. Closer false us) Any (λ us. EndOf sh us) (e.after_conditional j f at (record { value = x; shape = sh })) last
   unfolding e.after_conditional
@@ -436,38 +456,45 @@ module _ {l : ℕ} (i j : Inner) (h : Better l i j) where
       (fresh-must arrow_at (Punctuator marks.Arrow) (fill (Punctuator marks.Arrow)) refl _ _ last (free (arrow-body f at es (record { tokens = []; last = 0 })).fresh)))
       (on-head _ (λ us. refl))
 
-  after-yield : (f : Flags) (at : ℕ) (s : Input) → Viable (λ y us. Closer false us) Any (λ us. Closer false us) (e.after_yield i f at) (e.after_yield j f at) s
+  after-yield : (f : Flags) (at : ℕ) (s : Input) → Viable lim (λ y us. Closer false us) Any (λ us. Closer false us) (e.after_yield i f at) (e.after_yield j f at) s
   unfolding e.after_yield
   after-yield f at s = may _ _ _ _ _ s (λ t c. past (bind _ _ (h.assignment f c) (λ x d. done) (λ y us t. t))) (looks-no _ _ _ _ _ s (bind-half _ _ (h.assignment f s).half (λ x c. done) (λ y us t. t)) done no-value) no-star
 
-  without-yield : (f : Flags) (at : ℕ) (s : Input) → Viable (λ y us. Closer false us) Any (λ us. Head x_ us) (e.without_yield i f at) (e.without_yield j f at) s
-  unfolding e.without_yield
-  without-yield f at s = bind-if _ _ (conditional f s) (λ x c. after-half f at x c) (λ y last ok. after-fresh f at y.value y.shape last ok) (λ y us ok k. k)
+  conditional-left : (f : Flags) (s : Input) → Sound i → (x : Reading) (c : Input) → e.conditional i f s ≡ Took x c → LeftIn f s x c
+  conditional-left f s sound x c seen = of_took {Q = λ y d. LeftIn f s y d} {x = x} {c = c} (subst (λ o. Holds (λ y d. LeftIn f s y d) o) seen (left-conditional i sound f s))
 
-  pub assignment : (f : Flags) (s : Input) → Viable (λ y us. Closer false us) Any (λ us. Head x_ us) (e.assignment i f) (e.assignment j f) s
+  given-up : (f : Flags) (s : Input) (x : Reading) (c : Input) (front : List Filled) → e.conditional i f s ≡ Took x c → s.tokens ≡ front ++ c.tokens → (unsettled lim i.fuel x).allows (length c.tokens) → lim.allows (length s.tokens)
+  given-up f s x c front seen k (inl a) = allowed-before lim front c.tokens k a
+  given-up f s x c front seen k (inr (left, (op, n))) = h.gives_up (length s.tokens) (λ plain. deep-has-tokens (conditional-left f s (h.sound plain) x c seen left) i.fuel op n)
+
+  without-yield : (f : Flags) (at : ℕ) (s : Input) → Viable lim (λ y us. Closer false us) Any (λ us. Head x_ us) (e.without_yield i f at) (e.without_yield j f at) s
+  unfolding e.without_yield
+  without-yield f at s = bind-by _ _ (conditional f s) (λ x c seen. after-half f at x c) (λ x c front seen k a. given-up f s x c front seen k a) (λ y last ok. after-fresh f at y.value y.shape last ok) (λ y us ok k. k)
+
+  pub assignment : (f : Flags) (s : Input) → Viable lim (λ y us. Closer false us) Any (λ us. Head x_ us) (e.assignment i f) (e.assignment j f) s
   unfolding e.assignment
   assignment f s = begins (levels'.assignment_from i f) (levels'.assignment_from j f) s head-zero (λ place. either f.has_yield _ _ _ _ s (may _ _ _ _ _ s (λ t c. past (after-yield f _ c)) (without-yield f _ s) (on-head _ (λ us. refl))) (without-yield f _ s))
 
-  parts : (f : Flags) {n m : ℕ} (w : Turns (suc l) n m) (s : Input) → Viable (λ y us. Closer false us) Any (λ us. Head x_ us) (e.parts i f n) (e.parts j f m) s
+  parts : (f : Flags) {n m : ℕ} (w : Turns (suc l) n m) (s : Input) → Viable lim (λ y us. Closer false us) Any (λ us. Head x_ us) (e.parts i f n) (e.parts j f m) s
   unfolding e.parts
   parts f over s = endless (fresh-bind _ (λ x last u. fresh-may (mark marks.Comma) _ _ last finished no-comma) (λ y us u k. k) (assignment f s).fresh)
   parts f (turn w) s = bind _ _ (assignment f s) (λ x c. may _ _ _ _ _ c (λ t d. past (bind _ _ (parts f w d) (λ y k. done) (λ y us t. t))) done no-comma) (λ y us t. t)
 
-  pub sequence : (f : Flags) (s : Input) → Viable (λ y us. Closer false us) Any (λ us. Head x_ us) (e.sequence i f) (e.sequence j f) s
+  pub sequence : (f : Flags) (s : Input) → Viable lim (λ y us. Closer false us) Any (λ us. Head x_ us) (e.sequence i f) (e.sequence j f) s
   unfolding e.sequence e.more_parts
   sequence f s = begins (levels'.sequence_from i f) (levels'.sequence_from j f) s head-zero (λ place. bind _ _ (assignment f s) (λ x c. may _ _ _ _ _ c (λ t d. past (bind _ _ (parts f h.turns d) (λ y k. done) (λ y us t. t))) done no-comma) (λ y us t. t))
 
   -- ## Properties
 
-  after-key : (f : Flags) (at : ℕ) (k : Key) (s : Input) → Viable (λ y us. Head (Punctuator marks.RightBrace) us) Any (λ us. Head (Punctuator marks.Colon) us) (e.after_key i f at k) (e.after_key j f at k) s
+  after-key : (f : Flags) (at : ℕ) (k : Key) (s : Input) → Viable lim (λ y us. Head (Punctuator marks.RightBrace) us) Any (λ us. Head (Punctuator marks.Colon) us) (e.after_key i f at k) (e.after_key j f at k) s
   unfolding e.after_key e.value_of_key e.method_of_key
   after-key f at k s = must (mark marks.Colon) (Punctuator marks.Colon) (fill (Punctuator marks.Colon)) refl _ _ _ _ s (λ t c. bind _ _ (assignment (with_in f) c) (λ x d. done) brace-closes) (bind-half _ _ (method-after-key i j h _ false at k s).half (λ m c. done) (λ y us t. tt))
 
-  after-name : (f : Flags) (at : ℕ) (n : Identifier) (s : Input) → Viable (λ y us. Head (Punctuator marks.RightBrace) us) Any (λ us. Head (Punctuator marks.RightBrace) us) (e.after_name i f at n) (e.after_name j f at n) s
+  after-name : (f : Flags) (at : ℕ) (n : Identifier) (s : Input) → Viable lim (λ y us. Head (Punctuator marks.RightBrace) us) Any (λ us. Head (Punctuator marks.RightBrace) us) (e.after_name i f at n) (e.after_name j f at n) s
   unfolding e.after_name e.shorthand
   after-name f at n s = looks-no _ _ _ _ _ s (after-key f at _ s).half (may _ _ _ _ _ s (λ t c. past (bind _ _ (h.assignment (with_in f) c) (λ x d. done) brace-closes)) done (on-head _ (λ us. refl))) (on-head _ (λ us. refl))
 
-  pub property : (f : Flags) (s : Input) → Viable (λ y us. Head (Punctuator marks.RightBrace) us) Any (λ us. Head x_ us) (e.one_property i f) (e.one_property j f) s
+  pub property : (f : Flags) (s : Input) → Viable lim (λ y us. Head (Punctuator marks.RightBrace) us) Any (λ us. Head x_ us) (e.one_property i f) (e.one_property j f) s
   unfolding e.one_property e.after_accessor_word
   property f s = begins (levels'.property_from i f) (levels'.property_from j f) s head-zero (λ place. may _ _ _ _ _ s (λ t c. past (bind _ _ (generator-method i j h f _ c) (λ m d. done) (λ y us t. tt)))
       (may _ _ _ _ _ s (λ setter c. past (looks-yes _ _ _ _ _ c (after-name f _ _ c) (bind-half _ _ (accessor i j h f _ setter c).half (λ m d. done) (λ y us t. tt)) (on-head _ (λ us. refl))))

@@ -1,3 +1,5 @@
+pub mod LeftSides
+pub mod Nesting
 pub mod Viable
 pub mod Completions
 pub mod Parts

@@ -1,12 +1,13 @@
--- No token with which no module goes on stands before a fault.
-use Rattle.std.proofs.Common.{◌≡◌, ◌∙◌, ℕ, zero, suc, ◌+◌, ◌≤◌, ◌<◌, arith, List, [], ◌∷◌, ◌++◌, map, length, take, refl, sym, ap, subst}
+-- No token with which no module goes on stands before a fault, and such a one at it.
+use Rattle.std.proofs.Common.{◌≡◌, ◌∙◌, ℕ, zero, suc, ◌+◌, ◌≤◌, ◌<◌, arith, List, [], ◌∷◌, ◌++◌, map, length, take, append_assoc, refl, sym, ap, subst}
 use Rattle.es6_lexer.specs.declared.token.Token.{Token}
 use Rattle.es6_ast.specs.Semicolons.{SpellsModule}
 use Rattle.es6_ast.specs.Tokens.{Filled, read}
-use Rattle.es6_reading.specs.Laws.{FaultsAreInside}
+use Rattle.es6_reading.specs.Laws.{BeginAlike, FaultsAreInside}
 use Rattle.es6_reading.specs.Modules.{read_module}
 use Rattle.es6_reading.specs.Parser.{Fault}
 use Rattle.es6_viability.specs.Alive.{TokensBeforeFaultsAreAlive, NoDeadTokenIsPassed}
+use Rattle.es6_viability.specs.Spelled.{NoneIsSpelledPastFaults, FaultsAreDead}
 
 -- the tokens of a text that spell the front of a row, and those behind
 pub record Split (tokens : List Token) (rest : List Filled) : Type 0 where
@@ -59,3 +60,27 @@ no-dead inside alive fuel tokens stop rest k final q h dead =
     let le : q + 1 ≤ length s.front = before q (length s.front) (length s.behind) (length tokens) (length rest) h (ap length s.whole ∙ length-both s.front s.behind) (ap length (sym s.left_) ∙ length-read s.behind) in
     let r = prefix (q + 1) s.front s.behind a.0 le in
     dead (r.0, a.1, subst (λ ts. SpellsModule ts a.1) (sym r.1 ∙ ap (λ ts. take (q + 1) ts ++ r.0) (sym s.whole)) a.2)
+
+take-next : (front : List Token) (t : Token) (ts : List Token) → take (suc (length front)) (front ++ t ∷ ts) ≡ front ++ t ∷ []
+take-next [] t ts = refl
+take-next (u ∷ front) t ts = ap (λ us. u ∷ us) (take-next front t ts)
+
+nothing-there : (p n a b r : ℕ) → p + r ≡ n → p < n → n ≡ a + b → r ≡ b → b ≡ 0 → ⊥
+nothing-there p n a b r e l w k z = omega arith
+
+next-there : (p n a b r : ℕ) → p + r ≡ n → n ≡ a + b → r ≡ b → p + 1 ≡ suc a
+next-there p n a b r e w k = omega arith
+
+pub faults-dead : FaultsAreInside → NoneIsSpelledPastFaults → FaultsAreDead
+faults-dead inside none fuel tokens stop rest k final p e l alive =
+    let f = inside fuel (map read tokens) stop rest k in
+    let s = split tokens f.0 rest f.1 in
+    by s.front s.behind s.whole s.left_
+  where
+    by : (front behind : List Token) → tokens ≡ front ++ behind → map read behind ≡ rest → ⊥
+    by front [] w r = nothing-there p (length tokens) (length front) 0 (length rest) e l (ap length w ∙ length-both front []) (ap length (sym r)) refl
+    by front (t ∷ ts) w r =
+        let n : p + 1 ≡ suc (length front) = next-there p (length tokens) (length front) (length (t ∷ ts)) (length rest) e (ap length w ∙ length-both front (t ∷ ts)) (ap length (sym r) ∙ length-read (t ∷ ts)) in
+        let row : take (p + 1) tokens ≡ front ++ t ∷ [] = ap (λ us. take (p + 1) us) w ∙ ap (λ q. take q (front ++ t ∷ ts)) n ∙ take-next front t ts in
+        none fuel tokens stop rest k final front (t ∷ ts) w r (t ∷ alive.0) (subst (λ us. BeginAlike us (map read (t ∷ alive.0))) r (map read alive.0, refl)) alive.1
+        (subst (λ us. SpellsModule us alive.1) (ap (λ us. us ++ alive.0) row ∙ append_assoc front (t ∷ []) alive.0) alive.2)

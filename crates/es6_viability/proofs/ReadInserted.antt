@@ -1,5 +1,5 @@
--- A module that tokens spell with semicolons put in where no module goes on is read of the tokens.
-use Rattle.std.proofs.Common.{◌≡◌, ◌∙◌, ℕ, zero, suc, ◌+◌, ◌≤◌, ◌<◌, arith, true, false, List, [], ◌∷◌, ◌++◌, map, length, refl, sym, ap, subst, append_assoc}
+-- A module that tokens spell, with semicolons put in where no module goes on, is read of the tokens.
+use Rattle.std.proofs.Common.{◌≡◌, ◌∙◌, ℕ, zero, suc, ◌+◌, ◌≤◌, ◌<◌, arith, Bool, true, false, Option, List, [], ◌∷◌, ◌++◌, map, length, refl, sym, ap, subst, append_assoc}
 use Rattle.std.proofs.lemmas.Bool.{false≢true}
 use Rattle.std.proofs.lemmas.List.{append-nil, append_cancel_right, map-append}
 use Rattle.es6_lexer.specs.declared.token.Token.{Token}
@@ -19,11 +19,11 @@ use Rattle.es6_reading.proofs.LocalReaders.{full-readings, faults-stay, gain, gr
 use Rattle.es6_reading.proofs.Locality.{LocalOf, took_so, stops_so, too_deep, too_long, not_inserted, same_mode}
 use Rattle.es6_reading.proofs.Posts.{Holds, of_took}
 use Rattle.es6_reading.proofs.Soundness.{soundness}
-use Rattle.es6_viability.specs.Insertions.{sets, Inserts, done, keeps, inserts, AreReadWithInsertions, InsertionsAreStandard, FaultsAreDeadWithInsertions}
+use Rattle.es6_viability.specs.Spelled.{SpelledModulesAreRead, NoneIsSpelledPastFaults}
 use Rattle.es6_viability.proofs.Viable.{left, fills, Any, Half, stands, some, gives_up}
 use Rattle.es6_viability.proofs.Statements as statements'
-use Rattle.es6_viability.proofs.Readers.{better}
-use Rattle.es6_viability.proofs.Beside.{Gap, Rows, here, later, Agree, took_all, joined, first_stops, aside, lost, Elsewhere, early, beyond}
+use Rattle.es6_viability.proofs.Readers.{better, lasting}
+use Rattle.es6_viability.proofs.Beside.{Gap, Loss, Rows, here, later, Agree, took_all, joined, first_stops, aside, lost, Elsewhere, early, beyond}
 use Rattle.es6_viability.proofs.BesideStatements as b'
 use Rattle.es6_viability.proofs.BesideStatements.{crosses, no-slack}
 
@@ -55,16 +55,7 @@ less-same a b h e = omega arith
 less-more : (a b c : ℕ) → a < c → a ≡ suc b + c → ⊥
 less-more a b c h e = omega arith
 
-last-same : (before front : List Filled) (t u : Filled) → before ++ t ∷ [] ≡ front ++ u ∷ [] → t ≡ u
-last-same [] [] t u e = head-of e
-last-same [] (v ∷ []) t u e = absurd (not-cons (sym (tail-of e)))
-last-same [] (v ∷ w ∷ front) t u e = absurd (not-cons (sym (tail-of e)))
-last-same (v ∷ []) [] t u e = absurd (not-cons (tail-of e))
-last-same (v ∷ w ∷ before) [] t u e = absurd (not-cons (tail-of e))
-last-same (v ∷ before) (w ∷ front) t u e = last-same before front t u (tail-of e)
-
--- where the rest is longer than a tail, the front ends before it
-pub record Inside_ (before front tail us : List Filled) : Type 0 where
+record Inside_ (before front tail us : List Filled) : Type 0 where
   pub first : Filled
   pub more : List Filled
   pub whole : before ≡ front ++ first ∷ more
@@ -81,8 +72,8 @@ ends-before (t ∷ before) (u ∷ front) tail us e h =
     let r = ends-before before front tail us (tail-of e) h in
     record { first = r.first; more = r.more; whole = ap (λ ts. t ∷ ts) r.whole ∙ ap (λ v. v ∷ front ++ r.first ∷ r.more) (head-of e); left_ = r.left_ }
 
-rows-after : (g : Gap) (before : List Filled) (last : ℕ) → g.at ≡ end_of last before → Rows g last (before ++ semi false g.at ∷ g.next ∷ g.behind) (before ++ g.next ∷ g.behind)
-rows-after g [] last e = subst (λ n. Rows g n (semi false g.at ∷ g.next ∷ g.behind) (g.next ∷ g.behind)) e here
+rows-after : (g : Gap) (before : List Filled) (last : ℕ) → g.at ≡ end_of last before → Rows g last (before ++ semi g.do_while g.at ∷ g.next ∷ g.behind) (before ++ g.next ∷ g.behind)
+rows-after g [] last e = subst (λ n. Rows g n (semi g.do_while g.at ∷ g.next ∷ g.behind) (g.next ∷ g.behind)) e here
 rows-after g (t ∷ before) last e = later (rows-after g before t.span.end e)
 
 never-both : {m : Module} {c : Input} {stop : Stop} {ts : List Filled} (o : Outcome Module) → o ≡ Took m c → o ≡ Fault stop ts → ⊥
@@ -136,7 +127,7 @@ module _ (fuel room : ℕ) where
   took-ends : (row : List Filled) (m : Module) (c : Input) → plain row ≡ Took m c → c.tokens ≡ []
   took-ends row m c h = of_took {Q = λ m c. c.tokens ≡ []} {x = m} (subst (λ o. Holds (λ m c. c.tokens ≡ []) o) h (whole-ends (readers false fuel (suc room)) (record { tokens = row; last = 0 })))
 
-  module _ (before : List Filled) (t : Token) (ts : List Token) (dead : Begins (λ row. (n : Module) × IsModule row n) (before ++ read t ∷ []) → ⊥) (free : sets (read t) ≡ false) where
+  module _ (before : List Filled) (t : Token) (ts : List Token) (dead : Begins (λ row. (n : Module) × IsModule row n) (before ++ read t ∷ []) → ⊥) (turns : suc (suc (length (before ++ read t ∷ []))) ≤ fuel) where
     abbrev behind : List Filled
     behind = map read ts
 
@@ -166,7 +157,7 @@ module _ (fuel room : ℕ) where
             absurd (too-long (length us) (length behind) (subst (λ n. n ≤ length behind) (ap (λ n. suc n) (length-of us behind) ∙ one-more-is (length us) (length behind)) (subst (λ o. length (left o) ≤ length behind) k h)))
 
     -- it can't, for no module goes on
-    completed : {o : Outcome Module} → left o ≡ [] → Half (λ y us. us ≡ []) Any (λ us. whole_module (readers false (suc fuel) (plus (suc room) 3)) (record { tokens = us; last = 0 })) short o → ⊥
+    completed : {o : Outcome Module} → left o ≡ [] → Half (lasting false fuel) (λ y us. us ≡ []) Any (λ us. whole_module (readers false (suc fuel) (plus (suc room) 3)) (record { tokens = us; last = 0 })) short o → ⊥
     completed n (stands e k) = never-nil before (read t) (e ∙ n)
     completed n (some u front e k ends) =
         let whole : short ≡ u ∷ front = e ∙ ap (λ us. (u ∷ front) ++ us) n ∙ append-nil (u ∷ front) in
@@ -174,7 +165,10 @@ module _ (fuel room : ℕ) where
         let read_ : IsModule (short ++ (fills ends.more ++ [])) ends.value = soundness (suc fuel) (plus (suc room) 3) (short ++ (fills ends.more ++ [])) 0 ends.value (record { tokens = []; last = ends.last })
         (ap (λ us. whole_module (readers false (suc fuel) (plus (suc room) 3)) (record { tokens = us; last = 0 })) row ∙ ends.reads [] refl) in
         dead (fills ends.more ++ [], (ends.value, read_))
-    completed n (gives_up front u e k) = false≢true (sym free ∙ ap sets (last-same before front (read t) u (e ∙ ap (λ us. front ++ u ∷ us) n)) ∙ k)
+    completed n (gives_up a) = few (length short) fuel turns (a refl)
+      where
+        few : (n m : ℕ) → suc (suc n) ≤ m → m ≤ suc n → ⊥
+        few n m h k = omega arith
 
     no-beyond : length (left (plain (before ++ read t ∷ behind))) ≤ length behind → ⊥
     no-beyond h = completed (all-taken h) (statements'.whole-module (readers false fuel (suc room)) (readers false (suc fuel) (plus (suc room) 3)) (better false fuel (suc room)) (record { tokens = short; last = 0 })).half
@@ -187,13 +181,12 @@ module _ (fuel room : ℕ) where
         let at : before ++ d ∷ more ≡ s.front ++ (r.first ∷ r.more ++ d ∷ more) = ap (λ vs. vs ++ d ∷ more) r.whole ∙ append_assoc s.front (r.first ∷ r.more) (d ∷ more) in
         never-both (plain row) h (ap plain (e ∙ at) ∙ s.stands_ (r.first ∷ r.more ++ d ∷ more) (subst (λ vs. SameHead vs (r.first ∷ r.more ++ d ∷ more)) (sym r.left_) same))
 
-    no-aside : (row : List Filled) (m : Module) (c : Input) (d : Filled) (more : List Filled) (line : may_precede false t ≡ true) → row ≡ before ++ d ∷ more → plain row ≡ Took m c
-        → Elsewhere (record { at = end_of 0 before; next = read t; behind = behind; line = line }) (plain (before ++ read t ∷ behind)) → ⊥
-    no-aside row m c d more line e h w = by w refl
+    no-aside : (g : Gap) → g.behind ≡ behind → (row : List Filled) (m : Module) (c : Input) (d : Filled) (more : List Filled) → row ≡ before ++ d ∷ more → plain row ≡ Took m c → Elsewhere g (plain (before ++ read t ∷ behind)) → ⊥
+    no-aside g b row m c d more e h w = by w refl
       where
-        by : {o : Outcome Module} → Elsewhere (record { at = end_of 0 before; next = read t; behind = behind; line = line }) o → plain (before ++ read t ∷ behind) ≡ o → ⊥
-        by (early {stop = stop} {us = us} l) k = no-early row m c d more us stop e h k l
-        by (beyond l) k = no-beyond (subst (λ o. length (left o) ≤ length behind) (sym k) l)
+        by : {o : Outcome Module} → Elsewhere g o → plain (before ++ read t ∷ behind) ≡ o → ⊥
+        by (early {stop = stop} {us = us} l) k = no-early row m c d more us stop e h k (subst (λ vs. suc (length vs) < length us) b l)
+        by (beyond l) k = no-beyond (subst (λ vs. length (left (plain (before ++ read t ∷ behind))) ≤ length vs) b (subst (λ o. length (left o) ≤ length g.behind) (sym k) l))
 
 -- ## All of them left out, the last first
 
@@ -204,24 +197,24 @@ no-row : {g : Gap} {last : ℕ} {ts us : List Filled} → Rows g last ts us → 
 no-row here e = not-cons e
 no-row (later w) e = not-cons e
 
-taken-of : {A : Type 0} {g : Gap} {x : A} {c : Input} {o o' o'' : Outcome A} → Agree g false o o' o'' → (Elsewhere g o'' → ⊥) → o ≡ Took x c → c.tokens ≡ [] → o' ≡ Took x c
+taken-of : {A : Type 0} {g : Gap} {b : Option Loss} {x : A} {c : Input} {o o' o'' : Outcome A} → Agree g b o o' o'' → (Elsewhere g o'' → ⊥) → o ≡ Took x c → c.tokens ≡ [] → o' ≡ Took x c
 taken-of (took_all {s = s} s') n h e = absurd (no-row s'.rows (tokens-of h ∙ e))
 taken-of joined n h e = h
 taken-of first_stops n h e = absurd (cc)
 taken-of (aside w) n h e = absurd (n w)
-taken-of (lost k) n h e = absurd (false≢true k)
+taken-of (lost k) n h e = absurd (not-cons (tokens-of h ∙ e))
 
 module _ (fuel room : ℕ) (row : List Filled) (m : Module) (c after : Input) (h : plain fuel room row ≡ Took m after) (ended : c.tokens ≡ []) where
   abbrev Reads : List Filled → Type 0
   Reads us = whole_module (readers true fuel room) (record { tokens = us; last = 0 }) ≡ Took m c
 
-  left-out : (before : List Filled) (t : Token) (ts : List Token) (more : List Filled) → (Begins (λ row. (n : Module) × IsModule row n) (before ++ read t ∷ []) → ⊥) → may_precede false t ≡ true → sets (read t) ≡ false → row ≡ before ++ inserted false before ∷ more
-      → Reads (before ++ inserted false before ∷ read t ∷ map read ts) → Reads (before ++ read t ∷ map read ts)
-  left-out before t ts more dead line free e r =
-      let g : Gap = record { at = end_of 0 before; next = read t; behind = map read ts; line = line } in
-      let one : List Filled = before ++ inserted false before ∷ read t ∷ map read ts in
+  left-out : (d : Bool) (before : List Filled) (t : Token) (ts : List Token) (more : List Filled) → (Begins (λ row. (n : Module) × IsModule row n) (before ++ read t ∷ []) → ⊥) → may_precede d t ≡ true → suc (suc (length (before ++ read t ∷ []))) ≤ fuel → row ≡ before ++ inserted d before ∷ more
+      → Reads (before ++ inserted d before ∷ read t ∷ map read ts) → Reads (before ++ read t ∷ map read ts)
+  left-out d before t ts more dead line turns e r =
+      let g : Gap = record { do_while = d; at = end_of 0 before; next = read t; behind = map read ts; line = λ k. subst (λ v. may_precede v t ≡ true) k line } in
+      let one : List Filled = before ++ inserted d before ∷ read t ∷ map read ts in
       taken-of ((b'.whole_module (readers true fuel room) (readers false fuel (suc room)) (crosses g fuel room) (record { tokens = one; last = 0 })).across (record { row = before ++ read t ∷ map read ts; rows = rows-after g before 0 refl }))
-      (no-aside fuel room before t ts dead free row m after (inserted false before) more line e h) r ended
+      (no-aside fuel room before t ts dead turns g refl row m after (inserted d before) more e h) r ended
 
   one-more : (before : List Filled) (t : Filled) (ts : List Filled) → Reads ((before ++ t ∷ []) ++ ts) → Reads (before ++ t ∷ ts)
   one-more before t ts r = subst (λ us. Reads us) (append_assoc before (t ∷ []) ts) r
@@ -229,17 +222,27 @@ module _ (fuel room : ℕ) (row : List Filled) (m : Module) (c after : Input) (h
   one-back : (before : List Filled) (t : Filled) (ts : List Filled) → row ≡ before ++ t ∷ ts → row ≡ (before ++ t ∷ []) ++ ts
   one-back before t ts e = e ∙ sym (append_assoc before (t ∷ []) ts)
 
-  all-left-out : {before filled : List Filled} {tokens : List Token} → Inserts before tokens filled → row ≡ before ++ filled → Reads row → Reads (before ++ map read tokens)
-  all-left-out done e r = subst (λ us. Reads us) e r
-  all-left-out (keeps {before = before} {filled = filled} {t = t} {ts = ts} g) e r = one-more before (read t) (map read ts) (all-left-out g (one-back before (read t) filled e) r)
-  all-left-out (inserts {before = before} {filled = filled} {t = t} {ts = ts} dead line free g) e r =
-      left-out before t ts filled dead line free e (one-more before (inserted false before) (read t ∷ map read ts) (all-left-out g (one-back before (inserted false before) filled e) r))
+  -- with turns for as many tokens as are filled, and one more that is tried
+  all-left-out : {before filled : List Filled} {tokens : List Token} → Fills (λ row. (n : Module) × IsModule row n) before tokens filled [] → suc (suc (length row)) ≤ fuel → row ≡ before ++ filled → Reads row → Reads (before ++ map read tokens)
+  all-left-out semicolons'.done turns e r = subst (λ us. Reads us) e r
+  all-left-out (semicolons'.keeps {before = before} {filled = filled} {t = t} {ts = ts} g) turns e r = one-more before (read t) (map read ts) (all-left-out g turns (one-back before (read t) filled e) r)
+  all-left-out (semicolons'.inserts {before = before} {filled = filled} {t = t} {ts = ts} d dead line g) turns e r =
+      left-out d before t ts filled dead line (enough before (read t) (inserted d before) filled e turns) e (one-more before (inserted d before) (read t ∷ map read ts) (all-left-out g turns (one-back before (inserted d before) filled e) r))
+    where
+      enough : (before : List Filled) (t u : Filled) (filled : List Filled) → row ≡ before ++ u ∷ filled → suc (suc (length row)) ≤ fuel → suc (suc (length (before ++ t ∷ []))) ≤ fuel
+      enough before t u filled e l = by (length (before ++ t ∷ [])) (length before) (length row) (length filled) fuel (length-of before (t ∷ [])) (ap length e ∙ length-of before (u ∷ filled)) l
+        where
+          by : (n a m b f : ℕ) → n ≡ a + 1 → m ≡ a + suc b → suc (suc m) ≤ f → suc (suc n) ≤ f
+          by n a m b f p q l = omega arith
 
-most : (a b c : ℕ) → a + b ≤ c → a ≤ c
-most a b c h = omega arith
+most : (a b c n : ℕ) → a + b + c ≤ n → a ≤ n
+most a b c n h = omega arith
 
-rest_ : (a b c : ℕ) → a + b ≤ c → b ≤ c
-rest_ a b c h = omega arith
+middle : (a b c n : ℕ) → a + b + c ≤ n → b ≤ n
+middle a b c n h = omega arith
+
+rest_ : (a b c n : ℕ) → a + b + c ≤ n → c ≤ n
+rest_ a b c n h = omega arith
 
 one-up : (a b : ℕ) → a ≤ b → a ≤ suc b
 one-up a b h = omega arith
@@ -247,26 +250,19 @@ one-up a b h = omega arith
 ended-true : (fuel room : ℕ) (row : List Filled) (m : Module) (c : Input) → whole_module (readers true fuel room) (record { tokens = row; last = 0 }) ≡ Took m c → c.tokens ≡ []
 ended-true fuel room row m c h = of_took {Q = λ m c. c.tokens ≡ []} {x = m} (subst (λ o. Holds (λ m c. c.tokens ≡ []) o) h (whole-ends (readers true fuel room) (record { tokens = row; last = 0 })))
 
-pub read-inserted : IsComplete → AreReadWithInsertions
-read-inserted complete tokens m s =
+pub read-spelled : IsComplete → SpelledModulesAreRead
+read-spelled complete tokens m s =
     let f = full-readings complete s.filled m s.spelled in
-    let p = complete s.filled m s.spelled in (
-      f.0 + p.0,
+    let p = complete s.filled m s.spelled in
+    let l : ℕ = suc (suc (length s.filled)) in (
+      f.0 + p.0 + l,
       λ fuel room a b.
-          let k = f.1 fuel room 0 (most f.0 p.0 fuel a) (most f.0 p.0 room b) in
-          let l = p.1 fuel (suc room) 0 (rest_ f.0 p.0 fuel a) (one-up p.0 room (rest_ f.0 p.0 room b)) in
-          (k.0, all-left-out fuel room s.filled m k.0 l.0 l.1 (ended-true fuel room s.filled m k.0 k.1) s.inserts refl k.1),
+          let k = f.1 fuel room 0 (most f.0 p.0 l fuel a) (most f.0 p.0 l room b) in
+          let o = p.1 fuel (suc room) 0 (middle f.0 p.0 l fuel a) (one-up p.0 room (middle f.0 p.0 l room b)) in
+          (k.0, all-left-out fuel room s.filled m k.0 o.0 o.1 (ended-true fuel room s.filled m k.0 k.1) s.fills (rest_ f.0 p.0 l fuel a) refl k.1),
     )
 
--- ## By the standard's rule, and faults
-
-fills-by : {before filled : List Filled} {tokens : List Token} → Inserts before tokens filled → Fills (λ row. (n : Module) × IsModule row n) before tokens filled []
-fills-by done = semicolons'.done
-fills-by (keeps g) = semicolons'.keeps (fills-by g)
-fills-by (inserts dead line free g) = semicolons'.inserts false dead line (fills-by g)
-
-pub standard-insertions : InsertionsAreStandard
-standard-insertions tokens m s = record { filled = s.filled; fills = fills-by s.inserts; spelled = s.spelled }
+-- ## Faults
 
 low : (n l : ℕ) → l ≤ n + l
 low n l = omega arith
@@ -275,10 +271,10 @@ module-read : (fuel : ℕ) (tokens : List Filled) → read_module fuel tokens �
 unfolding read_module
 module-read fuel tokens = refl
 
-pub dead-with-insertions : IsComplete → FaultsAreDeadWithInsertions
-dead-with-insertions complete fuel tokens stop rest h final front behind e r others alike m s =
+pub none-past : IsComplete → NoneIsSpelledPastFaults
+none-past complete fuel tokens stop rest h final front behind e r others alike m s =
     let f = faults-stay true fuel most_open (map read tokens) 0 stop rest (sym (module-read fuel (map read tokens)) ∙ h) final in
-    let c = read-inserted complete (front ++ others) m s in
+    let c = read-spelled complete (front ++ others) m s in
     let k = c.1 (fuel + c.0) (most_open + c.0) (low fuel c.0) (low most_open c.0) in
     let parts : map read tokens ≡ map read front ++ rest = ap (map read) e ∙ map-append read front behind ∙ ap (λ l. map read front ++ l) r in
     let fronts : map read front ≡ f.0 = append_cancel_right (map read front) f.0 rest (sym parts ∙ f.1) in

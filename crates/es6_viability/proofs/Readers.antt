@@ -1,6 +1,6 @@
 -- The readers tied into one another can be completed, each by those with more room; and so the tokens before a fault are alive.
 use Rattle.std.specs.Prelude.{codes}
-use Rattle.std.proofs.Common.{◌≡◌, ◌∙◌, ℕ, zero, suc, ◌+◌, ◌≤◌, arith, Bool, true, false, List, [], ◌∷◌, ◌++◌, map, Some, None, refl, sym, ap}
+use Rattle.std.proofs.Common.{◌≡◌, ◌∙◌, ℕ, zero, suc, ◌+◌, ◌≤◌, arith, Bool, true, false, List, [], ◌∷◌, ◌++◌, map, Some, None, refl, sym, ap, subst}
 use Rattle.std.proofs.lemmas.Bool.{false≢true}
 use Rattle.std.proofs.lemmas.List.{append_cancel_right, map-append, append-nil}
 use Rattle.es_outside.specs.HostNames.{reserved_words}
@@ -44,9 +44,11 @@ use Rattle.es6_reading.specs.Expressions as e6
 use Rattle.es6_reading.specs.Statements as s6
 use Rattle.es6_reading.proofs.Filled.{derived-of, followed-module, gaps-fill, left-over}
 use Rattle.es6_reading.proofs.Follows.{plus}
+use Rattle.es6_reading.proofs.Derived.{Sound}
+use Rattle.es6_reading.proofs.Soundness.{sound-readers}
 use Rattle.es6_reading.proofs.Locality.{Turns, over, turn}
 use Rattle.es6_viability.specs.Alive.{TokensBeforeFaultsAreAlive}
-use Rattle.es6_viability.proofs.Viable.{fill, fills, Head, head, Any, Half, stands, some, gives_up, Fresh, Begins, Partly, left, stops, expression-by, number-by, weaken, on-missed, no-next}
+use Rattle.es6_viability.proofs.Viable.{Limit, fill, fills, Head, head, Any, Half, stands, some, gives_up, Fresh, Begins, Partly, left, stops, expression-by, number-by, weaken, on-missed, no-next}
 use Rattle.es6_viability.proofs.Completions.{x_, Free, Closer, After, after-closer, FollowOf, AllowedOf, HasDefault, Better, Behind, no-postfix, no-power, no-question, no-arrow, no-assign, no-comma, no-initializer}
 use Rattle.es6_viability.proofs.Parts as parts'
 use Rattle.es6_viability.proofs.Expressions as expressions'
@@ -163,19 +165,19 @@ module _ (mode : Bool) (n : ℕ) where
 -- ## Where no construct may open any more
 
 module _ {A : Type 0} {F : A → List Filled → Type 0} {P : A → Type 0} where
-  limit-choice : {run : List Filled → Outcome A} (stop : Stop) (b : Bool) (q : Parser A) (s : Input) → Half F P run s.tokens (q s) → Half F P run s.tokens (choose b (fails stop) q s)
+  limit-choice : {lim : Limit} {run : List Filled → Outcome A} (stop : Stop) (b : Bool) (q : Parser A) (s : Input) → Half lim F P run s.tokens (q s) → Half lim F P run s.tokens (choose b (fails stop) q s)
   limit-choice stop true q s g = stops
   limit-choice stop false q s g = g
 
-expression-limit : {F : Reading → List Filled → Type 0} {P : Reading → Type 0} (test : Filled → Bool) (p' : Parser Reading) (s : Input) → Partly F P (e6.expression_at_limit test) p' s
+expression-limit : {lim : Limit} {F : Reading → List Filled → Type 0} {P : Reading → Type 0} (test : Filled → Bool) (p' : Parser Reading) (s : Input) → Partly lim F P (e6.expression_at_limit test) p' s
 unfolding e6.expression_at_limit
 expression-limit test p' s = limit-choice Depth (next_is test s.tokens) no_expression s (expression-by p' s)
 
-operand-limit : {F : Reading → List Filled → Type 0} {P : Reading → Type 0} (p' : Parser Reading) (s : Input) → Partly F P e6.operand_at_limit p' s
+operand-limit : {lim : Limit} {F : Reading → List Filled → Type 0} {P : Reading → Type 0} (p' : Parser Reading) (s : Input) → Partly lim F P e6.operand_at_limit p' s
 unfolding e6.operand_at_limit
 operand-limit p' s = limit-choice Depth (next_is begins_operand s.tokens) no_number s (number-by p' s)
 
-statement-limit : {F : Statement → List Filled → Type 0} {P : Statement → Type 0} (f : Flags) (stand : Stand) (p' : Parser Statement) (s : Input) → Partly F P (s6.statement_at_limit f stand) p' s
+statement-limit : {lim : Limit} {F : Statement → List Filled → Type 0} {P : Statement → Type 0} (f : Flags) (stand : Stand) (p' : Parser Statement) (s : Input) → Partly lim F P (s6.statement_at_limit f stand) p' s
 unfolding s6.statement_at_limit
 statement-limit f stand p' s = limit-choice Depth (next_is (s6.begins_statement f stand) s.tokens) _ s (limit-choice (Outside 5) (next_is (next_word (codes "with")) s.tokens) no_expression s (expression-by p' s))
 
@@ -192,12 +194,21 @@ turns-more (suc n) = turn (turns-more n)
 
 -- ## All readers
 
+-- a reader that inserts no semicolon gives up only what has more tokens than loops have turns
+pub lasting-grows : (fuel m k : ℕ) → m ≤ k → fuel ≤ suc m → fuel ≤ suc k
+lasting-grows fuel m k l a = omega arith
+
+abbrev pub lasting : Bool → ℕ → Limit
+lasting mode fuel = record { allows = λ m. mode ≡ false → fuel ≤ suc m; grows = λ m k l a e. lasting-grows fuel m k l (a e) }
+
 module _ (mode : Bool) where
-  pub better : (fuel room : ℕ) → Better 0 (readers mode fuel room) (readers mode (suc fuel) (plus room 3))
+  pub better : (fuel room : ℕ) → Better (lasting mode fuel) 0 (readers mode fuel room) (readers mode (suc fuel) (plus room 3))
   unfolding readers
   better fuel zero =
       let k : Inner = readers mode (suc fuel) 2 in
       record {
+        sound = λ e. subst (λ b. Sound (readers b fuel zero)) (sym e) (sound-readers fuel zero);
+        gives_up = λ m a. a;
         mode = refl;
         turns = turns-more fuel;
         opens = refl;
@@ -219,8 +230,10 @@ module _ (mode : Bool) where
   better fuel (suc room) =
       let i : Inner = readers mode fuel room in
       let j : Inner = readers mode (suc fuel) (plus room 3) in
-      let h : Better 0 i j = better fuel room in
+      let h : Better (lasting mode fuel) 0 i j = better fuel room in
       record {
+        sound = λ e. subst (λ b. Sound (readers b fuel (suc room))) (sym e) (sound-readers fuel (suc room));
+        gives_up = λ m a. a;
         mode = refl;
         turns = turns-more fuel;
         opens = refl;
@@ -289,7 +302,7 @@ module _ (complete : IsComplete) (fuel : ℕ) (front behind : List Token) where
   alive-with : (more : List TokenKind) (m : Module) (last : ℕ) → run (map read front ++ (fills more ++ [])) ≡ Took m (record { tokens = []; last = last }) → IsAlive front
   alive-with more m last r = (map token_of more, m, spelled complete (suc fuel) (plus most_open 3) (front ++ map token_of more) m (record { tokens = []; last = last }) (ap run (sym (row-of front more)) ∙ r))
 
-  alive-by : (stop : Stop) {o : Outcome Module} → (stop ≡ Endless → ⊥) → o ≡ Fault stop (map read behind) → Half (λ y us. us ≡ []) Any run (map read (front ++ behind)) o → Fresh (λ y us. us ≡ []) Any (λ us. Head kinds.End us) run → IsAlive front
+  alive-by : (stop : Stop) {o : Outcome Module} → (stop ≡ Endless → ⊥) → o ≡ Fault stop (map read behind) → Half (lasting true fuel) (λ y us. us ≡ []) Any run (map read (front ++ behind)) o → Fresh (λ y us. us ≡ []) Any (λ us. Head kinds.End us) run → IsAlive front
   alive-by stop {o = o} final k (stands e t) f = alive-with f.more f.value f.last (ap (λ us. run (us ++ (fills f.more ++ []))) none ∙ f.reads [] refl)
     where
       none : map read front ≡ []
@@ -298,7 +311,7 @@ module _ (complete : IsComplete) (fuel : ℕ) (front behind : List Token) where
     where
       whole : map read front ≡ t ∷ before
       whole = append_cancel_right (map read front) (t ∷ before) (map read behind) (sym (map-append read front behind) ∙ e ∙ ap (λ us. (t ∷ before) ++ us) (ap left k))
-  alive-by stop final k (gives_up front_ t e set) f = absurd (final (stop-of k))
+  alive-by stop final k (gives_up a) f = absurd (final (stop-of k))
     where
       stop-of : {us vs : List Filled} → ◌≡◌ {A = Outcome Module} (Fault Endless us) (Fault stop vs) → stop ≡ Endless
       stop-of e = cc

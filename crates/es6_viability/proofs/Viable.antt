@@ -1,6 +1,5 @@
 -- What a reader took can be completed: there are tokens with which a reader with more turns and more room reads the whole.
-use Rattle.std.proofs.Common.{◌≡◌, ◌∙◌, ℕ, Bool, true, false, List, [], ◌∷◌, ◌++◌, map, Option, Some, None, refl, sym, ap, subst, append_assoc}
-use Rattle.std.proofs.lemmas.Bool.{false≢true}
+use Rattle.std.proofs.Common.{◌≡◌, ◌∙◌, ℕ, suc, ◌≤◌, arith, Bool, true, false, List, [], ◌∷◌, ◌++◌, map, length, Option, Some, None, refl, sym, ap, subst, append_assoc}
 use Rattle.std.proofs.lemmas.List.{map-append}
 use Rattle.es6_lexer.specs.declared.token.TokenKind.{TokenKind}
 use Rattle.es6_lexer.specs.declared.token.TokenKind.TheVariants.{Punctuator}
@@ -9,7 +8,6 @@ use Rattle.es6_ast.specs.declared.settings.Stop.{Stop}
 use Rattle.es6_ast.specs.declared.settings.Stop.TheVariants.{Depth, Endless}
 use Rattle.es6_ast.specs.Tokens.{Filled, Read, begin_of}
 use Rattle.es6_reading.specs.Parser.{Input, Outcome, Took, Fault, Parser, fails, after, on, on_taken, choose, next_is, if_next, from, take_as, mark, next_mark, refused, no_number, no_expression, Inner, on_group, kept_if, is_insertable}
-use Rattle.es6_viability.specs.Insertions.{sets}
 use Rattle.es6_reading.proofs.Follows.{SameHead, nothing, same}
 use Rattle.es6_reading.proofs.Posts.{Misses}
 
@@ -62,33 +60,38 @@ pub record Fresh {A : Type 0} (F : A → List Filled → Type 0) (P : A → Type
   pub reads : (us : List Filled) → F value us → run (fills more ++ us) ≡ Took value (record { tokens = us; last = last })
   pub starts : (us : List Filled) → F value us → S (fills more ++ us)
 
--- from where a reader stood, if it took a token; one that gave up what nests too far before such a token stood behind that
-pub data Half {A : Type 0} (F : A → List Filled → Type 0) (P : A → Type 0) (run : List Filled → Outcome A) (ts : List Filled) : Outcome A → Type 0 where
-  stands : {o : Outcome A} → ts ≡ left o → Stays run [] o → Half F P run ts o
-  some : {o : Outcome A} (t : Filled) (front : List Filled) → ts ≡ (t ∷ front) ++ left o → Stays run (t ∷ front) o → Ends F P run (t ∷ front) → Half F P run ts o
-  gives_up : {us : List Filled} (front : List Filled) (t : Filled) → ts ≡ front ++ t ∷ us → sets t ≡ true → Half F P run ts (Fault Endless us)
+-- how many tokens may follow where a reader gives up what nests too far
+pub record Limit : Type 1 where
+  pub allows : ℕ → Type 0
+  pub grows : (n m : ℕ) → n ≤ m → allows n → allows m
 
-pub record Goes {A : Type 0} (F : A → List Filled → Type 0) (P : A → Type 0) (S : List Filled → Type 0) (run : List Filled → Outcome A) (ts : List Filled) (o : Outcome A) : Type 0 where
-  pub half : Half F P run ts o
+-- from where a reader stood, if it took a token; or it gave up what nests too far
+pub data Half (lim : Limit) {A : Type 0} (F : A → List Filled → Type 0) (P : A → Type 0) (run : List Filled → Outcome A) (ts : List Filled) : Outcome A → Type 0 where
+  stands : {o : Outcome A} → ts ≡ left o → Stays run [] o → Half lim F P run ts o
+  some : {o : Outcome A} (t : Filled) (front : List Filled) → ts ≡ (t ∷ front) ++ left o → Stays run (t ∷ front) o → Ends F P run (t ∷ front) → Half lim F P run ts o
+  gives_up : {us : List Filled} → lim.allows (length ts) → Half lim F P run ts (Fault Endless us)
+
+pub record Goes (lim : Limit) {A : Type 0} (F : A → List Filled → Type 0) (P : A → Type 0) (S : List Filled → Type 0) (run : List Filled → Outcome A) (ts : List Filled) (o : Outcome A) : Type 0 where
+  pub half : Half lim F P run ts o
   pub fresh : Fresh F P S run
 
--- what is read after a token that was taken; after one that sets it may be given up at once
-pub data Past (b : Bool) {A : Type 0} (F : A → List Filled → Type 0) (P : A → Type 0) (run : List Filled → Outcome A) (ts : List Filled) : Outcome A → Type 0 where
-  goes : {o : Outcome A} → Half F P run ts o → Fresh F P Anything run → Past b F P run ts o
-  used_up : {us : List Filled} → b ≡ true → ts ≡ us → Past b F P run ts (Fault Endless us)
+-- what is read after a token that was taken; it may be given up at once
+pub data Past (lim : Limit) {A : Type 0} (F : A → List Filled → Type 0) (P : A → Type 0) (run : List Filled → Outcome A) (ts : List Filled) : Outcome A → Type 0 where
+  goes : {o : Outcome A} → Half lim F P run ts o → Fresh F P Anything run → Past lim F P run ts o
+  used_up : {us : List Filled} → lim.allows (length ts) → Past lim F P run ts (Fault Endless us)
 
 abbrev pub run_of : {A : Type 0} → Parser A → ℕ → List Filled → Outcome A
 run_of p last us = p (record { tokens = us; last = last })
 
 -- a reader, and one with more turns and more room, from an input on
-abbrev pub Viable : {A : Type 0} → (A → List Filled → Type 0) → (A → Type 0) → (List Filled → Type 0) → Parser A → Parser A → Input → Type 0
-Viable F P S p p' s = Goes F P S (run_of p' s.last) s.tokens (p s)
+abbrev pub Viable : {A : Type 0} → Limit → (A → List Filled → Type 0) → (A → Type 0) → (List Filled → Type 0) → Parser A → Parser A → Input → Type 0
+Viable lim F P S p p' s = Goes lim F P S (run_of p' s.last) s.tokens (p s)
 
-abbrev pub Partly : {A : Type 0} → (A → List Filled → Type 0) → (A → Type 0) → Parser A → Parser A → Input → Type 0
-Partly F P p p' s = Half F P (run_of p' s.last) s.tokens (p s)
+abbrev pub Partly : {A : Type 0} → Limit → (A → List Filled → Type 0) → (A → Type 0) → Parser A → Parser A → Input → Type 0
+Partly lim F P p p' s = Half lim F P (run_of p' s.last) s.tokens (p s)
 
-abbrev pub Onward : {A : Type 0} → Bool → (A → List Filled → Type 0) → (A → Type 0) → Parser A → Parser A → Input → Type 0
-Onward b F P p p' s = Past b F P (run_of p' s.last) s.tokens (p s)
+abbrev pub Onward : {A : Type 0} → Limit → (A → List Filled → Type 0) → (A → Type 0) → Parser A → Parser A → Input → Type 0
+Onward lim F P p p' s = Past lim F P (run_of p' s.last) s.tokens (p s)
 
 abbrev pub Begins : {A : Type 0} → (A → List Filled → Type 0) → (A → Type 0) → (List Filled → Type 0) → Parser A → ℕ → Type 0
 Begins F P S p last = Fresh F P S (run_of p last)
@@ -96,11 +99,27 @@ Begins F P S p last = Fresh F P S (run_of p last)
 same-through : {ts : List Filled} (us : List Filled) (t : Filled) (front rest : List Filled) → ts ≡ (t ∷ front) ++ us → SameHead ts ((t ∷ front) ++ rest)
 same-through us t front rest e = subst (λ vs. SameHead vs (t ∷ front ++ rest)) (sym e) same
 
+up-one : (n : ℕ) → n ≤ suc n
+up-one n = omega arith
+
+up-front : (front us : List Filled) → length us ≤ length (front ++ us)
+up-front [] us = low (length us)
+  where
+    low : (n : ℕ) → n ≤ n
+    low n = omega arith
+up-front (t ∷ front) us = up (length us) (length (front ++ us)) (up-front front us)
+  where
+    up : (a b : ℕ) → a ≤ b → a ≤ suc b
+    up a b h = omega arith
+
+pub allowed-before : (lim : Limit) {ts : List Filled} (front us : List Filled) → ts ≡ front ++ us → lim.allows (length us) → lim.allows (length ts)
+allowed-before lim front us e k = subst (λ vs. lim.allows (length vs)) (sym e) (lim.grows (length us) (length (front ++ us)) (up-front front us) k)
+
 module _ {A : Type 0} {F : A → List Filled → Type 0} {P : A → Type 0} where
   pub free : {S : List Filled → Type 0} {run : List Filled → Outcome A} → Fresh F P S run → Fresh F P Anything run
   free f = record { more = f.more; value = f.value; last = f.last; ok = f.ok; reads = f.reads; starts = λ us h. tt }
 
-  pub past : {b : Bool} {S : List Filled → Type 0} {run : List Filled → Outcome A} {ts : List Filled} {o : Outcome A} → Goes F P S run ts o → Past b F P run ts o
+  pub past : {lim : Limit} {S : List Filled → Type 0} {run : List Filled → Outcome A} {ts : List Filled} {o : Outcome A} → Goes lim F P S run ts o → Past lim F P run ts o
   past g = goes g.half (free g.fresh)
 
   ends-of : {S : List Filled → Type 0} {run : List Filled → Outcome A} → Fresh F P S run → Ends F P run []
@@ -109,61 +128,71 @@ module _ {A : Type 0} {F : A → List Filled → Type 0} {P : A → Type 0} wher
   -- ## Tokens before
 
   -- other runs that agree where the tokens begin alike
-  pub relay : {run run' : List Filled → Outcome A} {ts : List Filled} {o : Outcome A} → ((us : List Filled) → SameHead ts us → run' us ≡ run us) → Half F P run ts o → Half F P run' ts o
+  pub relay : {lim : Limit} {run run' : List Filled → Outcome A} {ts : List Filled} {o : Outcome A} → ((us : List Filled) → SameHead ts us → run' us ≡ run us) → Half lim F P run ts o → Half lim F P run' ts o
   relay h (stands {o = Took x c} e k) = stands e (λ rest m. h rest (subst (λ vs. SameHead vs rest) (sym e) m) ∙ k rest m)
   relay h (stands {o = Fault stop us} e k) = stands e tt
   relay {run' = run'} h (some {o = Took x c} t front e k n) = some t front e (λ rest m. h ((t ∷ front) ++ rest) (same-through c.tokens t front rest e) ∙ k rest m)
       (record { more = n.more; value = n.value; last = n.last; ok = n.ok; reads = λ us m. h ((t ∷ front) ++ (fills n.more ++ us)) (same-through c.tokens t front (fills n.more ++ us) e) ∙ n.reads us m })
   relay {run' = run'} h (some {o = Fault stop vs} t front e k n) = some t front e tt
       (record { more = n.more; value = n.value; last = n.last; ok = n.ok; reads = λ us m. h ((t ∷ front) ++ (fills n.more ++ us)) (same-through vs t front (fills n.more ++ us) e) ∙ n.reads us m })
-  relay h (gives_up front t e k) = gives_up front t e k
+  relay h (gives_up k) = gives_up k
 
   -- after a token that was taken
-  behind-it : {b : Bool} {run run' : List Filled → Outcome A} {ts : List Filled} {o : Outcome A} (t : Filled) → ((us : List Filled) → run' (t ∷ us) ≡ run us) → Past b F P run ts o → (b ≡ true → sets t ≡ true) → Half F P run' (t ∷ ts) o
-  behind-it {run = run} {run' = run'} t h (goes (stands {o = o} e k) n) set = some t [] (ap (λ vs. t ∷ vs) e) (stays-behind o k) (record { more = n.more; value = n.value; last = n.last; ok = n.ok; reads = λ us m. h (fills n.more ++ us) ∙ n.reads us m })
+  behind-it : {lim : Limit} {run run' : List Filled → Outcome A} {ts : List Filled} {o : Outcome A} (t : Filled) → ((us : List Filled) → run' (t ∷ us) ≡ run us) → Past lim F P run ts o → Half lim F P run' (t ∷ ts) o
+  behind-it {run = run} {run' = run'} t h (goes (stands {o = o} e k) n) = some t [] (ap (λ vs. t ∷ vs) e) (stays-behind o k) (record { more = n.more; value = n.value; last = n.last; ok = n.ok; reads = λ us m. h (fills n.more ++ us) ∙ n.reads us m })
     where
       stays-behind : (o : Outcome A) → Stays run [] o → Stays run' (t ∷ []) o
       stays-behind (Took x c) k = λ rest m. h rest ∙ k rest m
       stays-behind (Fault stop us) k = tt
-  behind-it {run = run} {run' = run'} t h (goes (some {o = o} u front e k n) f) set = some t (u ∷ front) (ap (λ vs. t ∷ vs) e) (stays-behind o k) (record { more = n.more; value = n.value; last = n.last; ok = n.ok; reads = λ us m. h ((u ∷ front) ++ (fills n.more ++ us)) ∙ n.reads us m })
+  behind-it {run = run} {run' = run'} t h (goes (some {o = o} u front e k n) f) = some t (u ∷ front) (ap (λ vs. t ∷ vs) e) (stays-behind o k) (record { more = n.more; value = n.value; last = n.last; ok = n.ok; reads = λ us m. h ((u ∷ front) ++ (fills n.more ++ us)) ∙ n.reads us m })
     where
       stays-behind : (o : Outcome A) → Stays run (u ∷ front) o → Stays run' (t ∷ u ∷ front) o
       stays-behind (Took x c) k = λ rest m. h ((u ∷ front) ++ rest) ∙ k rest m
       stays-behind (Fault stop us) k = tt
-  behind-it t h (goes (gives_up front u e k) f) set = gives_up (t ∷ front) u (ap (λ vs. t ∷ vs) e) k
-  behind-it t h (used_up b e) set = gives_up [] t (ap (λ vs. t ∷ vs) e) (set b)
+  behind-it {lim = lim} {ts = ts} t h (goes (gives_up k) f) = gives_up (lim.grows (length ts) (suc (length ts)) (up-one (length ts)) k)
+  behind-it {lim = lim} {ts = ts} t h (used_up k) = gives_up (lim.grows (length ts) (suc (length ts)) (up-one (length ts)) k)
+
+  -- ## Other limits
+
+  pub half-within : {lim other : Limit} {run : List Filled → Outcome A} {ts : List Filled} {o : Outcome A} → ((n : ℕ) → lim.allows n → other.allows n) → Half lim F P run ts o → Half other F P run ts o
+  half-within w (stands e k) = stands e k
+  half-within w (some t front e k n) = some t front e k n
+  half-within {ts = ts} w (gives_up k) = gives_up (w (length ts) k)
+
+  pub goes-within : {lim other : Limit} {S : List Filled → Type 0} {run : List Filled → Outcome A} {ts : List Filled} {o : Outcome A} → ((n : ℕ) → lim.allows n → other.allows n) → Goes lim F P S run ts o → Goes other F P S run ts o
+  goes-within w g = record { half = half-within w g.half; fresh = g.fresh }
 
   -- ## Readers that take nothing
 
-  pub done-ok : {ts : List Filled} {last : ℕ} {x : A} → P x → Goes F P (λ us. F x us) (λ us. Took x (record { tokens = us; last = last })) ts (Took x (record { tokens = ts; last = last }))
+  pub done-ok : {lim : Limit} {ts : List Filled} {last : ℕ} {x : A} → P x → Goes lim F P (λ us. F x us) (λ us. Took x (record { tokens = us; last = last })) ts (Took x (record { tokens = ts; last = last }))
   done-ok {last = last} {x = x} ok = record { half = stands refl (λ rest k. refl); fresh = record { more = []; value = x; last = last; ok = ok; reads = λ us h. refl; starts = λ us h. h } }
 
   -- it takes nothing, or stops at once
-  pub rests : {last : ℕ} {ts : List Filled} {x : A} → Half F P (λ us. Took x (record { tokens = us; last = last })) ts (Took x (record { tokens = ts; last = last }))
+  pub rests : {lim : Limit} {last : ℕ} {ts : List Filled} {x : A} → Half lim F P (λ us. Took x (record { tokens = us; last = last })) ts (Took x (record { tokens = ts; last = last }))
   rests = stands refl (λ rest k. refl)
 
-  pub stops : {run : List Filled → Outcome A} {ts : List Filled} {stop : Stop} → Half F P run ts (Fault stop ts)
+  pub stops : {lim : Limit} {run : List Filled → Outcome A} {ts : List Filled} {stop : Stop} → Half lim F P run ts (Fault stop ts)
   stops = stands refl tt
 
-  pub nowhere-by : (p' : Parser A) (s : Input) → Partly F P refused p' s
+  pub nowhere-by : {lim : Limit} (p' : Parser A) (s : Input) → Partly lim F P refused p' s
   unfolding refused
   nowhere-by p' s = stops
 
-  pub number-by : (p' : Parser A) (s : Input) → Partly F P no_number p' s
+  pub number-by : {lim : Limit} (p' : Parser A) (s : Input) → Partly lim F P no_number p' s
   unfolding no_number
   number-by p' s = stops
 
-  pub expression-by : (p' : Parser A) (s : Input) → Partly F P no_expression p' s
+  pub expression-by : {lim : Limit} (p' : Parser A) (s : Input) → Partly lim F P no_expression p' s
   unfolding no_expression
   expression-by p' s = stops
 
-  pub nowhere : (s : Input) → Partly F P refused refused s
+  pub nowhere : {lim : Limit} (s : Input) → Partly lim F P refused refused s
   nowhere s = nowhere-by refused s
 
-  pub number : (s : Input) → Partly F P no_number no_number s
+  pub number : {lim : Limit} (s : Input) → Partly lim F P no_number no_number s
   number s = number-by no_number s
 
-  pub expression : (s : Input) → Partly F P no_expression no_expression s
+  pub expression : {lim : Limit} (s : Input) → Partly lim F P no_expression no_expression s
   expression s = expression-by no_expression s
 
 -- ## One reader after another
@@ -200,16 +229,16 @@ module _ {A B : Type 0} {F : A → List Filled → Type 0} {P : A → Type 0} {G
 module _ {A B : Type 0} {F : A → List Filled → Type 0} {P : A → Type 0} {G : B → List Filled → Type 0} {Q : B → Type 0} {T : A → List Filled → Type 0} (run : List Filled → Outcome A) (q' : A → Parser B)
     (f : (y : A) (last : ℕ) → P y → Fresh G Q (T y) (run_of (q' y) last)) (k : (y : A) (us : List Filled) → P y → T y us → F y us) where
   -- a reader that took something, and one behind it, which took nothing more
-  some-then : {ts : List Filled} {x : A} {c : Input} (o : Outcome B) (t : Filled) (front : List Filled) → ts ≡ (t ∷ front) ++ c.tokens → Stays run (t ∷ front) (Took x c) → Ends F P run (t ∷ front) → c.tokens ≡ left o → Stays (run_of (q' x) c.last) [] o
-      → Half G Q (λ us. after (run us) q') ts o
+  some-then : {lim : Limit} {ts : List Filled} {x : A} {c : Input} (o : Outcome B) (t : Filled) (front : List Filled) → ts ≡ (t ∷ front) ++ c.tokens → Stays run (t ∷ front) (Took x c) → Ends F P run (t ∷ front) → c.tokens ≡ left o → Stays (run_of (q' x) c.last) [] o
+      → Half lim G Q (λ us. after (run us) q') ts o
   some-then (Took y d) t front e l n i j = some t front (e ∙ ap (λ us. (t ∷ front) ++ us) i)
       (λ rest m. ap (λ o. after o q') (l rest (subst (λ us. SameHead us rest) (sym i) m)) ∙ j rest m) (ends-bind q' f k n)
   some-then (Fault stop us) t front e l n i j = some t front (e ∙ ap (λ vs. (t ∷ front) ++ vs) i) tt (ends-bind q' f k n)
 
   -- both took something
-  both-took : {ts : List Filled} {x : A} {c : Input} (o : Outcome B) (front : List Filled) → ts ≡ front ++ c.tokens → Stays run front (Took x c)
-      → (u : Filled) (inner : List Filled) → c.tokens ≡ (u ∷ inner) ++ left o → Stays (run_of (q' x) c.last) (u ∷ inner) o → Ends G Q (run_of (q' x) c.last) (u ∷ inner) → Half G Q (λ us. after (run us) q') ts o
-  both-took {ts = ts} {x = x} {c = c} o front e l u inner i j n = at front e l
+  both-took : {lim : Limit} {ts : List Filled} {x : A} {c : Input} (o : Outcome B) (front : List Filled) → ts ≡ front ++ c.tokens → Stays run front (Took x c)
+      → (u : Filled) (inner : List Filled) → c.tokens ≡ (u ∷ inner) ++ left o → Stays (run_of (q' x) c.last) (u ∷ inner) o → Ends G Q (run_of (q' x) c.last) (u ∷ inner) → Half lim G Q (λ us. after (run us) q') ts o
+  both-took {lim = lim} {ts = ts} {x = x} {c = c} o front e l u inner i j n = at front e l
     where
       onto : (front rest : List Filled) → Stays run front (Took x c) → after (run ((front ++ (u ∷ inner)) ++ rest)) q' ≡ q' x (record { tokens = (u ∷ inner) ++ rest; last = c.last })
       onto front rest l = ap (λ us. after (run us) q') (append_assoc front (u ∷ inner) rest) ∙ ap (λ o. after o q') (l ((u ∷ inner) ++ rest) (same-through (left o) u inner rest i))
@@ -224,46 +253,57 @@ module _ {A B : Type 0} {F : A → List Filled → Type 0} {P : A → Type 0} {G
       parts-both : (front : List Filled) → ts ≡ front ++ c.tokens → ts ≡ (front ++ (u ∷ inner)) ++ left o
       parts-both front e = e ∙ ap (λ us. front ++ us) i ∙ sym (append_assoc front (u ∷ inner) (left o))
 
-      at : (front : List Filled) → ts ≡ front ++ c.tokens → Stays run front (Took x c) → Half G Q (λ us. after (run us) q') ts o
+      at : (front : List Filled) → ts ≡ front ++ c.tokens → Stays run front (Took x c) → Half lim G Q (λ us. after (run us) q') ts o
       at [] e l = some u inner (parts-both [] e) (stays-both [] o l j) (ends-both [] l)
       at (t ∷ front) e l = some t (front ++ (u ∷ inner)) (parts-both (t ∷ front) e) (stays-both (t ∷ front) o l j) (ends-both (t ∷ front) l)
 
   -- the first took nothing
-  none-then : {ts : List Filled} {x : A} {c : Input} (o : Outcome B) → ts ≡ c.tokens → Stays run [] (Took x c) → c.tokens ≡ left o → Stays (run_of (q' x) c.last) [] o → Half G Q (λ us. after (run us) q') ts o
+  none-then : {lim : Limit} {ts : List Filled} {x : A} {c : Input} (o : Outcome B) → ts ≡ c.tokens → Stays run [] (Took x c) → c.tokens ≡ left o → Stays (run_of (q' x) c.last) [] o → Half lim G Q (λ us. after (run us) q') ts o
   none-then (Took y d) e l i j = stands (e ∙ i) (λ rest m. ap (λ o. after o q') (l rest (subst (λ us. SameHead us rest) (sym i) m)) ∙ j rest m)
   none-then (Fault stop us) e l i j = stands (e ∙ i) tt
 
-  pub half-bind : {ts : List Filled} {o : Outcome A} (q : A → Parser B) → Half F P run ts o → ((x : A) (c : Input) → o ≡ Took x c → Half G Q (run_of (q' x) c.last) c.tokens (q x c)) → Half G Q (λ us. after (run us) q') ts (after o q)
-  half-bind {ts = ts} q (stands {o = Took x c} e l) h = by (h x c refl)
+  -- the second has another limit
+  pub half-bind-by : {lim : Limit} {other : A → Limit} {ts : List Filled} {o : Outcome A} (q : A → Parser B) → Half lim F P run ts o → ((x : A) (c : Input) → o ≡ Took x c → Half (other x) G Q (run_of (q' x) c.last) c.tokens (q x c))
+      → ((x : A) (c : Input) (front : List Filled) → o ≡ Took x c → ts ≡ front ++ c.tokens → (other x).allows (length c.tokens) → lim.allows (length ts)) → Half lim G Q (λ us. after (run us) q') ts (after o q)
+  half-bind-by {lim = lim} {other = other} {ts = ts} q (stands {o = Took x c} e l) h w = by (h x c refl)
     where
-      by : {o : Outcome B} → Half G Q (run_of (q' x) c.last) c.tokens o → Half G Q (λ us. after (run us) q') ts o
+      by : {o : Outcome B} → Half (other x) G Q (run_of (q' x) c.last) c.tokens o → Half lim G Q (λ us. after (run us) q') ts o
       by (stands {o = o} i j) = none-then o e l i j
       by (some {o = o} u inner i j n) = both-took o [] e l u inner i j n
-      by (gives_up front u i m) = gives_up front u (e ∙ i) m
-  half-bind q (stands {o = Fault stop us} e l) h = stands e tt
-  half-bind {ts = ts} q (some {o = Took x c} t front e l n) h = by (h x c refl)
+      by (gives_up m) = gives_up (w x c [] refl e m)
+  half-bind-by q (stands {o = Fault stop us} e l) h w = stands e tt
+  half-bind-by {lim = lim} {other = other} {ts = ts} q (some {o = Took x c} t front e l n) h w = by (h x c refl)
     where
-      by : {o : Outcome B} → Half G Q (run_of (q' x) c.last) c.tokens o → Half G Q (λ us. after (run us) q') ts o
+      by : {o : Outcome B} → Half (other x) G Q (run_of (q' x) c.last) c.tokens o → Half lim G Q (λ us. after (run us) q') ts o
       by (stands {o = o} i j) = some-then o t front e l n i j
       by (some {o = o} u inner i j m) = both-took o (t ∷ front) e l u inner i j m
-      by (gives_up {us = us} inner u i m) = gives_up ((t ∷ front) ++ inner) u (e ∙ ap (λ vs. (t ∷ front) ++ vs) i ∙ sym (append_assoc (t ∷ front) inner (u ∷ us))) m
-  half-bind q (some {o = Fault stop us} t front e l n) h = some t front e tt (ends-bind q' f k n)
-  half-bind q (gives_up front t e k) h = gives_up front t e k
+      by (gives_up m) = gives_up (w x c (t ∷ front) refl e m)
+  half-bind-by q (some {o = Fault stop us} t front e l n) h w = some t front e tt (ends-bind q' f k n)
+  half-bind-by q (gives_up k) h w = gives_up k
+
+  pub half-bind : {lim : Limit} {ts : List Filled} {o : Outcome A} (q : A → Parser B) → Half lim F P run ts o → ((x : A) (c : Input) → o ≡ Took x c → Half lim G Q (run_of (q' x) c.last) c.tokens (q x c)) → Half lim G Q (λ us. after (run us) q') ts (after o q)
+  half-bind {lim = lim} q g h = half-bind-by {other = λ x. lim} q g h (λ x c front e d m. allowed-before lim front c.tokens d m)
 
 module _ {A B : Type 0} {F : A → List Filled → Type 0} {P : A → Type 0} {G : B → List Filled → Type 0} {Q : B → Type 0} {S : List Filled → Type 0} {T : A → List Filled → Type 0} {run : List Filled → Outcome A} {ts : List Filled} {o : Outcome A} where
-  pub bind-seen : (q q' : A → Parser B) → Goes F P S run ts o → ((x : A) (c : Input) → o ≡ Took x c → Half G Q (run_of (q' x) c.last) c.tokens (q x c)) → ((y : A) (last : ℕ) → P y → Fresh G Q (T y) (run_of (q' y) last)) → ((y : A) (us : List Filled) → P y → T y us → F y us)
-      → Goes G Q S (λ us. after (run us) q') ts (after o q)
+  pub bind-seen : {lim : Limit} (q q' : A → Parser B) → Goes lim F P S run ts o → ((x : A) (c : Input) → o ≡ Took x c → Half lim G Q (run_of (q' x) c.last) c.tokens (q x c)) → ((y : A) (last : ℕ) → P y → Fresh G Q (T y) (run_of (q' y) last)) → ((y : A) (us : List Filled) → P y → T y us → F y us)
+      → Goes lim G Q S (λ us. after (run us) q') ts (after o q)
   bind-seen q q' g h f k = record { half = half-bind run q' f k q g.half h; fresh = fresh-bind q' f k g.fresh }
 
-  pub bind-if : (q q' : A → Parser B) → Goes F P S run ts o → ((x : A) (c : Input) → Half G Q (run_of (q' x) c.last) c.tokens (q x c)) → ((y : A) (last : ℕ) → P y → Fresh G Q (T y) (run_of (q' y) last)) → ((y : A) (us : List Filled) → P y → T y us → F y us)
-      → Goes G Q S (λ us. after (run us) q') ts (after o q)
+  -- what is read behind it has another limit
+  pub bind-by : {lim : Limit} {other : A → Limit} (q q' : A → Parser B) → Goes lim F P S run ts o → ((x : A) (c : Input) → o ≡ Took x c → Half (other x) G Q (run_of (q' x) c.last) c.tokens (q x c))
+      → ((x : A) (c : Input) (front : List Filled) → o ≡ Took x c → ts ≡ front ++ c.tokens → (other x).allows (length c.tokens) → lim.allows (length ts)) → ((y : A) (last : ℕ) → P y → Fresh G Q (T y) (run_of (q' y) last)) → ((y : A) (us : List Filled) → P y → T y us → F y us)
+      → Goes lim G Q S (λ us. after (run us) q') ts (after o q)
+  bind-by q q' g h w f k = record { half = half-bind-by run q' f k q g.half h w; fresh = fresh-bind q' f k g.fresh }
+
+  pub bind-if : {lim : Limit} (q q' : A → Parser B) → Goes lim F P S run ts o → ((x : A) (c : Input) → Half lim G Q (run_of (q' x) c.last) c.tokens (q x c)) → ((y : A) (last : ℕ) → P y → Fresh G Q (T y) (run_of (q' y) last)) → ((y : A) (us : List Filled) → P y → T y us → F y us)
+      → Goes lim G Q S (λ us. after (run us) q') ts (after o q)
   bind-if q q' g h f k = bind-seen q q' g (λ x c e. h x c) f k
 
-  pub bind : (q q' : A → Parser B) → Goes F P S run ts o → ((x : A) (c : Input) → Goes G Q (T x) (run_of (q' x) c.last) c.tokens (q x c)) → ((y : A) (us : List Filled) → T y us → F y us) → Goes G Q S (λ us. after (run us) q') ts (after o q)
+  pub bind : {lim : Limit} (q q' : A → Parser B) → Goes lim F P S run ts o → ((x : A) (c : Input) → Goes lim G Q (T x) (run_of (q' x) c.last) c.tokens (q x c)) → ((y : A) (us : List Filled) → T y us → F y us) → Goes lim G Q S (λ us. after (run us) q') ts (after o q)
   bind q q' g h k = bind-if q q' g (λ x c. (h x c).half) (λ y last ok. (h y (record { tokens = []; last = last })).fresh) (λ y us ok t. k y us t)
 
 module _ {A B : Type 0} {F : A → List Filled → Type 0} {P : A → Type 0} {G : B → List Filled → Type 0} {Q : B → Type 0} {T : A → List Filled → Type 0} {run : List Filled → Outcome A} {ts : List Filled} {o : Outcome A} where
-  pub bind-half : (q q' : A → Parser B) → Half F P run ts o → ((x : A) (c : Input) → Goes G Q (T x) (run_of (q' x) c.last) c.tokens (q x c)) → ((y : A) (us : List Filled) → T y us → F y us) → Half G Q (λ us. after (run us) q') ts (after o q)
+  pub bind-half : {lim : Limit} (q q' : A → Parser B) → Half lim F P run ts o → ((x : A) (c : Input) → Goes lim G Q (T x) (run_of (q' x) c.last) c.tokens (q x c)) → ((y : A) (us : List Filled) → T y us → F y us) → Half lim G Q (λ us. after (run us) q') ts (after o q)
   bind-half q q' g h k = half-bind run q' (λ y last ok. (h y (record { tokens = []; last = last })).fresh) (λ y us ok t. k y us t) q g (λ x c e. (h x c).half)
 
 -- ## Choices
@@ -281,10 +321,10 @@ same-begin nothing = refl
 same-begin same = refl
 
 module _ {A B : Type 0} {F : A → List Filled → Type 0} {P : A → Type 0} where
-  half-on-by : (b : Bool) (test : Filled → Option B) (p p' : B → Parser A) (q q' : Parser A) (s : Input) → (b ≡ true → (t : Filled) (x : B) → test t ≡ Some x → sets t ≡ true) → ((x : B) (c : Input) → Onward b F P (p x) (p' x) c) → Partly F P q q' s → Partly F P (on test p q) (on test p' q') s
-  half-on-by b test p p' q q' s set f g = at s.tokens s.last g
+  pub half-on : {lim : Limit} (test : Filled → Option B) (p p' : B → Parser A) (q q' : Parser A) (s : Input) → ((x : B) (c : Input) → Onward lim F P (p x) (p' x) c) → Partly lim F P q q' s → Partly lim F P (on test p q) (on test p' q') s
+  half-on {lim = lim} test p p' q q' s f g = at s.tokens s.last g
     where
-      at : (ts : List Filled) (last : ℕ) → Partly F P q q' (record { tokens = ts; last = last }) → Partly F P (on test p q) (on test p' q') (record { tokens = ts; last = last })
+      at : (ts : List Filled) (last : ℕ) → Partly lim F P q q' (record { tokens = ts; last = last }) → Partly lim F P (on test p q) (on test p' q') (record { tokens = ts; last = last })
       at [] last g = relay nothing-left g
         where
           nothing-left : (us : List Filled) → SameHead [] us → on test p' q' (record { tokens = us; last = last }) ≡ q' (record { tokens = us; last = last })
@@ -297,16 +337,9 @@ module _ {A B : Type 0} {F : A → List Filled → Type 0} {P : A → Type 0} wh
           missed : test t ≡ None → (us : List Filled) → SameHead (t ∷ ts) us → on test p' q' (record { tokens = us; last = last }) ≡ q' (record { tokens = us; last = last })
           missed e us (same {us = vs}) = ap (λ o. on_taken o t vs p' q' (record { tokens = t ∷ vs; last = last })) e
 
-          known : (o : Option B) → test t ≡ o → Partly F P q q' (record { tokens = t ∷ ts; last = last }) → Half F P (λ us. on test p' q' (record { tokens = us; last = last })) (t ∷ ts) (on_taken o t ts p q (record { tokens = t ∷ ts; last = last }))
-          known (Some x) e g = behind-it t (λ us. hit x e us) (f x (record { tokens = ts; last = t.span.end })) (λ k. set k t x e)
+          known : (o : Option B) → test t ≡ o → Partly lim F P q q' (record { tokens = t ∷ ts; last = last }) → Half lim F P (λ us. on test p' q' (record { tokens = us; last = last })) (t ∷ ts) (on_taken o t ts p q (record { tokens = t ∷ ts; last = last }))
+          known (Some x) e g = behind-it t (λ us. hit x e us) (f x (record { tokens = ts; last = t.span.end }))
           known None e g = relay (missed e) g
-
-  pub half-on : (test : Filled → Option B) (p p' : B → Parser A) (q q' : Parser A) (s : Input) → ((x : B) (c : Input) → Onward false F P (p x) (p' x) c) → Partly F P q q' s → Partly F P (on test p q) (on test p' q') s
-  half-on test p p' q q' s f g = half-on-by false test p p' q q' s (λ k. absurd (false≢true k)) f g
-
-  -- a token that sets
-  pub half-set : (test : Filled → Option B) (p p' : B → Parser A) (q q' : Parser A) (s : Input) → ((t : Filled) (x : B) → test t ≡ Some x → sets t ≡ true) → ((x : B) (c : Input) → Onward true F P (p x) (p' x) c) → Partly F P q q' s → Partly F P (on test p q) (on test p' q') s
-  half-set test p p' q q' s set f g = half-on-by true test p p' q q' s (λ k. set) f g
 
   -- completed with no such token
   pub fresh-may : {S : List Filled → Type 0} (test : Filled → Option B) (p' : B → Parser A) (q' : Parser A) (last : ℕ) → Begins F P S q' last → ((us : List Filled) → S us → Misses test us) → Begins F P S (on test p' q') last
@@ -323,29 +356,25 @@ module _ {A B : Type 0} {F : A → List Filled → Type 0} {P : A → Type 0} wh
     starts = λ us h. head;
   }
 
-  pub may : {S : List Filled → Type 0} (test : Filled → Option B) (p p' : B → Parser A) (q q' : Parser A) (s : Input) → ((x : B) (c : Input) → Onward false F P (p x) (p' x) c) → Viable F P S q q' s → ((us : List Filled) → S us → Misses test us)
-      → Viable F P S (on test p q) (on test p' q') s
+  pub may : {lim : Limit} {S : List Filled → Type 0} (test : Filled → Option B) (p p' : B → Parser A) (q q' : Parser A) (s : Input) → ((x : B) (c : Input) → Onward lim F P (p x) (p' x) c) → Viable lim F P S q q' s → ((us : List Filled) → S us → Misses test us)
+      → Viable lim F P S (on test p q) (on test p' q') s
   may test p p' q q' s f g miss = record { half = half-on test p p' q q' s f g.half; fresh = fresh-may test p' q' s.last g.fresh miss }
 
-  pub may-set : {S : List Filled → Type 0} (test : Filled → Option B) (p p' : B → Parser A) (q q' : Parser A) (s : Input) → ((t : Filled) (x : B) → test t ≡ Some x → sets t ≡ true) → ((x : B) (c : Input) → Onward true F P (p x) (p' x) c) → Viable F P S q q' s → ((us : List Filled) → S us → Misses test us)
-      → Viable F P S (on test p q) (on test p' q') s
-  may-set test p p' q q' s set f g miss = record { half = half-set test p p' q q' s set f g.half; fresh = fresh-may test p' q' s.last g.fresh miss }
-
-  pub must : {S : B → List Filled → Type 0} (test : Filled → Option B) (k : TokenKind) (x : B) → test (fill k) ≡ Some x → (p p' : B → Parser A) (q q' : Parser A) (s : Input) → ((y : B) (c : Input) → Viable F P (S y) (p y) (p' y) c) → Partly F P q q' s
-      → Viable F P (λ us. Head k us) (on test p q) (on test p' q') s
+  pub must : {lim : Limit} {S : B → List Filled → Type 0} (test : Filled → Option B) (k : TokenKind) (x : B) → test (fill k) ≡ Some x → (p p' : B → Parser A) (q q' : Parser A) (s : Input) → ((y : B) (c : Input) → Viable lim F P (S y) (p y) (p' y) c) → Partly lim F P q q' s
+      → Viable lim F P (λ us. Head k us) (on test p q) (on test p' q') s
   must test k x e p p' q q' s f g = record { half = half-on test p p' q q' s (λ y c. past (f y c)) g; fresh = fresh-must test k x e p' q' s.last (f x (record { tokens = []; last = 0 })).fresh }
 
 module _ {A : Type 0} {F : A → List Filled → Type 0} {P : A → Type 0} where
-  pub either : {S : List Filled → Type 0} (b : Bool) (p p' q q' : Parser A) (s : Input) → Viable F P S p p' s → Viable F P S q q' s → Viable F P S (choose b p q) (choose b p' q') s
+  pub either : {lim : Limit} {S : List Filled → Type 0} (b : Bool) (p p' q q' : Parser A) (s : Input) → Viable lim F P S p p' s → Viable lim F P S q q' s → Viable lim F P S (choose b p q) (choose b p' q') s
   either true p p' q q' s f g = f
   either false p p' q q' s f g = g
 
-  pub half-either : (b : Bool) (p p' q q' : Parser A) (s : Input) → Partly F P p p' s → Partly F P q q' s → Partly F P (choose b p q) (choose b p' q') s
+  pub half-either : {lim : Limit} (b : Bool) (p p' q q' : Parser A) (s : Input) → Partly lim F P p p' s → Partly lim F P q q' s → Partly lim F P (choose b p q) (choose b p' q') s
   half-either true p p' q q' s f g = f
   half-either false p p' q q' s f g = g
 
-  pub half-choice-no : (b : Bool) → b ≡ false → (p p' q q' : Parser A) (s : Input) → Partly F P q q' s → Partly F P (choose b p q) (choose b p' q') s
-  half-choice-no b e p p' q q' s f = subst (λ v. Partly F P (choose v p q) (choose v p' q') s) (sym e) f
+  pub half-choice-no : {lim : Limit} (b : Bool) → b ≡ false → (p p' q q' : Parser A) (s : Input) → Partly lim F P q q' s → Partly lim F P (choose b p q) (choose b p' q') s
+  half-choice-no {lim = lim} b e p p' q q' s f = subst (λ v. Partly lim F P (choose v p q) (choose v p' q') s) (sym e) f
 
   pub fresh-choice-no : {S : List Filled → Type 0} (b : Bool) → b ≡ false → (p' q' : Parser A) (last : ℕ) → Begins F P S q' last → Begins F P S (choose b p' q') last
   fresh-choice-no {S = S} b e p' q' last f = subst (λ v. Begins F P S (choose v p' q') last) (sym e) f
@@ -353,7 +382,7 @@ module _ {A : Type 0} {F : A → List Filled → Type 0} {P : A → Type 0} wher
   pub fresh-choice-yes : {S : List Filled → Type 0} (b : Bool) → b ≡ true → (p' q' : Parser A) (last : ℕ) → Begins F P S p' last → Begins F P S (choose b p' q') last
   fresh-choice-yes {S = S} b e p' q' last f = subst (λ v. Begins F P S (choose v p' q') last) (sym e) f
 
-  pub half-looks : (test : Filled → Bool) (p p' q q' : Parser A) (s : Input) → Partly F P p p' s → Partly F P q q' s → Partly F P (if_next test p q) (if_next test p' q') s
+  pub half-looks : {lim : Limit} (test : Filled → Bool) (p p' q q' : Parser A) (s : Input) → Partly lim F P p p' s → Partly lim F P q q' s → Partly lim F P (if_next test p q) (if_next test p' q') s
   half-looks test p p' q q' s f g = relay (λ us k. ap (λ b. choose b p' q' (record { tokens = us; last = s.last })) (same-next test k)) (half-either (next_is test s.tokens) p p' q q' s f g)
 
   pub fresh-no : {S : List Filled → Type 0} (test : Filled → Bool) (p' q' : Parser A) (last : ℕ) → Begins F P S q' last → ((us : List Filled) → S us → next_is test us ≡ false) → Begins F P S (if_next test p' q') last
@@ -363,17 +392,17 @@ module _ {A : Type 0} {F : A → List Filled → Type 0} {P : A → Type 0} wher
   fresh-yes test p' q' last f hit = record { more = f.more; value = f.value; last = f.last; ok = f.ok; reads = λ us h. ap (λ b. choose b p' q' (record { tokens = fills f.more ++ us; last = last })) (hit (fills f.more ++ us) (f.starts us h)) ∙ f.reads us h; starts = f.starts }
 
   -- completed with the second reader, or with the first
-  pub looks-no : {S : List Filled → Type 0} (test : Filled → Bool) (p p' q q' : Parser A) (s : Input) → Partly F P p p' s → Viable F P S q q' s → ((us : List Filled) → S us → next_is test us ≡ false) → Viable F P S (if_next test p q) (if_next test p' q') s
+  pub looks-no : {lim : Limit} {S : List Filled → Type 0} (test : Filled → Bool) (p p' q q' : Parser A) (s : Input) → Partly lim F P p p' s → Viable lim F P S q q' s → ((us : List Filled) → S us → next_is test us ≡ false) → Viable lim F P S (if_next test p q) (if_next test p' q') s
   looks-no test p p' q q' s f g miss = record { half = half-looks test p p' q q' s f g.half; fresh = fresh-no test p' q' s.last g.fresh miss }
 
-  pub looks-yes : {S : List Filled → Type 0} (test : Filled → Bool) (p p' q q' : Parser A) (s : Input) → Viable F P S p p' s → Partly F P q q' s → ((us : List Filled) → S us → next_is test us ≡ true) → Viable F P S (if_next test p q) (if_next test p' q') s
+  pub looks-yes : {lim : Limit} {S : List Filled → Type 0} (test : Filled → Bool) (p p' q q' : Parser A) (s : Input) → Viable lim F P S p p' s → Partly lim F P q q' s → ((us : List Filled) → S us → next_is test us ≡ true) → Viable lim F P S (if_next test p q) (if_next test p' q') s
   looks-yes test p p' q q' s f g hit = record { half = half-looks test p p' q q' s f.half g; fresh = fresh-yes test p' q' s.last f.fresh hit }
 
   -- what depends on where the next token begins
-  pub half-begins : (p p' : ℕ → Parser A) (s : Input) → ((at : ℕ) → Partly F P (p at) (p' at) s) → Partly F P (from p) (from p') s
+  pub half-begins : {lim : Limit} (p p' : ℕ → Parser A) (s : Input) → ((at : ℕ) → Partly lim F P (p at) (p' at) s) → Partly lim F P (from p) (from p') s
   half-begins p p' s f = relay (λ us k. ap (λ at. p' at (record { tokens = us; last = s.last })) (same-begin k)) (f (begin_of s.tokens))
 
-  pub begins : {S : List Filled → Type 0} (p p' : ℕ → Parser A) (s : Input) → ((us : List Filled) → S us → begin_of us ≡ 0) → ((at : ℕ) → Viable F P S (p at) (p' at) s) → Viable F P S (from p) (from p') s
+  pub begins : {lim : Limit} {S : List Filled → Type 0} (p p' : ℕ → Parser A) (s : Input) → ((us : List Filled) → S us → begin_of us ≡ 0) → ((at : ℕ) → Viable lim F P S (p at) (p' at) s) → Viable lim F P S (from p) (from p') s
   begins p p' s zeros f =
       let e = (f 0).fresh in
       record {
@@ -383,22 +412,22 @@ module _ {A : Type 0} {F : A → List Filled → Type 0} {P : A → Type 0} wher
 
   -- ## Groups and semicolons
 
-  pub half-insertable : (p p' q q' : Parser A) (s : Input) → Partly F P p p' s → Partly F P q q' s → Partly F P (λ c. choose (is_insertable c.tokens) p q c) (λ c. choose (is_insertable c.tokens) p' q' c) s
+  pub half-insertable : {lim : Limit} (p p' q q' : Parser A) (s : Input) → Partly lim F P p p' s → Partly lim F P q q' s → Partly lim F P (λ c. choose (is_insertable c.tokens) p q c) (λ c. choose (is_insertable c.tokens) p' q' c) s
   half-insertable p p' q q' s f g = relay (λ us k. ap (λ b. choose b p' q' (record { tokens = us; last = s.last })) (same-ending k)) (half-either (is_insertable s.tokens) p p' q q' s f g)
     where
       same-ending : {ts us : List Filled} → SameHead ts us → is_insertable us ≡ is_insertable ts
       same-ending nothing = refl
       same-ending same = refl
 
-  pub half-mode : (b b' : Bool) → b' ≡ b → (p p' : Parser A) (s : Input) → Partly F P p p' s → Partly F P (choose b p refused) (choose b' p' refused) s
+  pub half-mode : {lim : Limit} (b b' : Bool) → b' ≡ b → (p p' : Parser A) (s : Input) → Partly lim F P p p' s → Partly lim F P (choose b p refused) (choose b' p' refused) s
   half-mode true b' e p p' s f = relay (λ us k. ap (λ v. choose v p' refused (record { tokens = us; last = s.last })) e) f
   half-mode false b' e p p' s f = nowhere-by (choose b' p' refused) s
 
-  pub half-opened : (b b' : Bool) (p p' : Parser A) (s : Input) → b' ≡ true → Partly F P p p' s → Partly F P (choose b p (fails Depth)) (choose b' p' (fails Depth)) s
+  pub half-opened : {lim : Limit} (b b' : Bool) (p p' : Parser A) (s : Input) → b' ≡ true → Partly lim F P p p' s → Partly lim F P (choose b p (fails Depth)) (choose b' p' (fails Depth)) s
   half-opened true b' p p' s e f = relay (λ us k. ap (λ b. choose b p' (fails Depth) (record { tokens = us; last = s.last })) e) f
   half-opened false b' p p' s e f = stops
 
-  pub half-group : (i j : Inner) → j.may_open ≡ true → (m : Mark) (p p' q q' : Parser A) (s : Input) → ((c : Input) → Onward false F P p p' c) → Partly F P q q' s → Partly F P (on_group i m p q) (on_group j m p' q') s
+  pub half-group : {lim : Limit} (i j : Inner) → j.may_open ≡ true → (m : Mark) (p p' q q' : Parser A) (s : Input) → ((c : Input) → Onward lim F P p p' c) → Partly lim F P q q' s → Partly lim F P (on_group i m p q) (on_group j m p' q') s
   half-group i j o m p p' q q' s f g = half-looks (next_mark m) _ _ q q' s (half-opened i.may_open j.may_open _ _ s o (half-on (mark m) (λ t. p) (λ t. p') q q' s (λ t c. f c) g)) g
 
   fresh-group : {S : List Filled → Type 0} (j : Inner) → j.may_open ≡ true → (m : Mark) → next_mark m (fill (Punctuator m)) ≡ true → (p' q' : Parser A) (last : ℕ) → Begins F P S p' 0 → Begins F P (λ us. Head (Punctuator m) us) (on_group j m p' q') last
@@ -415,37 +444,37 @@ module _ {A : Type 0} {F : A → List Filled → Type 0} {P : A → Type 0} wher
       at_mark : List Filled → Input
       at_mark us = record { tokens = fill (Punctuator m) ∷ (fills f.more ++ us); last = last }
 
-  pub group-must : {S : List Filled → Type 0} (i j : Inner) → j.may_open ≡ true → (m : Mark) → next_mark m (fill (Punctuator m)) ≡ true → (p p' q q' : Parser A) (s : Input) → ((c : Input) → Viable F P S p p' c) → Partly F P q q' s
-      → Viable F P (λ us. Head (Punctuator m) us) (on_group i m p q) (on_group j m p' q') s
+  pub group-must : {lim : Limit} {S : List Filled → Type 0} (i j : Inner) → j.may_open ≡ true → (m : Mark) → next_mark m (fill (Punctuator m)) ≡ true → (p p' q q' : Parser A) (s : Input) → ((c : Input) → Viable lim F P S p p' c) → Partly lim F P q q' s
+      → Viable lim F P (λ us. Head (Punctuator m) us) (on_group i m p q) (on_group j m p' q') s
   group-must i j o m e p p' q q' s f g = record { half = half-group i j o m p p' q q' s (λ c. past (f c)) g; fresh = fresh-group j o m e p' q' s.last (f (record { tokens = []; last = 0 })).fresh }
 
   pub fresh-without : {S : List Filled → Type 0} (j : Inner) (m : Mark) (p' q' : Parser A) (last : ℕ) → Begins F P S q' last → ((us : List Filled) → S us → next_is (next_mark m) us ≡ false) → Begins F P S (on_group j m p' q') last
   fresh-without j m p' q' last f miss = fresh-no (next_mark m) _ q' last f miss
 
-  pub group-may : {S : List Filled → Type 0} (i j : Inner) → j.may_open ≡ true → (m : Mark) (p p' q q' : Parser A) (s : Input) → ((c : Input) → Onward false F P p p' c) → Viable F P S q q' s → ((us : List Filled) → S us → next_is (next_mark m) us ≡ false)
-      → Viable F P S (on_group i m p q) (on_group j m p' q') s
+  pub group-may : {lim : Limit} {S : List Filled → Type 0} (i j : Inner) → j.may_open ≡ true → (m : Mark) (p p' q q' : Parser A) (s : Input) → ((c : Input) → Onward lim F P p p' c) → Viable lim F P S q q' s → ((us : List Filled) → S us → next_is (next_mark m) us ≡ false)
+      → Viable lim F P S (on_group i m p q) (on_group j m p' q') s
   group-may i j o m p p' q q' s f g miss = record { half = half-group i j o m p p' q q' s f g.half; fresh = fresh-without j m p' q' s.last g.fresh miss }
 
   -- ## Turns
 
-  pub endless : {S : List Filled → Type 0} {run : List Filled → Outcome A} {ts : List Filled} → Fresh F P S run → Goes F P S run ts (Fault Endless ts)
+  pub endless : {lim : Limit} {S : List Filled → Type 0} {run : List Filled → Outcome A} {ts : List Filled} → Fresh F P S run → Goes lim F P S run ts (Fault Endless ts)
   endless f = record { half = stops; fresh = f }
 
   -- other completions
-  pub weaken : {G : A → List Filled → Type 0} {Q : A → Type 0} {S : List Filled → Type 0} {run : List Filled → Outcome A} {ts : List Filled} {o : Outcome A} → ((y : A) → P y → Q y) → ((y : A) (us : List Filled) → P y → G y us → F y us) → Goes F P S run ts o → Goes G Q S run ts o
-  weaken {G = G} {Q = Q} v w g = record { half = half-weak g.half; fresh = record { more = g.fresh.more; value = g.fresh.value; last = g.fresh.last; ok = v g.fresh.value g.fresh.ok; reads = λ us h. g.fresh.reads us (w g.fresh.value us g.fresh.ok h); starts = λ us h. g.fresh.starts us (w g.fresh.value us g.fresh.ok h) } }
+  pub weaken : {lim : Limit} {G : A → List Filled → Type 0} {Q : A → Type 0} {S : List Filled → Type 0} {run : List Filled → Outcome A} {ts : List Filled} {o : Outcome A} → ((y : A) → P y → Q y) → ((y : A) (us : List Filled) → P y → G y us → F y us) → Goes lim F P S run ts o → Goes lim G Q S run ts o
+  weaken {lim = lim} {G = G} {Q = Q} v w g = record { half = half-weak g.half; fresh = record { more = g.fresh.more; value = g.fresh.value; last = g.fresh.last; ok = v g.fresh.value g.fresh.ok; reads = λ us h. g.fresh.reads us (w g.fresh.value us g.fresh.ok h); starts = λ us h. g.fresh.starts us (w g.fresh.value us g.fresh.ok h) } }
     where
-      half-weak : {run : List Filled → Outcome A} {ts : List Filled} {o : Outcome A} → Half F P run ts o → Half G Q run ts o
+      half-weak : {run : List Filled → Outcome A} {ts : List Filled} {o : Outcome A} → Half lim F P run ts o → Half lim G Q run ts o
       half-weak (stands e k) = stands e k
       half-weak (some t front e k n) = some t front e k (record { more = n.more; value = n.value; last = n.last; ok = v n.value n.ok; reads = λ us h. n.reads us (w n.value us n.ok h) })
-      half-weak (gives_up front t e k) = gives_up front t e k
+      half-weak (gives_up k) = gives_up k
 
 -- ## Single tokens
 
-pub take : {B : Type 0} {F : B → List Filled → Type 0} (test : Filled → Option B) (k : TokenKind) (x : B) → test (fill k) ≡ Some x → (s : Input) → Viable F Any (λ us. Head k us) (take_as test) (take_as test) s
+pub take : {lim : Limit} {B : Type 0} {F : B → List Filled → Type 0} (test : Filled → Option B) (k : TokenKind) (x : B) → test (fill k) ≡ Some x → (s : Input) → Viable lim F Any (λ us. Head k us) (take_as test) (take_as test) s
 take test k x e s = must test k x e _ _ _ _ s (λ y c. done-ok tt) (nowhere s)
 
-pub done : {A : Type 0} {F : A → List Filled → Type 0} {ts : List Filled} {last : ℕ} {x : A} → Goes F Any (λ us. F x us) (λ us. Took x (record { tokens = us; last = last })) ts (Took x (record { tokens = ts; last = last }))
+pub done : {lim : Limit} {A : Type 0} {F : A → List Filled → Type 0} {ts : List Filled} {last : ℕ} {x : A} → Goes lim F Any (λ us. F x us) (λ us. Took x (record { tokens = us; last = last })) ts (Took x (record { tokens = ts; last = last }))
 done = done-ok tt
 
 pub head-zero : {k : TokenKind} (us : List Filled) → Head k us → begin_of us ≡ 0
@@ -465,7 +494,7 @@ pub begins-fresh : {A : Type 0} {F : A → List Filled → Type 0} {P : A → Ty
 begins-fresh p' last zeros e = record { more = e.more; value = e.value; last = e.last; ok = e.ok; reads = λ us h. ap (λ at. p' at (record { tokens = fills e.more ++ us; last = last })) (zeros (fills e.more ++ us) (e.starts us h)) ∙ e.reads us h; starts = e.starts }
 
 -- by tokens of which is not said how they begin
-pub anywhere : {A : Type 0} {F : A → List Filled → Type 0} {P : A → Type 0} {S : List Filled → Type 0} {run : List Filled → Outcome A} {ts : List Filled} {o : Outcome A} → Goes F P S run ts o → Goes F P Anything run ts o
+pub anywhere : {lim : Limit} {A : Type 0} {F : A → List Filled → Type 0} {P : A → Type 0} {S : List Filled → Type 0} {run : List Filled → Outcome A} {ts : List Filled} {o : Outcome A} → Goes lim F P S run ts o → Goes lim F P Anything run ts o
 anywhere g = record { half = g.half; fresh = free g.fresh }
 
 pub no-next : {A : Type 0} (test : Filled → Bool) (p q : Parser A) (us : List Filled) (last : ℕ) → next_is test us ≡ false → if_next test p q (record { tokens = us; last = last }) ≡ q (record { tokens = us; last = last })

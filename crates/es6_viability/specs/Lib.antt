@@ -1,2 +1,2 @@
 pub mod Alive
-pub mod Insertions
+pub mod Spelled

@@ -1,11 +1,11 @@
-//! Laws of the model that reads modules: that some module begins with the tokens before each fault, and that what is spelled with
-//! inserted semicolons is read. Each is the contract of a function that does nothing.
+//! Laws of the model that reads modules: it reads what the standard's rule for semicolons spells, and each fault stands at the first
+//! token with which no module goes on. Each is the contract of a function that does nothing.
 #![tactic(auto)]
 
 ghost use Rattle.es6_viability.specs.Alive.{NoDeadTokenIsPassed, TokensBeforeFaultsAreAlive};
-ghost use Rattle.es6_viability.specs.Insertions.{AreReadWithInsertions, FaultsAreDeadWithInsertions, InsertionsAreStandard};
+ghost use Rattle.es6_viability.specs.Spelled.{FaultsAreDead, NoneIsSpelledPastFaults, ReadModulesAreSpelled, SpelledModulesAreRead};
 
-/// Some module begins with the tokens that stand before a fault.
+/// Some module begins with the tokens that stand before a fault, unless that is for want of turns.
 pub fn tokens_before_faults_are_alive()
     ensures { TokensBeforeFaultsAreAlive }
 {}
@@ -16,18 +16,23 @@ pub fn no_dead_token_is_passed()
 {}
 
 /// A module is read of tokens that spell it by the standard's rule for semicolons, if loops have turns enough and constructs enough
-/// may open, and if no semicolon that ends a do-while is left out, nor one before an assignment operator or `of`.
-pub fn what_is_spelled_with_insertions_is_read()
-    ensures { AreReadWithInsertions }
+/// may open.
+pub fn spelled_modules_are_read()
+    ensures { SpelledModulesAreRead }
 {}
 
-/// What is spelled so is spelled by the standard's rule.
-pub fn such_insertions_are_the_standards()
-    ensures { InsertionsAreStandard }
+/// Tokens spell, by the standard's rule for semicolons, what is read of them.
+pub fn read_modules_are_spelled()
+    ensures { ReadModulesAreSpelled }
 {}
 
-/// A fault stands at a token with which no such module goes on after the tokens before it, unless it is for want of constructs that
-/// may open, or of turns.
-pub fn faults_stand_where_no_module_with_insertions_goes_on()
-    ensures { FaultsAreDeadWithInsertions }
+/// No tokens that are the same up to a fault spell a module, unless it is for want of constructs that may open, or of turns.
+pub fn none_is_spelled_past_faults()
+    ensures { NoneIsSpelledPastFaults }
+{}
+
+/// A fault stands at a token with which no module goes on after the tokens before it, unless it is for want of constructs that may
+/// open, or of turns.
+pub fn faults_are_dead()
+    ensures { FaultsAreDead }
 {}
