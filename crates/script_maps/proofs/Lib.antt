@@ -1,0 +1,3 @@
+pub mod Targets
+pub mod Valid
+pub mod Zips
