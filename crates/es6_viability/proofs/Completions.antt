@@ -32,7 +32,7 @@ x_ = Word (codes "x")
 abbrev pub Free : {A : Type 0} → A → List Filled → Type 0
 Free y us = Unit {0}
 
--- What may follow an expression that is completed: a mark that closes or separates, and behind a heritage a brace.
+-- What may follow an expression that is completed: nothing, a mark that closes or separates, and behind a heritage a brace.
 pub data Closer : Bool → List Filled → Type 0 where
   parenthesis : {b : Bool} {us : List Filled} → Closer b (fill (Punctuator marks.RightParenthesis) ∷ us)
   bracket : {b : Bool} {us : List Filled} → Closer b (fill (Punctuator marks.RightBracket) ∷ us)
@@ -40,6 +40,7 @@ pub data Closer : Bool → List Filled → Type 0 where
   semicolon : {b : Bool} {us : List Filled} → Closer b (fill (Punctuator marks.Semicolon) ∷ us)
   colon : {b : Bool} {us : List Filled} → Closer b (fill (Punctuator marks.Colon) ∷ us)
   tail : {b : Bool} {us : List Filled} → Closer b (fill (Template [] [] false true) ∷ us)
+  nothing : {b : Bool} → Closer b []
   opening : {us : List Filled} → Closer true (fill (Punctuator marks.LeftBrace) ∷ us)
 
 -- the same, or `=>`
@@ -54,6 +55,7 @@ wider us brace = brace
 wider us semicolon = semicolon
 wider us colon = colon
 wider us tail = tail
+wider us nothing = nothing
 
 pub after-closer : (us : List Filled) → Closer false us → After us
 after-closer us h = closes (wider us h)
@@ -63,6 +65,7 @@ pub data Behind : List Filled → Type 0 where
   behind_brace : {us : List Filled} → Behind (fill (Punctuator marks.RightBrace) ∷ us)
   behind_while : {us : List Filled} → Behind (fill (Word (codes "while")) ∷ us)
   behind_end : {us : List Filled} → Behind (fill End ∷ us)
+  behind_nothing : Behind []
 
 -- ## Parentheses that only an arrow's parameters have
 
@@ -146,86 +149,90 @@ pub record Better (lim : Limit) (l : ℕ) (i j : Inner) : Type 0 where
 -- ## Tests of what follows
 
 pub each-closer : (Q : List Filled → Type 0) → ((us : List Filled) → Q (fill (Punctuator marks.RightParenthesis) ∷ us)) → ((us : List Filled) → Q (fill (Punctuator marks.RightBracket) ∷ us)) → ((us : List Filled) → Q (fill (Punctuator marks.RightBrace) ∷ us))
-    → ((us : List Filled) → Q (fill (Punctuator marks.Semicolon) ∷ us)) → ((us : List Filled) → Q (fill (Punctuator marks.Colon) ∷ us)) → ((us : List Filled) → Q (fill (Template [] [] false true) ∷ us)) → (us : List Filled) → Closer false us → Q us
-each-closer Q a b c d e f us (parenthesis {us = vs}) = a vs
-each-closer Q a b c d e f us (bracket {us = vs}) = b vs
-each-closer Q a b c d e f us (brace {us = vs}) = c vs
-each-closer Q a b c d e f us (semicolon {us = vs}) = d vs
-each-closer Q a b c d e f us (colon {us = vs}) = e vs
-each-closer Q a b c d e f us (tail {us = vs}) = f vs
+    → ((us : List Filled) → Q (fill (Punctuator marks.Semicolon) ∷ us)) → ((us : List Filled) → Q (fill (Punctuator marks.Colon) ∷ us)) → ((us : List Filled) → Q (fill (Template [] [] false true) ∷ us)) → Q [] → (us : List Filled) → Closer false us → Q us
+each-closer Q a b c d e f z us (parenthesis {us = vs}) = a vs
+each-closer Q a b c d e f z us (bracket {us = vs}) = b vs
+each-closer Q a b c d e f z us (brace {us = vs}) = c vs
+each-closer Q a b c d e f z us (semicolon {us = vs}) = d vs
+each-closer Q a b c d e f z us (colon {us = vs}) = e vs
+each-closer Q a b c d e f z us (tail {us = vs}) = f vs
+each-closer Q a b c d e f z us nothing = z
 
 pub each : (Q : List Filled → Type 0) → ((us : List Filled) → Q (fill (Punctuator marks.RightParenthesis) ∷ us)) → ((us : List Filled) → Q (fill (Punctuator marks.RightBracket) ∷ us)) → ((us : List Filled) → Q (fill (Punctuator marks.RightBrace) ∷ us))
     → ((us : List Filled) → Q (fill (Punctuator marks.Semicolon) ∷ us)) → ((us : List Filled) → Q (fill (Punctuator marks.Colon) ∷ us)) → ((us : List Filled) → Q (fill (Template [] [] false true) ∷ us)) → ((us : List Filled) → Q (fill (Punctuator marks.LeftBrace) ∷ us))
-    → ((us : List Filled) → Q (fill (Punctuator marks.Arrow) ∷ us)) → (us : List Filled) → After us → Q us
-each Q a b c d e f g h us (closes (parenthesis {us = vs})) = a vs
-each Q a b c d e f g h us (closes (bracket {us = vs})) = b vs
-each Q a b c d e f g h us (closes (brace {us = vs})) = c vs
-each Q a b c d e f g h us (closes (semicolon {us = vs})) = d vs
-each Q a b c d e f g h us (closes (colon {us = vs})) = e vs
-each Q a b c d e f g h us (closes (tail {us = vs})) = f vs
-each Q a b c d e f g h us (closes (opening {us = vs})) = g vs
-each Q a b c d e f g h us (arrow {us = vs}) = h vs
+    → ((us : List Filled) → Q (fill (Punctuator marks.Arrow) ∷ us)) → Q [] → (us : List Filled) → After us → Q us
+each Q a b c d e f g h z us (closes (parenthesis {us = vs})) = a vs
+each Q a b c d e f g h z us (closes (bracket {us = vs})) = b vs
+each Q a b c d e f g h z us (closes (brace {us = vs})) = c vs
+each Q a b c d e f g h z us (closes (semicolon {us = vs})) = d vs
+each Q a b c d e f g h z us (closes (colon {us = vs})) = e vs
+each Q a b c d e f g h z us (closes (tail {us = vs})) = f vs
+each Q a b c d e f g h z us (closes (opening {us = vs})) = g vs
+each Q a b c d e f g h z us (closes nothing) = z
+each Q a b c d e f g h z us (arrow {us = vs}) = h vs
 
 pub after-zero : (us : List Filled) → After us → begin_of us ≡ 0
-after-zero us k = each (λ us. begin_of us ≡ 0) (λ us. refl) (λ us. refl) (λ us. refl) (λ us. refl) (λ us. refl) (λ us. refl) (λ us. refl) (λ us. refl) us k
+after-zero us k = each (λ us. begin_of us ≡ 0) (λ us. refl) (λ us. refl) (λ us. refl) (λ us. refl) (λ us. refl) (λ us. refl) (λ us. refl) (λ us. refl) refl us k
 
 pub no-dot : (us : List Filled) → After us → Misses (mark marks.Dot) us
-no-dot us k = each (λ us. Misses (mark marks.Dot) us) (λ us. refl) (λ us. refl) (λ us. refl) (λ us. refl) (λ us. refl) (λ us. refl) (λ us. refl) (λ us. refl) us k
+no-dot us k = each (λ us. Misses (mark marks.Dot) us) (λ us. refl) (λ us. refl) (λ us. refl) (λ us. refl) (λ us. refl) (λ us. refl) (λ us. refl) (λ us. refl) tt us k
 
 pub no-index : (us : List Filled) → After us → next_is (next_mark marks.LeftBracket) us ≡ false
-no-index us k = each (λ us. next_is (next_mark marks.LeftBracket) us ≡ false) (λ us. refl) (λ us. refl) (λ us. refl) (λ us. refl) (λ us. refl) (λ us. refl) (λ us. refl) (λ us. refl) us k
+no-index us k = each (λ us. next_is (next_mark marks.LeftBracket) us ≡ false) (λ us. refl) (λ us. refl) (λ us. refl) (λ us. refl) (λ us. refl) (λ us. refl) (λ us. refl) (λ us. refl) refl us k
 
 pub no-call : (us : List Filled) → After us → next_is (next_mark marks.LeftParenthesis) us ≡ false
-no-call us k = each (λ us. next_is (next_mark marks.LeftParenthesis) us ≡ false) (λ us. refl) (λ us. refl) (λ us. refl) (λ us. refl) (λ us. refl) (λ us. refl) (λ us. refl) (λ us. refl) us k
+no-call us k = each (λ us. next_is (next_mark marks.LeftParenthesis) us ≡ false) (λ us. refl) (λ us. refl) (λ us. refl) (λ us. refl) (λ us. refl) (λ us. refl) (λ us. refl) (λ us. refl) refl us k
 
 pub no-template : (us : List Filled) → After us → Misses (stretch_at true true) us
-no-template us k = each (λ us. Misses (stretch_at true true) us) (λ us. refl) (λ us. refl) (λ us. refl) (λ us. refl) (λ us. refl) (λ us. refl) (λ us. refl) (λ us. refl) us k
+no-template us k = each (λ us. Misses (stretch_at true true) us) (λ us. refl) (λ us. refl) (λ us. refl) (λ us. refl) (λ us. refl) (λ us. refl) (λ us. refl) (λ us. refl) tt us k
 
 pub no-parted : (us : List Filled) → After us → next_is (λ t. is_some (stretch_at true false t)) us ≡ false
-no-parted us k = each (λ us. next_is (λ t. is_some (stretch_at true false t)) us ≡ false) (λ us. refl) (λ us. refl) (λ us. refl) (λ us. refl) (λ us. refl) (λ us. refl) (λ us. refl) (λ us. refl) us k
+no-parted us k = each (λ us. next_is (λ t. is_some (stretch_at true false t)) us ≡ false) (λ us. refl) (λ us. refl) (λ us. refl) (λ us. refl) (λ us. refl) (λ us. refl) (λ us. refl) (λ us. refl) refl us k
 
 pub no-postfix : (us : List Filled) → After us → Misses after_at us
-no-postfix us k = each (λ us. Misses after_at us) (λ us. refl) (λ us. refl) (λ us. refl) (λ us. refl) (λ us. refl) (λ us. refl) (λ us. refl) (λ us. refl) us k
+no-postfix us k = each (λ us. Misses after_at us) (λ us. refl) (λ us. refl) (λ us. refl) (λ us. refl) (λ us. refl) (λ us. refl) (λ us. refl) (λ us. refl) tt us k
 
 pub no-power : (us : List Filled) → After us → Misses (mark marks.StarStar) us
-no-power us k = each (λ us. Misses (mark marks.StarStar) us) (λ us. refl) (λ us. refl) (λ us. refl) (λ us. refl) (λ us. refl) (λ us. refl) (λ us. refl) (λ us. refl) us k
+no-power us k = each (λ us. Misses (mark marks.StarStar) us) (λ us. refl) (λ us. refl) (λ us. refl) (λ us. refl) (λ us. refl) (λ us. refl) (λ us. refl) (λ us. refl) tt us k
 
 pub no-binary : (f : Flags) (level : ℕ) (us : List Filled) → After us → Misses (binary_at f level) us
 unfolding binary_operators
-no-binary f level us k = each (λ us. Misses (binary_at f level) us) (λ us. refl) (λ us. refl) (λ us. refl) (λ us. refl) (λ us. refl) (λ us. refl) (λ us. refl) (λ us. refl) us k
+no-binary f level us k = each (λ us. Misses (binary_at f level) us) (λ us. refl) (λ us. refl) (λ us. refl) (λ us. refl) (λ us. refl) (λ us. refl) (λ us. refl) (λ us. refl) tt us k
 
 pub no-question : (us : List Filled) → After us → Misses (mark marks.Question) us
-no-question us k = each (λ us. Misses (mark marks.Question) us) (λ us. refl) (λ us. refl) (λ us. refl) (λ us. refl) (λ us. refl) (λ us. refl) (λ us. refl) (λ us. refl) us k
+no-question us k = each (λ us. Misses (mark marks.Question) us) (λ us. refl) (λ us. refl) (λ us. refl) (λ us. refl) (λ us. refl) (λ us. refl) (λ us. refl) (λ us. refl) tt us k
 
 pub no-arrow : (us : List Filled) → Closer false us → next_is is_arrow us ≡ false
-no-arrow us k = each-closer (λ us. next_is is_arrow us ≡ false) (λ us. refl) (λ us. refl) (λ us. refl) (λ us. refl) (λ us. refl) (λ us. refl) us k
+no-arrow us k = each-closer (λ us. next_is is_arrow us ≡ false) (λ us. refl) (λ us. refl) (λ us. refl) (λ us. refl) (λ us. refl) (λ us. refl) refl us k
 
 pub no-assign : (us : List Filled) → Closer false us → Misses assign_at us
 unfolding assign_operators
-no-assign us k = each-closer (λ us. Misses assign_at us) (λ us. refl) (λ us. refl) (λ us. refl) (λ us. refl) (λ us. refl) (λ us. refl) us k
+no-assign us k = each-closer (λ us. Misses assign_at us) (λ us. refl) (λ us. refl) (λ us. refl) (λ us. refl) (λ us. refl) (λ us. refl) tt us k
 
 pub no-initializer : (us : List Filled) → Closer false us → Misses (mark marks.Assign) us
-no-initializer us k = each-closer (λ us. Misses (mark marks.Assign) us) (λ us. refl) (λ us. refl) (λ us. refl) (λ us. refl) (λ us. refl) (λ us. refl) us k
+no-initializer us k = each-closer (λ us. Misses (mark marks.Assign) us) (λ us. refl) (λ us. refl) (λ us. refl) (λ us. refl) (λ us. refl) (λ us. refl) tt us k
 
 pub no-comma : (us : List Filled) → Closer false us → Misses (mark marks.Comma) us
-no-comma us k = each-closer (λ us. Misses (mark marks.Comma) us) (λ us. refl) (λ us. refl) (λ us. refl) (λ us. refl) (λ us. refl) (λ us. refl) us k
+no-comma us k = each-closer (λ us. Misses (mark marks.Comma) us) (λ us. refl) (λ us. refl) (λ us. refl) (λ us. refl) (λ us. refl) (λ us. refl) tt us k
 
 pub no-star : (us : List Filled) → Closer false us → Misses star_at us
-no-star us k = each-closer (λ us. Misses star_at us) (λ us. refl) (λ us. refl) (λ us. refl) (λ us. refl) (λ us. refl) (λ us. refl) us k
+no-star us k = each-closer (λ us. Misses star_at us) (λ us. refl) (λ us. refl) (λ us. refl) (λ us. refl) (λ us. refl) (λ us. refl) tt us k
 
 pub no-value : (us : List Filled) → Closer false us → next_is (λ t. not (ends_yield t)) us ≡ false
 unfolding ends_yield
-no-value us k = each-closer (λ us. next_is (λ t. not (ends_yield t)) us ≡ false) (λ us. refl) (λ us. refl) (λ us. refl) (λ us. refl) (λ us. refl) (λ us. refl) us k
+no-value us k = each-closer (λ us. next_is (λ t. not (ends_yield t)) us ≡ false) (λ us. refl) (λ us. refl) (λ us. refl) (λ us. refl) (λ us. refl) (λ us. refl) refl us k
 
 pub no-else : (us : List Filled) → Behind us → Misses (word (codes "else")) us
 no-else us behind_brace = refl
 no-else us behind_while = refl
 no-else us behind_end = refl
+no-else us behind_nothing = tt
 
 pub no-finally : (us : List Filled) → Behind us → Misses (word (codes "finally")) us
 no-finally us behind_brace = refl
 no-finally us behind_while = refl
 no-finally us behind_end = refl
+no-finally us behind_nothing = tt
 
 -- ## The name
 

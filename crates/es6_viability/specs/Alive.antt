@@ -1,12 +1,19 @@
--- That what a reader of modules takes is alive: some module begins with it.
-use Rattle.std.specs.Prelude.{◌≡◌, ℕ, ◌+◌, ◌<◌, List, ◌++◌, length, map}
+-- That what a reader takes is alive: some module, expression or statement begins with it.
+use Rattle.std.specs.Prelude.{◌≡◌, ℕ, ◌+◌, ◌<◌, true, List, ◌++◌, length, map}
 use Rattle.es6_lexer.specs.declared.token.Token.{Token}
+use Rattle.es6_ast.specs.declared.settings.Flags.{Flags}
+use Rattle.es6_ast.specs.declared.settings.Stand.TheVariants.{Listed}
 use Rattle.es6_ast.specs.declared.settings.Stop.{Stop}
 use Rattle.es6_ast.specs.declared.settings.Stop.TheVariants.{Endless}
+use Rattle.es6_ast.specs.declared.tree.Statement.{Statement}
 use Rattle.es6_ast.specs.Dead.{IsAlive, IsDead}
+use Rattle.es6_ast.specs.Grammar.{level_sequence}
+use Rattle.es6_ast.specs.Semicolons.{SpellsExpression, SpellsStatement}
 use Rattle.es6_ast.specs.Tokens.{Filled, read}
-use Rattle.es6_reading.specs.Modules.{read_module}
-use Rattle.es6_reading.specs.Parser.{Fault}
+use Rattle.es6_reading.specs.Expressions.{sequence}
+use Rattle.es6_reading.specs.Modules.{read_module, readers}
+use Rattle.es6_reading.specs.Parser.{Fault, Reading}
+use Rattle.es6_reading.specs.Statements.{statement}
 
 -- Some module begins with the tokens before a fault, whatever stops the reader there but want of turns.
 abbrev pub TokensBeforeFaultsAreAlive : Type 0
@@ -15,3 +22,24 @@ TokensBeforeFaultsAreAlive = (fuel : ℕ) (front behind : List Token) (stop : St
 -- So no token before a fault is dead: a reader stops no later than at the first token with which no module goes on.
 abbrev pub NoDeadTokenIsPassed : Type 0
 NoDeadTokenIsPassed = (fuel : ℕ) (tokens : List Token) (stop : Stop) (rest : List Filled) → read_module fuel (map read tokens) ≡ Fault stop rest → (stop ≡ Endless → ⊥) → (p : ℕ) → p + length rest < length tokens → IsDead tokens p → ⊥
+
+-- Something begins with these tokens, and goes on up to others that it doesn't take.
+pub record IsBegun {A : Type 0} (Spells : A → List Token → List Token → Type 0) (tokens : List Token) : Type 0 where
+  pub more : List Token
+  pub rest : List Token
+  pub value : A
+  pub spelled : Spells value (tokens ++ (more ++ rest)) rest
+
+-- some expression begins with these tokens, or some statement or declaration
+abbrev pub BeginsExpression : Flags → List Token → Type 0
+BeginsExpression f tokens = IsBegun (λ (x : Reading) ts rest. SpellsExpression f level_sequence ts x.value rest) tokens
+
+abbrev pub BeginsStatement : Flags → List Token → Type 0
+BeginsStatement f tokens = IsBegun (λ (x : Statement) ts rest. SpellsStatement f ts x rest) tokens
+
+-- So it is with the tokens before a fault, but one for want of turns.
+abbrev pub TokensBeforeFaultsBeginExpressions : Type 0
+TokensBeforeFaultsBeginExpressions = (fuel room : ℕ) (f : Flags) (front behind : List Token) (stop : Stop) → sequence (readers true fuel room) f (record { tokens = map read (front ++ behind); last = 0 }) ≡ Fault stop (map read behind) → (stop ≡ Endless → ⊥) → BeginsExpression f front
+
+abbrev pub TokensBeforeFaultsBeginStatements : Type 0
+TokensBeforeFaultsBeginStatements = (fuel room : ℕ) (f : Flags) (front behind : List Token) (stop : Stop) → statement (readers true fuel room) f Listed (record { tokens = map read (front ++ behind); last = 0 }) ≡ Fault stop (map read behind) → (stop ≡ Endless → ⊥) → BeginsStatement f front

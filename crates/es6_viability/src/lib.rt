@@ -1,9 +1,13 @@
 //! Laws of the model that reads modules: it reads what the standard's rule for semicolons spells, and each fault stands at the first
-//! token with which no module goes on. Each is the contract of a function that does nothing.
+//! token with which no module goes on, or where too many constructs are open. Each is the contract of a function that does nothing.
 #![tactic(auto)]
 
 ghost use Rattle.es6_viability.specs.Alive.{NoDeadTokenIsPassed, TokensBeforeFaultsAreAlive};
-ghost use Rattle.es6_viability.specs.Spelled.{FaultsAreDead, NoneIsSpelledPastFaults, ReadModulesAreSpelled, SpelledModulesAreRead};
+ghost use Rattle.es6_viability.specs.Alive.{TokensBeforeFaultsBeginExpressions, TokensBeforeFaultsBeginStatements};
+ghost use Rattle.es6_viability.specs.Fronts.{SpelledExpressionsAreRead, SpelledStatementsAreRead};
+ghost use Rattle.es6_viability.specs.Spelled.{FaultsAreDead, LexicalFaultsAreReported, NoneIsSpelledPastFaults, ReadModulesAreSpelled, SpelledModulesAreRead, SpelledModulesAreReadOrLimited};
+ghost use Rattle.es6_viability.specs.TooDeep.{ExpressionsAreShallow, ExpressionsAreTooDeep, ModulesAreTooDeep};
+ghost use Rattle.es6_viability.specs.TooDeep.{StatementsAreShallow, StatementsAreTooDeep};
 
 /// Some module begins with the tokens that stand before a fault, unless that is for want of turns.
 pub fn tokens_before_faults_are_alive()
@@ -26,6 +30,11 @@ pub fn read_modules_are_spelled()
     ensures { ReadModulesAreSpelled }
 {}
 
+/// Whatever turns loops have, a module that tokens spell is read, or the reader stops for want of constructs that may open or of turns.
+pub fn spelled_modules_are_read_or_limited()
+    ensures { SpelledModulesAreReadOrLimited }
+{}
+
 /// No tokens that are the same up to a fault spell a module, unless it is for want of constructs that may open, or of turns.
 pub fn none_is_spelled_past_faults()
     ensures { NoneIsSpelledPastFaults }
@@ -35,4 +44,56 @@ pub fn none_is_spelled_past_faults()
 /// open, or of turns.
 pub fn faults_are_dead()
     ensures { FaultsAreDead }
+{}
+
+/// A lexical fault is reported at a token that is one, and with which no module goes on.
+pub fn lexical_faults_are_reported()
+    ensures { LexicalFaultsAreReported }
+{}
+
+/// An expression that tokens begin with by the standard's rule for semicolons, before what goes on with none, is what is read of them,
+/// neither a shorter nor a longer one, or the reader stops for want of constructs that may open or of turns.
+pub fn spelled_expressions_are_read()
+    ensures { SpelledExpressionsAreRead }
+{}
+
+/// The same of a statement or declaration, if no `finally` follows it.
+pub fn spelled_statements_are_read()
+    ensures { SpelledStatementsAreRead }
+{}
+
+/// A reader of an expression stops for depth only at a token at which more constructs are open than may be, in whatever expression is
+/// read of tokens that begin with those up to it.
+pub fn depth_faults_of_expressions_stand_where_too_many_are_open()
+    ensures { ExpressionsAreTooDeep }
+{}
+
+/// The same of a reader of a statement or declaration.
+pub fn depth_faults_of_statements_stand_where_too_many_are_open()
+    ensures { StatementsAreTooDeep }
+{}
+
+/// The same of a reader of a module.
+pub fn depth_faults_of_modules_stand_where_too_many_are_open()
+    ensures { ModulesAreTooDeep }
+{}
+
+/// At each token of an expression that is read, no more constructs are open in it than may be.
+pub fn expressions_are_shallow()
+    ensures { ExpressionsAreShallow }
+{}
+
+/// At each token of a statement or declaration that is read, no more constructs are open in it than may be.
+pub fn statements_are_shallow()
+    ensures { StatementsAreShallow }
+{}
+
+/// Some expression begins with the tokens that stand before a fault of a reader of expressions.
+pub fn tokens_before_faults_begin_expressions()
+    ensures { TokensBeforeFaultsBeginExpressions }
+{}
+
+/// Some statement or declaration begins with the tokens that stand before a fault of a reader of statements.
+pub fn tokens_before_faults_begin_statements()
+    ensures { TokensBeforeFaultsBeginStatements }
 {}

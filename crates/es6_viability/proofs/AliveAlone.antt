@@ -1,0 +1,94 @@
+-- Some expression, or some statement or declaration, begins with the tokens before a fault.
+use Rattle.std.proofs.Common.{◌≡◌, ◌∙◌, ℕ, suc, Bool, true, false, List, [], ◌∷◌, ◌++◌, map, refl, sym, ap, subst, append_assoc}
+use Rattle.std.proofs.lemmas.List.{append-nil, append_cancel_right, map-append}
+use Rattle.es6_lexer.specs.declared.token.Token.{Token}
+use Rattle.es6_lexer.specs.declared.token.TokenKind.{TokenKind}
+use Rattle.es6_lexer.specs.declared.token.TokenKind.TheVariants as kinds
+use Rattle.es6_lexer.specs.declared.token.Punctuator.TheVariants as marks
+use Rattle.es6_ast.specs.declared.tree.Statement.{Statement}
+use Rattle.es6_ast.specs.declared.settings.Flags.{Flags}
+use Rattle.es6_ast.specs.declared.settings.Stand.TheVariants.{Listed}
+use Rattle.es6_ast.specs.declared.settings.Stop.{Stop}
+use Rattle.es6_ast.specs.declared.settings.Stop.TheVariants.{Endless}
+use Rattle.es6_ast.specs.Grammar.{level_sequence}
+use Rattle.es6_ast.specs.Semicolons.{SpellsExpression, SpellsStatement}
+use Rattle.es6_ast.specs.Tokens.{Filled, Read, read}
+use Rattle.es6_reading.specs.Expressions.{sequence}
+use Rattle.es6_reading.specs.Modules.{readers}
+use Rattle.es6_reading.specs.Parser.{Outcome, Took, Fault, Reading}
+use Rattle.es6_reading.specs.Statements.{statement}
+use Rattle.es6_reading.proofs.Follows.{plus}
+use Rattle.es6_viability.specs.Alive.{BeginsExpression, BeginsStatement, IsBegun, TokensBeforeFaultsBeginExpressions, TokensBeforeFaultsBeginStatements}
+use Rattle.es6_viability.proofs.Completions.{x_, Closer, parenthesis, Behind, behind_end}
+use Rattle.es6_viability.proofs.Expressions as expressions'
+use Rattle.es6_viability.proofs.Readers.{better, lasting}
+use Rattle.es6_viability.proofs.SpelledAlone.{Spelled, expression-spelled, statement-spelled}
+use Rattle.es6_viability.proofs.Statements as statements'
+use Rattle.es6_viability.proofs.Viable.{fill, fills, left, Any, Fresh, Half, Head, stands, some, gives_up}
+
+-- a token that is put in
+abbrev token_of : TokenKind → Token
+token_of k = record { kind = k; span = record { begin = 0; end = 0 }; newline = false }
+
+tokens-of : (ks : List TokenKind) → fills ks ≡ map read (map token_of ks)
+tokens-of [] = refl
+tokens-of (k ∷ ks) = ap (λ us. fill k ∷ us) (tokens-of ks)
+
+row-of : (front : List Token) (ks : List TokenKind) (k : TokenKind) → map read front ++ (fills ks ++ fill k ∷ []) ≡ map read ((front ++ map token_of ks) ++ token_of k ∷ [])
+row-of front ks k =
+    ap (λ us. map read front ++ (us ++ fill k ∷ [])) (tokens-of ks)
+    ∙ sym (append_assoc (map read front) (map read (map token_of ks)) (fill k ∷ []))
+    ∙ ap (λ us. us ++ fill k ∷ []) (sym (map-append read front (map token_of ks)))
+    ∙ sym (map-append read (front ++ map token_of ks) (token_of k ∷ []))
+
+kind-of : {j k : TokenKind} → Read j ≡ Read k → j ≡ k
+kind-of e = cc
+
+read-same : (t u : Token) → read t ≡ read u → t ≡ u
+read-same t u e =
+    let kinds' : t.kind ≡ u.kind = kind-of (ap (λ x. x.kind) e) in
+    let spans : t.span ≡ u.span = ap (λ x. x.span) e in
+    let lines : t.newline ≡ u.newline = ap (λ x. x.newline) e in
+    ap (λ k. record { kind = k; span = t.span; newline = t.newline }) kinds' ∙ ap (λ s. record { kind = u.kind; span = s; newline = t.newline }) spans ∙ ap (λ n. record { kind = u.kind; span = u.span; newline = n }) lines
+
+head-of : {t u : Filled} {ts us : List Filled} → t ∷ ts ≡ u ∷ us → t ≡ u
+head-of e = cc
+
+-- one token is left
+last-left : (rest : List Token) (k : TokenKind) → fill k ∷ [] ≡ map read rest → rest ≡ token_of k ∷ []
+last-left [] k e = absurd (cc)
+last-left (t ∷ []) k e = ap (λ u. u ∷ []) (read-same t (token_of k) (sym (head-of e)))
+last-left (t ∷ u ∷ rest) k e = absurd (cc)
+
+module _ {A : Type 0} (Spells : A → List Token → List Token → Type 0) (k : TokenKind) (run : List Filled → Outcome A) (spelled : (tokens : List Token) (x : A) (last : ℕ) → run (map read tokens) ≡ Took x (record { tokens = fill k ∷ []; last = last }) → Spelled (Spells x) tokens (fill k ∷ [])) (F : A → List Filled → Type 0) (ends : (x : A) → F x (fill k ∷ [])) (front behind : List Token) where
+  alive-with : (more : List TokenKind) (x : A) (last : ℕ) → run (map read front ++ (fills more ++ fill k ∷ [])) ≡ Took x (record { tokens = fill k ∷ []; last = last }) → IsBegun Spells front
+  alive-with more x last r =
+      let tokens : List Token = (front ++ map token_of more) ++ token_of k ∷ [] in
+      let s = spelled tokens x last (ap run (sym (row-of front more k)) ∙ r) in
+      record { more = map token_of more; rest = token_of k ∷ []; value = x; spelled = subst (λ ts. Spells x ts (token_of k ∷ [])) (append_assoc front (map token_of more) (token_of k ∷ [])) (subst (λ ts. Spells x tokens ts) (last-left s.rest k s.left_) s.spelled) }
+
+  alive-by : {fuel : ℕ} {S : List Filled → Type 0} (stop : Stop) {o : Outcome A} → (stop ≡ Endless → ⊥) → o ≡ Fault stop (map read behind) → Half (lasting true fuel) F Any run (map read (front ++ behind)) o → Fresh F Any S run → IsBegun Spells front
+  alive-by stop {o = o} final h (stands e t) f = alive-with f.more f.value f.last (ap (λ us. run (us ++ (fills f.more ++ fill k ∷ []))) none ∙ f.reads (fill k ∷ []) (ends f.value))
+    where
+      none : map read front ≡ []
+      none = append_cancel_right (map read front) [] (map read behind) (sym (map-append read front behind) ∙ e ∙ ap left h)
+  alive-by stop {o = o} final h (some t before e l n) f = alive-with n.more n.value n.last (ap (λ us. run (us ++ (fills n.more ++ fill k ∷ []))) whole ∙ n.reads (fill k ∷ []) (ends n.value))
+    where
+      whole : map read front ≡ t ∷ before
+      whole = append_cancel_right (map read front) (t ∷ before) (map read behind) (sym (map-append read front behind) ∙ e ∙ ap (λ us. (t ∷ before) ++ us) (ap left h))
+  alive-by stop final h (gives_up a) f = absurd (final (stop-of h))
+    where
+      stop-of : {us vs : List Filled} → ◌≡◌ {A = Outcome A} (Fault Endless us) (Fault stop vs) → stop ≡ Endless
+      stop-of e = cc
+
+pub expressions-begin : TokensBeforeFaultsBeginExpressions
+expressions-begin fuel room f front behind stop h final =
+    let g = expressions'.sequence (readers true fuel room) (readers true (suc fuel) (plus room 3)) (better true fuel room) f (record { tokens = map read (front ++ behind); last = 0 }) in
+    alive-by (λ (x : Reading) tokens rest. SpellsExpression f level_sequence tokens x.value rest) (kinds.Punctuator marks.RightParenthesis) (λ us. sequence (readers true (suc fuel) (plus room 3)) f (record { tokens = us; last = 0 })) (λ tokens x last e. expression-spelled (suc fuel) (plus room 3) f tokens x (record { tokens = fill (kinds.Punctuator marks.RightParenthesis) ∷ []; last = last }) e)
+    (λ x us. Closer false us) (λ x. parenthesis) front behind stop final h g.half g.fresh
+
+pub statements-begin : TokensBeforeFaultsBeginStatements
+statements-begin fuel room f front behind stop h final =
+    let g = statements'.statement (readers true fuel room) (readers true (suc fuel) (plus room 3)) (better true fuel room) f Listed (record { tokens = map read (front ++ behind); last = 0 }) in
+    alive-by (λ (x : Statement) tokens rest. SpellsStatement f tokens x rest) kinds.End (λ us. statement (readers true (suc fuel) (plus room 3)) f Listed (record { tokens = us; last = 0 })) (λ tokens x last e. statement-spelled (suc fuel) (plus room 3) f tokens x (record { tokens = fill kinds.End ∷ []; last = last }) e)
+    (λ x us. Behind us) (λ x. behind_end) front behind stop final h g.half g.fresh

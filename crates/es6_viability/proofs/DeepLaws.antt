@@ -1,0 +1,256 @@
+-- Where a reader stops for depth at a token, more constructs than may be open are open there, in whatever a reader reads of tokens that
+-- begin so of which more may be open.
+use Rattle.std.proofs.Common.{◌≡◌, ◌∙◌, ℕ, zero, suc, ◌+◌, ◌-◌, ◌<◌, ◌≤◌, Bool, true, false, List, [], ◌∷◌, ◌++◌, length, map, ap, sym, refl, subst, append_assoc, arith}
+use Rattle.std.proofs.lemmas.Bool.{true≢false, false≢true}
+use Rattle.std.proofs.lemmas.List.{append_cancel_right, map-append}
+use Rattle.es6_lexer.specs.declared.token.Token.{Token}
+use Rattle.es6_lexer.specs.declared.token.TokenKind.{TokenKind}
+use Rattle.es6_lexer.specs.declared.token.TokenKind.TheVariants.{End}
+use Rattle.es6_ast.specs.declared.module.Module.{Module}
+use Rattle.es6_ast.specs.declared.module.Item.{Item}
+use Rattle.es6_ast.specs.declared.settings.Flags.{Flags}
+use Rattle.es6_ast.specs.declared.settings.Stand.{Stand}
+use Rattle.es6_ast.specs.declared.settings.Stop.{Stop}
+use Rattle.es6_ast.specs.declared.settings.Stop.TheVariants.{Depth}
+use Rattle.es6_ast.specs.declared.tree.Statement.{Statement}
+use Rattle.es6_ast.specs.Dead.{AreInOrder}
+use Rattle.es6_ast.specs.Depth.{begin_of_last, closes_group, expression_spans, item_spans, joined, module_spans, open_constructs, open_groups, opens_group, statement_spans}
+use Rattle.es6_ast.specs.Tokens.{Filled, Read, read}
+use Rattle.es6_reading.specs.Expressions.{sequence}
+use Rattle.es6_reading.specs.Modules.{is_end, is_end_kind, readers, whole_module}
+use Rattle.es6_reading.specs.Parser.{Input, Outcome, Took, Fault, Parser, Reading, Inner}
+use Rattle.es6_reading.specs.Statements.{statement}
+use Rattle.es6_reading.proofs.Follows.{plus, SameHead, same}
+use Rattle.es6_reading.proofs.LocalExpressions as x'
+use Rattle.es6_reading.proofs.LocalModules as m'
+use Rattle.es6_reading.proofs.LocalReaders.{gain, grown}
+use Rattle.es6_reading.proofs.Locality.{Local, LocalOf, took_so, stops_so, too_deep, too_long, not_inserted, Slack, same_mode}
+use Rattle.es6_reading.proofs.Ordered.{Behind}
+use Rattle.es6_reading.proofs.Shallow.{opens_of, closes_of, Sorted}
+use Rattle.es6_reading.proofs.ShallowItems.{in_item}
+use Rattle.es6_reading.proofs.SpanCounts.{around, around-append, around-is, sum_of, in_expression, in_statement}
+use Rattle.es6_viability.specs.TooDeep.{AreOfText, IsDeepAt, open_in, ExpressionsAreTooDeep, StatementsAreTooDeep, ModulesAreTooDeep}
+use Rattle.es6_viability.proofs.BesideStatements.{no-slack}
+use Rattle.es6_viability.proofs.Deep.{Stands, start, further, Limit, Mode, still, gone, Spot, Claim, Bound, At, Ready, Held, held, stops, Runs, alike, went, alone}
+use Rattle.es6_viability.proofs.DeepExpressions as expressions'
+use Rattle.es6_viability.proofs.DeepItems as items'
+use Rattle.es6_viability.proofs.DeepLevels as levels'
+use Rattle.es6_viability.proofs.DeepReaders.{deeper}
+use Rattle.es6_viability.proofs.DeepStatements as statements'
+
+-- ## Tokens of a text
+
+end-is : (t : Token) → t.kind ≡ End → is_end (read t) ≡ true
+end-is t e = ap (λ k. is_end_kind (Read k)) e
+
+sorted-of : (last : ℕ) (before : List Token) (end : Token) → end.kind ≡ End → Behind last (before ++ end ∷ []) → AreInOrder (before ++ end ∷ []) → Sorted last (map read (before ++ end ∷ []))
+sorted-of last [] end e b o = (b, λ h. absurd (true≢false (sym (end-is end e) ∙ h)), tt)
+sorted-of last (t ∷ []) end e b o = (b, λ h. o.0.0, sorted-of t.span.end [] end e o.0.1 o.1)
+sorted-of last (t ∷ u ∷ before) end e b o = (b, λ h. o.0.0, sorted-of t.span.end (u ∷ before) end e o.0.1 o.1)
+
+behind-none : (tokens : List Token) → Behind 0 tokens
+behind-none [] = tt
+behind-none (t ∷ ts) = omega arith
+
+pub sorted : (tokens : List Token) → AreOfText tokens → Sorted 0 (map read tokens)
+sorted tokens a = subst (λ ts. Sorted 0 (map read ts)) (sym a.whole) (sorted-of 0 a.before a.last a.ends (behind-none (a.before ++ a.last ∷ [])) (subst (λ ts. AreInOrder ts) a.whole a.placed))
+
+-- ## Groups
+
+-- how many are open, from the first token on
+data Forth : ℕ → List Filled → ℕ → List Filled → Type 0 where
+  stay : {g : ℕ} {ts : List Filled} → Forth g ts g ts
+  step : {g k n : ℕ} {t : Filled} {ts us : List Filled} → g + opens_of t.kind ≡ k + closes_of t.kind → Forth k ts n us → Forth g (t ∷ ts) n us
+
+forth-more : {g n k : ℕ} {all ts : List Filled} {t : Filled} → Forth g all n (t ∷ ts) → n + opens_of t.kind ≡ k + closes_of t.kind → Forth g all k ts
+forth-more stay e = step e stay
+forth-more (step u w) e = step u (forth-more w e)
+
+forth : {all ts : List Filled} {n : ℕ} → Stands all n ts → Forth 0 all n ts
+forth start = stay
+forth (further w e) = forth-more (forth w) e
+
+low : (n : ℕ) → n ≤ n
+low n = omega arith
+
+up : (a b : ℕ) → a ≤ b → a ≤ suc b
+up a b h = omega arith
+
+forth-length : {g n : ℕ} {ts us : List Filled} → Forth g ts n us → length us ≤ length ts
+forth-length {ts = ts} stay = low (length ts)
+forth-length (step {ts = ts} {us = us} e w) = up (length us) (length ts) (forth-length w)
+
+never-longer : (t : Filled) (us ts : List Filled) → ts ≡ us → length (t ∷ us) ≤ length ts → ⊥
+never-longer t us ts e h = too-long (length us) (subst (λ vs. length (t ∷ us) ≤ length vs) e h)
+  where
+    too-long : (n : ℕ) → suc n ≤ n → ⊥
+    too-long n h = omega arith
+
+pub length-more : (front : List Token) (us : List Filled) → length us ≤ length (map read front ++ us)
+length-more [] us = low (length us)
+length-more (t ∷ front) us = up (length us) (length (map read front ++ us)) (length-more front us)
+
+pub tail-of : {t u : Filled} {ts us : List Filled} → t ∷ ts ≡ u ∷ us → ts ≡ us
+tail-of e = cc
+
+pub head-of : {t u : Filled} {ts us : List Filled} → t ∷ ts ≡ u ∷ us → t ≡ u
+head-of e = cc
+
+never-shorter : (u : Token) (front : List Token) (t : Filled) (us vs : List Filled) → vs ≡ read u ∷ (map read front ++ t ∷ us) → vs ≡ t ∷ us → ⊥
+never-shorter u front t us vs e k = too-long (length us) (length (map read front ++ t ∷ us)) (length-more front (t ∷ us)) (ap length (sym k ∙ e))
+  where
+    too-long : (a b : ℕ) → suc a ≤ b → suc a ≡ suc b → ⊥
+    too-long a b h e = omega arith
+
+groups-of : {g n : ℕ} {ts vs : List Filled} → Forth g ts n vs → (front : List Token) (t : Token) (us : List Filled) → ts ≡ map read front ++ read t ∷ us → vs ≡ read t ∷ us → open_groups g (front ++ t ∷ []) ≡ n + opens_group t.kind
+groups-of stay [] t us e k = refl
+groups-of (step {ts = ts} {us = vs} p w) [] t us e k = absurd (never-longer (read t) us ts (tail-of e) (subst (λ ws. length ws ≤ length ts) k (forth-length w)))
+groups-of (stay {ts = ts}) (u ∷ front) t us e k = absurd (never-shorter u front (read t) us ts e k)
+groups-of {g = g} (step {k = k} {t = v} {ts = ts} p w) (u ∷ front) t us e q = on front (groups-of w front t us (tail-of e) q)
+  where
+    exact : g + opens_group u.kind - closes_group u.kind ≡ k
+    exact = by (ap (λ x. g + opens_of x.kind) (sym (head-of e)) ∙ p ∙ ap (λ x. k + closes_of x.kind) (head-of e))
+      where
+        by : g + opens_group u.kind ≡ k + closes_group u.kind → g + opens_group u.kind - closes_group u.kind ≡ k
+        by h = omega (arith, h)
+
+    on : (front : List Token) {m : ℕ} → open_groups k (front ++ t ∷ []) ≡ m → open_groups g (u ∷ front ++ t ∷ []) ≡ m
+    on [] h = ap (λ n. open_groups n (t ∷ [])) exact ∙ h
+    on (x ∷ xs) h = ap (λ n. open_groups n (x ∷ xs ++ t ∷ [])) exact ∙ h
+
+pub begin-last : (front : List Token) (t : Token) → begin_of_last (front ++ t ∷ []) ≡ t.span.begin
+begin-last [] t = refl
+begin-last (u ∷ []) t = refl
+begin-last (u ∷ v ∷ front) t = begin-last (v ∷ front) t
+
+-- ## A fault stands there whatever follows
+
+module _ {A : Type 0} (p p0 : Parser A) (same-run : (c : Input) → p0 c ≡ p c) (local : (s : Input) → Local (gain zero false) p p0 s) where
+  stop-of : {a b : Stop} {vs ws : List Filled} → ◌≡◌ {A = Outcome A} (Fault a vs) (Fault b ws) → a ≡ b
+  stop-of e = cc
+
+  rest-of : {a b : Stop} {vs ws : List Filled} → ◌≡◌ {A = Outcome A} (Fault a vs) (Fault b ws) → vs ≡ ws
+  rest-of e = cc
+
+  never : {x : A} {c : Input} {b : Stop} {ws : List Filled} → ◌≡◌ {A = Outcome A} (Took x c) (Fault b ws) → ⊥
+  never e = absurd (cc)
+
+  moves : (front us : List Filled) (stop : Stop) → p (record { tokens = front ++ us; last = 0 }) ≡ Fault stop us → (rest : List Filled) → SameHead us rest → p (record { tokens = front ++ rest; last = 0 }) ≡ Fault stop rest
+  moves front us stop h rest w = by (local (record { tokens = front ++ us; last = 0 })) h
+    where
+      by : {o : Outcome A} → LocalOf (gain zero false) (λ vs. p0 (record { tokens = vs; last = 0 })) (front ++ us) o → o ≡ Fault stop us → p (record { tokens = front ++ rest; last = 0 }) ≡ Fault stop rest
+      by (took_so front' e r) k = absurd (never k)
+      by (stops_so {us = vs} front' e r) k =
+          let same-front : front ≡ front' = append_cancel_right front front' us (e ∙ ap (λ ws. front' ++ ws) (rest-of k)) in
+          sym (same-run (record { tokens = front ++ rest; last = 0 })) ∙ ap (λ ws. p0 (record { tokens = ws ++ rest; last = 0 })) same-front ∙ r rest (subst (λ ws. SameHead ws rest) (sym (rest-of k)) w) ∙ ap (λ a. Fault a rest) (stop-of k)
+      by (too_deep m) k = absurd (no-slack m)
+      by (too_long m) k = absurd (no-slack m)
+      by (not_inserted m) k = absurd (false≢true m)
+
+-- ## At the limit
+
+never-both : {A : Type 0} {x : A} {c : Input} {stop : Stop} {ts : List Filled} (o : Outcome A) → o ≡ Took x c → o ≡ Fault stop ts → ⊥
+never-both o h k = absurd (cc)
+
+value-of : {A : Type 0} {x y : A} {c d : Input} → Took x c ≡ Took y d → x ≡ y
+value-of e = cc
+
+never-stops : {A : Type 0} {x : A} {c : Input} {stop : Stop} {ts : List Filled} → ◌≡◌ {A = Outcome A} (Fault stop ts) (Took x c) → ⊥
+never-stops e = absurd (cc)
+
+depth-rest : {A : Type 0} {vs ws : List Filled} → ◌≡◌ {A = Outcome A} (Fault Depth vs) (Fault Depth ws) → vs ≡ ws
+depth-rest e = cc
+
+-- what holds where the first reader stopped
+pub record AtLimit {all : List Filled} {A : Type 0} (Q : A → Spot all → Type 0) (x : A) (us : List Filled) : Type 0 where
+  pub limit : Limit all
+  pub there : limit.token ∷ limit.behind ≡ us
+  pub groups : ℕ
+  pub input : Input
+  pub holds : Q x (record { mode = gone limit; groups = groups; input = input })
+
+limit-of : {all : List Filled} {A : Type 0} {Q : A → Spot all → Type 0} {m : Mode all} {o o' : Outcome A} (x : A) (after : Input) (us : List Filled) → Runs Q m o o' → m ≡ still → o ≡ Fault Depth us → o' ≡ Took x after → AtLimit Q x us
+limit-of x after us (alike {o = o} h) e k q = absurd (never-both o q k)
+limit-of {Q = Q} x after us (went {l = l} (held {c = c} {n = n} h)) e k q = record { limit = l; there = depth-rest k; groups = n; input = c; holds = subst (λ y. Q y (record { mode = gone l; groups = n; input = c })) (value-of q) h }
+limit-of x after us (went stops) e k q = absurd (never-stops q)
+limit-of x after us (alone h) e k q = absurd (cc)
+
+open-at : (all : List Filled) (room : ℕ) (s : Spot all) (D : ℕ → ℕ) (last : ℕ) (l : Limit all) (front : List Token) (t : Token) (us : List Filled) → all ≡ map read front ++ read t ∷ us → l.token ∷ l.behind ≡ read t ∷ us → Bound room s 0 last l D
+    → room < open_groups 0 (front ++ t ∷ []) + D (begin_of_last (front ++ t ∷ []))
+open-at all room s D last l front t us e k b =
+    let g : open_groups 0 (front ++ t ∷ []) ≡ l.groups + opens_group t.kind = groups-of (forth l.stands) front t us e k in
+    let token : l.token ≡ read t = head-of k in
+    let opens : opens_of l.token.kind ≡ opens_group t.kind = ap (λ u. opens_of u.kind) token in
+    let place : D l.token.span.begin ≡ D (begin_of_last (front ++ t ∷ [])) = ap (λ u. D u.span.begin) token ∙ ap D (sym (begin-last front t)) in
+    omega (arith, b.deep, g, opens, place)
+
+abbrev begin-of : (all : List Filled) → Spot all
+begin-of all = record { mode = still; groups = 0; input = record { tokens = all; last = 0 } }
+
+ready-of : (all : List Filled) (room : ℕ) → Sorted 0 all → Ready room 0 (begin-of all)
+ready-of all room w = record { enough = omega arith; stands = start; sorted = w; fits = λ u. omega arith }
+
+plus-is : (n l : ℕ) → plus n l ≡ n + l
+plus-is zero l = omega arith
+plus-is (suc n) l = ap (λ m. suc m) (plus-is n l) ∙ step (n + l) l
+  where
+    step : (m l : ℕ) → suc (n + l) ≡ suc n + l
+    step m l = omega arith
+
+plus-zero : (n : ℕ) → plus n zero ≡ n
+plus-zero n = plus-is n zero ∙ none n
+  where
+    none : (n : ℕ) → n + zero ≡ n
+    none n = omega arith
+
+-- a reader and one of which more may open
+module _ {A : Type 0} (count : A → List Token → ℕ) (D : A → ℕ → ℕ) (counts : (x : A) (tokens : List Token) → open_groups 0 tokens + D x (begin_of_last tokens) ≡ count x tokens) (room : ℕ) (p p0 q : Parser A) (same-run : (c : Input) → p0 c ≡ p c) (local : (s : Input) → Local (gain zero false) p p0 s)
+    (Q : (all : List Filled) → A → Spot all → Type 0) (runs : (all : List Filled) → Sorted 0 all → Runs (Q all) still (p (record { tokens = all; last = 0 })) (q (record { tokens = all; last = 0 })))
+    (bound : (all : List Filled) (x : A) (l : Limit all) (n : ℕ) (c : Input) → Q all x (record { mode = gone l; groups = n; input = c }) → (last : ℕ) × Bound room (begin-of all) 0 last l (D x)) where
+  deep-at : IsDeepAt room count p q
+  deep-at front behind t h others a x after k =
+      let all : List Filled = map read (front ++ t ∷ others) in
+      let whole : all ≡ map read front ++ read t ∷ map read others = map-append read front (t ∷ others) in
+      let before : p (record { tokens = map read front ++ map read (t ∷ behind); last = 0 }) ≡ Fault Depth (map read (t ∷ behind)) = ap (λ ts. p (record { tokens = ts; last = 0 })) (sym (map-append read front (t ∷ behind))) ∙ h in
+      let stopped : p (record { tokens = all; last = 0 }) ≡ Fault Depth (read t ∷ map read others) = ap (λ ts. p (record { tokens = ts; last = 0 })) whole ∙ moves p p0 same-run local (map read front) (map read (t ∷ behind)) Depth before (read t ∷ map read others) same in
+      let l = limit-of x after (read t ∷ map read others) (runs all (sorted (front ++ t ∷ others) a)) refl stopped k in
+      let b = bound all x l.limit l.groups l.input l.holds in
+      subst (λ n. room < n) (counts x (front ++ t ∷ [])) (open-at all room (begin-of all) (D x) b.0 l.limit front t (map read others) whole l.there b.1)
+
+spans-are : (xs : List Item) (at : ℕ) → around (joined item_spans xs) at ≡ sum_of in_item xs at
+spans-are [] at = refl
+spans-are (x ∷ xs) at = omega (arith, around-append (item_spans x) (joined item_spans xs) at, spans-are xs at)
+
+module _ (fuel room more : ℕ) where
+  same-readers : {A : Type 0} (p : Inner → Parser A) (c : Input) → p (readers true (plus fuel zero) (plus room zero)) c ≡ p (readers true fuel room) c
+  same-readers p c = ap (λ n. p (readers true n (plus room zero)) c) (plus-zero fuel) ∙ ap (λ n. p (readers true fuel n) c) (plus-zero room)
+
+  expressions : (f : Flags) → IsDeepAt room (λ (x : Reading) tokens. open_in tokens (expression_spans x.value)) (sequence (readers true fuel room) f) (sequence (readers true fuel (plus room more)) f)
+  expressions f = deep-at (λ x tokens. open_in tokens (expression_spans x.value)) (λ x. in_expression x.value) (λ x tokens. ap (λ n. open_groups 0 tokens + n) (around-is (expression_spans x.value) (begin_of_last tokens))) room
+      (sequence (readers true fuel room) f) (sequence (readers true (plus fuel zero) (plus room zero)) f) (sequence (readers true fuel (plus room more)) f)
+      (λ c. same-readers (λ i. sequence i f) c) (λ s. x'.sequence (readers true fuel room) (readers true (plus fuel zero) (plus room zero)) (grown false true true fuel room zero same_mode) f s)
+      (λ all. expressions'.ExpressionAt room (begin-of all)) (λ all w. levels'.sequence (readers true fuel room) (readers true fuel (plus room more)) room (deeper true fuel room more) f (begin-of all) (ready-of all room w))
+      (λ all x l n c a. (c.last, a.0.claim))
+
+  statements : (f : Flags) (stand : Stand) → IsDeepAt room (λ (x : Statement) tokens. open_in tokens (statement_spans x)) (statement (readers true fuel room) f stand) (statement (readers true fuel (plus room more)) f stand)
+  statements f stand = deep-at (λ x tokens. open_in tokens (statement_spans x)) in_statement (λ x tokens. ap (λ n. open_groups 0 tokens + n) (around-is (statement_spans x) (begin_of_last tokens))) room
+      (statement (readers true fuel room) f stand) (statement (readers true (plus fuel zero) (plus room zero)) f stand) (statement (readers true fuel (plus room more)) f stand)
+      (λ c. same-readers (λ i. statement i f stand) c) (λ s. m'.statement (readers true fuel room) (readers true (plus fuel zero) (plus room zero)) (grown false true true fuel room zero same_mode) f stand s)
+      (λ all. statements'.StatementAt room (begin-of all)) (λ all w. statements'.statement (readers true fuel room) (readers true fuel (plus room more)) room (deeper true fuel room more) f stand (begin-of all) (ready-of all room w))
+      (λ all x l n c a. (c.last, a.0.claim))
+
+  modules : IsDeepAt room (λ (m : Module) tokens. open_constructs tokens m) (whole_module (readers true fuel room)) (whole_module (readers true fuel (plus room more)))
+  modules = deep-at (λ m tokens. open_constructs tokens m) (λ m. sum_of in_item m.items) (λ m tokens. ap (λ n. open_groups 0 tokens + n) (sym (spans-are m.items (begin_of_last tokens)) ∙ around-is (module_spans m) (begin_of_last tokens))) room
+      (whole_module (readers true fuel room)) (whole_module (readers true (plus fuel zero) (plus room zero))) (whole_module (readers true fuel (plus room more)))
+      (λ c. same-readers (λ i. whole_module i) c) (λ s. m'.whole_module (readers true fuel room) (readers true (plus fuel zero) (plus room zero)) (grown false true true fuel room zero same_mode) s)
+      (λ all m d. (c : Spot all) × (d.mode ≡ c.mode) × At false room (begin-of all) 0 0 c (sum_of in_item m.items)) (λ all w. items'.whole (readers true fuel room) (readers true fuel (plus room more)) room (deeper true fuel room more) (begin-of all) (ready-of all room w))
+      (λ all m l n c a. (a.0.input.last, subst (λ k. Claim room (begin-of all) 0 still k a.0.input.last (sum_of in_item m.items)) (sym a.1) a.2.claim))
+
+pub expressions-are-too-deep : ExpressionsAreTooDeep
+expressions-are-too-deep fuel room more f = subst (λ n. IsDeepAt room (λ (x : Reading) tokens. open_in tokens (expression_spans x.value)) (sequence (readers true fuel room) f) (sequence (readers true fuel n) f)) (plus-is room more) (expressions fuel room more f)
+
+pub statements-are-too-deep : StatementsAreTooDeep
+statements-are-too-deep fuel room more f stand = subst (λ n. IsDeepAt room (λ (x : Statement) tokens. open_in tokens (statement_spans x)) (statement (readers true fuel room) f stand) (statement (readers true fuel n) f stand)) (plus-is room more) (statements fuel room more f stand)
+
+pub modules-are-too-deep : ModulesAreTooDeep
+modules-are-too-deep fuel room more = subst (λ n. IsDeepAt room (λ (m : Module) tokens. open_constructs tokens m) (whole_module (readers true fuel room)) (whole_module (readers true fuel n))) (plus-is room more) (modules fuel room more)
