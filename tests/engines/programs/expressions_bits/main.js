@@ -1,0 +1,10 @@
+import { print } from "host";
+print(5 & 3, 5 | 3, 5 ^ 3, ~5, 1 << 31, -1 >>> 0, -8 >> 1, -8 >>> 28, 1 << 33, 4294967296 | 0, 4294967301 & 255);
+let x = 6;
+x &= 3; print(x);
+x |= 8; print(x);
+x ^= 5; print(x);
+x <<= 3; print(x);
+x >>= 1; print(x);
+x = -x; x >>>= 1; print(x);
+print("7" & "3", true << 2, null | 5);

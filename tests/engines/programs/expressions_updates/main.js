@@ -1,0 +1,10 @@
+import { print } from "host";
+let o = { n: 1, t: "5" }, a = [1];
+print(o.n++, ++o.n, o.n--, --o.n, o.t++, o.t, a[0]++, a[0], -a[0]--, a[0]);
+let x = "7", y = true, z = null;
+x++; y++; z--;
+print(x, y, z, typeof x);
+let f = () => { print("once"); return o; };
+f().n++;
+f()["n"] += 2;
+print(o.n);

@@ -1,0 +1,9 @@
+import { print } from "host";
+function* g() { return (yield 0) && (yield 1) && (yield 2) && (yield 3) && (yield 4) && (yield 5) && (yield 6) && (yield 7) && (yield 8) && (yield 9) && (yield 10) && (yield 11) && (yield 12) && (yield 13) && (yield 14) && (yield 15) && (yield 16) && (yield 17) && (yield 18) && (yield 19) && (yield 20) && (yield 21) && (yield 22) && (yield 23) && (yield 24) && (yield 25) && (yield 26) && (yield 27) && (yield 28) && (yield 29) && (yield 30) && (yield 31) && (yield 32) && (yield 33) && (yield 34) && (yield 35) && (yield 36) && (yield 37) && (yield 38) && (yield 39) && (yield 40) && (yield 41) && (yield 42) && (yield 43) && (yield 44) && (yield 45) && (yield 46) && (yield 47) && (yield 48) && (yield 49) && (yield 50) && (yield 51) && (yield 52) && (yield 53) && (yield 54) && (yield 55) && (yield 56) && (yield 57) && (yield 58) && (yield 59); }
+let o = g(), r = o.next(), n = 0;
+while (!r.done) { n++; r = o.next(r.value < 50 ? 1 : 0); }
+print(n, r.value);
+function* h() { return (yield 0) || (yield 1) || (yield 2) || (yield 3) || (yield 4) || (yield 5) || (yield 6) || (yield 7) || (yield 8) || (yield 9) || (yield 10) || (yield 11) || (yield 12) || (yield 13) || (yield 14) || (yield 15) || (yield 16) || (yield 17) || (yield 18) || (yield 19) || (yield 20) || (yield 21) || (yield 22) || (yield 23) || (yield 24) || (yield 25) || (yield 26) || (yield 27) || (yield 28) || (yield 29) || (yield 30) || (yield 31) || (yield 32) || (yield 33) || (yield 34) || (yield 35) || (yield 36) || (yield 37) || (yield 38) || (yield 39) || (yield 40) || (yield 41) || (yield 42) || (yield 43) || (yield 44) || (yield 45) || (yield 46) || (yield 47) || (yield 48) || (yield 49) || (yield 50) || (yield 51) || (yield 52) || (yield 53) || (yield 54) || (yield 55) || (yield 56) || (yield 57) || (yield 58) || (yield 59); }
+o = h(); r = o.next(); n = 0;
+while (!r.done) { n++; r = o.next(0); }
+print(n, r.value);

@@ -1,0 +1,3 @@
+import { print } from "host";
+import { a } from "./a.js";
+print("main", a());

@@ -1,0 +1,10 @@
+import { print } from "host";
+import d, { default as e } from "./function.js";
+import C from "./class.js";
+import value, { value as v, set } from "./expression.js";
+import anonymous from "./anonymous.js";
+import arrow from "./arrow.js";
+import K from "./named.js";
+print(d(), e === d, new C().m(), value, v, anonymous(), arrow(3), new K().k());
+set(9);
+print(value, v);

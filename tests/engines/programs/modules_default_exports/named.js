@@ -1,0 +1,1 @@
+export default class K { k() { return K === this.constructor; } }

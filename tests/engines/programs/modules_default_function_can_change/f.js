@@ -1,0 +1,2 @@
+export default function f() { return "first"; }
+export function change() { f = "changed"; }

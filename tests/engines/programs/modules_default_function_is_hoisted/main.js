@@ -1,0 +1,3 @@
+import { print } from "host";
+import f from "./f.js";
+print(f());

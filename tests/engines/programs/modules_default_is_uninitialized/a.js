@@ -1,0 +1,4 @@
+import { print } from "host";
+import "./b.js";
+export default "value";
+print("a");

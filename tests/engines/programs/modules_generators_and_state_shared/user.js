@@ -1,0 +1,2 @@
+import * as ids from "./ids.js";
+export const use = () => `${ids.next()}/${ids.current}`;

@@ -1,0 +1,3 @@
+import { print } from "host";
+print("a first");
+export function f() { return 1; }

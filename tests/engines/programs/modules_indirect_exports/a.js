@@ -1,0 +1,3 @@
+export let n = 1;
+export function inc() { n++; }
+export default "default";

@@ -1,0 +1,3 @@
+let x = "b";
+export function get() { return x + value; }
+var value = 2;

@@ -1,0 +1,2 @@
+export let k = 3, q = 4;
+export { same } from "./r.js";

@@ -1,0 +1,2 @@
+export * from "./p.js";
+export * from "./q.js";

@@ -1,0 +1,3 @@
+import { print } from "host";
+import "./d.js";
+print("b");

@@ -1,0 +1,3 @@
+import { print } from "host";
+print("c");
+export * from "./e.js";

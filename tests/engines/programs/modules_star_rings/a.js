@@ -1,0 +1,2 @@
+export * from "./b.js";
+export let a = "a";

@@ -1,0 +1,4 @@
+import { print } from "host";
+import "./b.js";
+print("a");
+throw "stop";

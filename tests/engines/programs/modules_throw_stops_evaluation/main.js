@@ -1,0 +1,4 @@
+import { print } from "host";
+print("main begins");
+import "./a.js";
+print("never");

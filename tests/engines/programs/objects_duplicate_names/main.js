@@ -1,0 +1,10 @@
+import { print } from "host";
+let o = { a: 1, a: 2, get b() { return 3; }, b: 4, c: 5, get c() { return 6; }, ["d"]: 7, d: 8, 1: "x", "1": "y", [1]: "z" };
+print(o.a, o.b, o.c, o.d, o[1]);
+o.b = 9;
+print(o.b);
+let p = { get k() { return "g"; }, set k(v) { print("set", v); }, k() { return "m"; } };
+print(p.k());
+let q = { set k(v) { print("set", v); }, get k() { return "g2"; } };
+q.k = 1;
+print(q.k);

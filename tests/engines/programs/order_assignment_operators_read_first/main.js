@@ -1,0 +1,12 @@
+import { print } from "host";
+let x = 1, o = { k: 1 };
+x += (x = 10, 5);
+o.k += (o.k = 20, 7);
+print(x, o.k);
+x = x++ + x;
+print(x);
+x = x-- - --x;
+print(x);
+let a = 1;
+a = a++;
+print(a, a++ + ++a, a);

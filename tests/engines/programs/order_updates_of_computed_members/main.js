@@ -1,0 +1,11 @@
+import { print } from "host";
+let n = 0, xs = [10, 20, 30], i = 0;
+xs[i++] += i;
+xs[i++] = i * 100;
+xs[xs.length] = i;
+print(xs.join(), i);
+let o = { k: 1 }, get = () => { n++; return o; };
+get().k += get().k++ + ++get().k;
+print(o.k, n);
+xs[i] = i = 7;
+print(xs.join(), i);

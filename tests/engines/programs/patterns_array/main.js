@@ -1,0 +1,10 @@
+import { print } from "host";
+let [a, , b = 2, [c, d = c] = [5], ...e] = [1, 0, undefined, undefined, 7, 8];
+print(a, b, c, d, e.join());
+let [] = [];
+let [x, y] = "😀b";
+print(x.length, y);
+let [p = 1, q = p + 1, r = q + 1] = [];
+print(p, q, r);
+let [...all] = "xyz";
+print(all.length, all[2]);

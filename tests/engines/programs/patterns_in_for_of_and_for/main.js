@@ -1,0 +1,10 @@
+import { print } from "host";
+for (let [i, { a: j = i * 2 }] of [[1, {}], [2, { a: 3 }]]) print(i, j);
+for (const { x, y: [z] } of [{ x: 1, y: "ab" }]) print(x, z);
+let o = {}, v;
+for (o.k of [1, 2]) print(o.k);
+for ([v, o.m] of [[3, 4], [5, 6]]) print(v, o.m);
+for ({ v = 8 } of [{}, { v: 9 }]) print(v);
+for (let [a, b] = [0, 3]; a < b; a++) print(a, b);
+for (var { w } of [{ w: 1 }, { w: 2 }]) ;
+print(w);

@@ -1,0 +1,10 @@
+import { print } from "host";
+let o = {}, log = v => { print("key", v); return v; };
+({ [log("a")]: o[log("x")] = log(1), b: o.y = log(2) } = { b: 5 });
+print(o.x, o.y);
+[o.p, , o.q = log(7), ...o.r] = "abcd";
+print(o.p, o.q, o.r.join(""));
+[o.a, o["b"] = 7] = [1];
+print(o.a, o.b);
+[[o.m], { n: o.n }] = [[1], { n: 2 }];
+print(o.m, o.n);

@@ -1,0 +1,3 @@
+import { print } from "host";
+print("before");
+throw { k: 1 };

@@ -1,0 +1,5 @@
+import { print } from "host";
+print(`a
+b`.length, `\
+`.length, `
+`.charCodeAt(0));
