@@ -1,0 +1,4 @@
+pub mod Table
+pub mod Text
+pub mod Wanted
+pub mod Definitions
