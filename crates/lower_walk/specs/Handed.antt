@@ -7,12 +7,15 @@ use Rattle.std.specs.declared.alloc.Global.{Global}
 use Rattle.es6_ast.specs.declared.tree.Expression.{Expression}
 use Rattle.es6_ast.specs.declared.tree.Pattern.{Pattern}
 use Rattle.es6_ast.specs.declared.tree.Statement.{Statement}
+use Rattle.es6_ast.specs.declared.tree.Function.{Function}
+use Rattle.core_ast.specs.declared.parts.FunctionId.{FunctionId}
 use Rattle.core_ast.specs.declared.tree.CoreExpr.{CoreExpr}
 use Rattle.core_ast.specs.declared.tree.CoreStat.{CoreStat}
 use Rattle.reference_rules.specs.declared.references.Reached.{Reached}
+use Rattle.module_lowering.specs.declared.context.FunctionForm.{FunctionForm}
 use Rattle.module_lowering.specs.declared.context.Role.{Role}
 use Rattle.module_lowering.specs.declared.lowerer.Lowerer.{Lowerer}
-use Rattle.module_lowering.specs.Lowered.{expression_lowered, pattern_lowered, statement_lowered}
+use Rattle.module_lowering.specs.Lowered.{expression_lowered, function_lowered, pattern_lowered, statement_lowered}
 use Rattle.module_lowering.specs.Lowering.{Lowering, Lowers}
 use Rattle.lower_walk.specs.declared.around.Around.{Around}
 use Rattle.lower_walk.specs.declared.here.Here.{Here}
@@ -53,17 +56,28 @@ pub record WalksStatements (room : ℕ)
   pub walks : (a : Around) (x : Bor Statement) (s : MutBor Lowerer) (y : Result (List CoreStat) AllocError) (t : MutBor Lowerer)
       → a.room ≤ room → post a x s y t → Lowers (done_at a (statement_lowered x.now).listed.statements s.now) y t.now
 
+pub record WalksFunctions (room : ℕ)
+    (pre : Around → Bor Function → FunctionForm → MutBor Lowerer → Type 0)
+    (post : Around → Bor Function → FunctionForm → MutBor Lowerer → Result FunctionId AllocError → MutBor Lowerer → Type 0) : Type 0 where
+  pub callable : (a : Around) (x : Bor Function) (f : FunctionForm) (s : MutBor Lowerer) → a.room ≤ room → pre a x f s
+  pub walks : (a : Around) (x : Bor Function) (f : FunctionForm) (s : MutBor Lowerer) (y : Result FunctionId AllocError) (t : MutBor Lowerer)
+      → a.room ≤ room → post a x f s y t → Lowers (done_at a ((function_lowered x.now).lowered f) s.now) y t.now
+
 -- the walkers where a node stands
-module _ {E P S : Type 0} where
+module _ {E P S F : Type 0} where
   abbrev pub HasExpressions : (E → Around → Bor Expression → MutBor Lowerer → Type 0)
-      → (E → Around → Bor Expression → MutBor Lowerer → Result Reached AllocError → MutBor Lowerer → Type 0) → Here E P S → Type 0
+      → (E → Around → Bor Expression → MutBor Lowerer → Result Reached AllocError → MutBor Lowerer → Type 0) → Here E P S F → Type 0
   HasExpressions pre post here = WalksExpressions here.around.room (pre here.expression.now) (post here.expression.now)
 
   abbrev pub HasPatterns : (P → Around → Bor Pattern → Role → CoreExpr → MutBor Lowerer → Type 0)
       → (P → Around → Bor Pattern → Role → CoreExpr → MutBor Lowerer → Result (List CoreStat) AllocError → MutBor Lowerer → Type 0)
-      → Here E P S → Type 0
+      → Here E P S F → Type 0
   HasPatterns pre post here = WalksPatterns here.around.room (pre here.pattern.now) (post here.pattern.now)
 
   abbrev pub HasStatements : (S → Around → Bor Statement → MutBor Lowerer → Type 0)
-      → (S → Around → Bor Statement → MutBor Lowerer → Result (List CoreStat) AllocError → MutBor Lowerer → Type 0) → Here E P S → Type 0
+      → (S → Around → Bor Statement → MutBor Lowerer → Result (List CoreStat) AllocError → MutBor Lowerer → Type 0) → Here E P S F → Type 0
   HasStatements pre post here = WalksStatements here.around.room (pre here.statement.now) (post here.statement.now)
+
+  abbrev pub HasFunctions : (F → Around → Bor Function → FunctionForm → MutBor Lowerer → Type 0)
+      → (F → Around → Bor Function → FunctionForm → MutBor Lowerer → Result FunctionId AllocError → MutBor Lowerer → Type 0) → Here E P S F → Type 0
+  HasFunctions pre post here = WalksFunctions here.around.room (pre here.function.now) (post here.function.now)

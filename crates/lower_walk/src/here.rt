@@ -2,40 +2,42 @@
 
 ghost use Rattle.std.specs.Prelude.{map};
 ghost use Rattle.std.specs.Option.{option_map};
-ghost use Rattle.lower_walk.specs.Handed.{done_at, HasExpressions, HasPatterns, HasStatements};
+ghost use Rattle.lower_walk.specs.Handed.{done_at, HasExpressions, HasFunctions, HasPatterns, HasStatements};
 ghost use Rattle.lowering_rules.specs.Naming.{drawn_iteration};
 ghost use Rattle.module_lowering.specs.Expressions.{optional, valued};
-ghost use Rattle.module_lowering.specs.Lowered.{expression_lowered, pattern_lowered, statement_lowered};
+ghost use Rattle.module_lowering.specs.Lowered.{expression_lowered, function_lowered, pattern_lowered, statement_lowered};
 ghost use Rattle.module_lowering.specs.Lowering.{all_by, drawing, Lowers, option, raw, temporary};
 ghost use Rattle.module_lowering.specs.Statements.{under};
 
 use crate::around::Around;
-use core_ast::{CoreExpr, CoreStat, Var};
-use es6_ast::{Expression, Pattern, Statement};
+use core_ast::{CoreExpr, CoreStat, FunctionId, Var};
+use es6_ast::{Expression, Function, Pattern, Statement};
 use lower_references::value_of;
 use lowering_rules::Iteration;
-use module_lowering::{Lowerer, Role};
+use module_lowering::{FunctionForm, Lowerer, Role};
 use reference_rules::Reached;
 use sqlite_items::{Boxed, Items};
 use std::alloc::AllocError;
 
-/// Where a node stands, and the walkers of what stands inside it: of expressions, of patterns that take a value, and of statements.
-pub struct Here<'a, E, P, S> {
+/// Where a node stands, and the walkers of what stands inside it: of expressions, of patterns that take a value, of statements, and
+/// of functions that are no arrows.
+pub struct Here<'a, E, P, S, F> {
     pub around: Around<'a>,
     pub expression: &'a E,
     pub pattern: &'a P,
     pub statement: &'a S,
+    pub function: &'a F,
 }
 
-impl<E, P, S> Clone for Here<'_, E, P, S> {
+impl<E, P, S, F> Clone for Here<'_, E, P, S, F> {
     fn clone(&self) -> Result<Self, AllocError> {
         Ok(*self)
     }
 }
 
-impl<E, P, S> Copy for Here<'_, E, P, S> {}
+impl<E, P, S, F> Copy for Here<'_, E, P, S, F> {}
 
-impl<E, P, S> Here<'_, E, P, S> {
+impl<E, P, S, F> Here<'_, E, P, S, F> {
     /// A new temporary of the function at hand.
     pub fn temporary(&self, state: &mut Lowerer) -> Result<Var, AllocError>
         ensures { Lowers (done_at self.now.around temporary state.old) result state.new }
@@ -58,11 +60,12 @@ impl<E, P, S> Here<'_, E, P, S> {
     }
 }
 
-impl<E: Fn(Around, &Expression, &mut Lowerer) -> Result<Reached, AllocError>, P, S> Here<
+impl<E: Fn(Around, &Expression, &mut Lowerer) -> Result<Reached, AllocError>, P, S, F> Here<
     '_,
     E,
     P,
     S,
+    F,
 > {
     /// What an expression comes to.
     pub fn reached(
@@ -124,7 +127,8 @@ impl<
     E,
     P: Fn(Around, &Pattern, Role, CoreExpr, &mut Lowerer) -> Result<Items<CoreStat>, AllocError>,
     S,
-> Here<'_, E, P, S> {
+    F,
+> Here<'_, E, P, S, F> {
     /// The statements by which a pattern takes a value.
     pub fn bound(
         &self,
@@ -140,11 +144,12 @@ impl<
     }
 }
 
-impl<E, P, S: Fn(Around, &Statement, &mut Lowerer) -> Result<Items<CoreStat>, AllocError>> Here<
+impl<E, P, S: Fn(Around, &Statement, &mut Lowerer) -> Result<Items<CoreStat>, AllocError>, F> Here<
     '_,
     E,
     P,
     S,
+    F,
 > {
     /// What a statement becomes.
     pub fn under(
@@ -172,5 +177,25 @@ impl<E, P, S: Fn(Around, &Statement, &mut Lowerer) -> Result<Items<CoreStat>, Al
             made.append(self.under(statement, state)?)?;
         }
         Ok(made)
+    }
+}
+
+impl<
+    E,
+    P,
+    S,
+    F: Fn(Around, &Function, FunctionForm, &mut Lowerer) -> Result<FunctionId, AllocError>,
+> Here<'_, E, P, S, F> {
+    /// The number of a function that is no arrow, which goes into the table.
+    pub fn made(
+        &self,
+        function: &Function,
+        form: FunctionForm,
+        state: &mut Lowerer,
+    ) -> Result<FunctionId, AllocError>
+        requires functions { HasFunctions F.pre F.post self.now }
+        ensures { Lowers (done_at self.now.around ((function_lowered function.now).lowered form) state.old) result state.new }
+    {
+        (self.function)(self.around, function, form, state)
     }
 }

@@ -74,11 +74,12 @@ pub fn symbol_of(expression: &Expression) -> Option<u32>
     }
 }
 
-impl<E: Fn(Around, &Expression, &mut Lowerer) -> Result<Reached, AllocError>, P, S> Here<
+impl<E: Fn(Around, &Expression, &mut Lowerer) -> Result<Reached, AllocError>, P, S, F> Here<
     '_,
     E,
     P,
     S,
+    F,
 > {
     /// What an expression in brackets names, which isn't evaluated where it is `Symbol.iterator` and no scope declares `Symbol`.
     pub fn indexed(

@@ -1,0 +1,5 @@
+mod Asking
+mod Booking
+mod Sharing
+mod Silent
+mod Spaces

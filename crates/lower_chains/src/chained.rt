@@ -1,0 +1,10 @@
+//! How far a chain has come.
+
+use reference_rules::Reached;
+
+/// A chain of accesses and calls so far, and whether one of its calls has its place, as at most one has.
+#[derive(Drop)]
+pub(crate) struct Chained {
+    pub reached: Reached,
+    pub sited: bool,
+}

@@ -1,0 +1,5 @@
+pub mod Bodies
+pub mod Classes
+pub mod Insides
+pub mod Parameters
+pub mod Pieces

@@ -1,0 +1,8 @@
+use Rattle.std.proofs.Common.{◌≡◌, ◌++◌, drop, map}
+use Rattle.es6_static_semantics.specs.Findings.{joined}
+use Rattle.module_lowering.specs.Modules.{item_listed}
+use Rattle.lower_modules.proofs.listed.item_lexicals.Given as goal
+
+abbrev pub invariant-loop-item : goal.invariant-loop-item
+invariant-loop-item l =
+    l.out ++ joined (λ x. x.lexicals) (map item_listed (drop l.item-index l.items)) ≡ joined (λ x. x.lexicals) (map item_listed l.items)
