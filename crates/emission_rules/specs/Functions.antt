@@ -12,7 +12,9 @@ use Rattle.core_ast.specs.declared.whole.CoreKind.TheVariants as kind
 use Rattle.core_ast.specs.declared.whole.CorePart.{CorePart}
 use Rattle.core_ast.specs.declared.whole.Resumption.{Resumption}
 use Rattle.core_ast.specs.Lawful.{is_empty, is_generator}
+use Rattle.es5_ast.specs.declared.operators.BinaryOperator5.TheVariants.{Same}
 use Rattle.es5_ast.specs.declared.operators.Key5.TheVariants.{WordKey}
+use Rattle.es5_ast.specs.declared.operators.UnaryOperator5.TheVariants.{Typeof}
 use Rattle.es5_ast.specs.declared.tree.Declared5.{Declared5}
 use Rattle.es5_ast.specs.declared.tree.Expr5.{Expr5}
 use Rattle.es5_ast.specs.declared.tree.Expr5.TheVariants as expr
@@ -26,7 +28,7 @@ use Rattle.emission_rules.specs.declared.scene.Scene.{Scene}
 use Rattle.emission_rules.specs.declared.scene.Uses.{Uses}
 use Rattle.emission_rules.specs.Emission.{Goes, stats_emitted, then}
 use Rattle.emission_rules.specs.Naming.{helped_names, hosts_from, names_from, sign, with_names}
-use Rattle.emission_rules.specs.Nodes.{applied, called, declared, expression, function, identifier, index, integer, member, name, nowhere, plain, text, this, variables}
+use Rattle.emission_rules.specs.Nodes.{applied, called, declared, expression, function, identifier, index, integer, member, name, nothing, nowhere, operated, plain, text, this, variables}
 use Rattle.emission_rules.specs.Primitives.{apply_name, arguments_name, call_name, callee_name, empty_name, frame_name, helper_name, passed_name, self_key, target_key}
 use Rattle.emission_rules.specs.Scenes.{gives, name_of, no_uses, threaded}
 
@@ -205,14 +207,21 @@ own_declarations =
 abbrev pub module_names : Scene → List CorePart → List Declared5
 module_names s parts = flat_map (λ p. scoped_names s p.names) parts
 
-abbrev pub texts : List (List ℕ) → List Expr5
-texts names = map (λ n. name n) names
+-- An engine may lack a host that no module imports: `typeof` reads its name all the same (5.1 edition, 11.4.3).
+abbrev pub is_missing : List ℕ → Expr5
+is_missing host = operated (expr.Unary nowhere Typeof (name host)) Same (text (codes "undefined"))
+
+abbrev pub handed_host : List ℕ → Expr5
+handed_host host = expr.Conditional nowhere (is_missing host) nothing (name host)
+
+abbrev pub handed : List (List ℕ) → List Expr5
+handed hosts = map (λ h. handed_host h) hosts
 
 abbrev pub script : List (List ℕ) → List (List ℕ) → List Stat5 → Script
 script parameters hosts body = record {
   span = nowhere;
   statements = expression (text (codes "use strict"))
-      ∷ expression (called (function None (map (λ n. identifier n) parameters) body) (texts hosts) None) ∷ [];
+      ∷ expression (called (function None (map (λ n. identifier n) parameters) body) (handed hosts) None) ∷ [];
 }
 
 -- with the helpers' names and the hosts' no name of the core is called

@@ -7,7 +7,7 @@ use Rattle.es5_ast.specs.declared.tree.Script.{Script}
 use Rattle.es5_ast.specs.declared.tree.Stat5.{Stat5}
 use Rattle.emission_rules.specs.declared.scene.Scene.{Scene}
 use Rattle.emission_rules.specs.Emission.{stats_emitted}
-use Rattle.emission_rules.specs.Functions.{bodies, entered, instantiations, is_framed, keeps_apart, module_names, own_declarations, stepped, texts}
+use Rattle.emission_rules.specs.Functions.{bodies, entered, instantiations, is_framed, keeps_apart, module_names, own_declarations, stepped, handed}
 use Rattle.emission_rules.specs.Nodes.{called, expression, function, nowhere, text, variables}
 use Rattle.emission_rules.specs.Scenes.{Emits}
 
@@ -32,5 +32,5 @@ abbrev pub script_by : List Identifier5 → List (List ℕ) → List Stat5 → S
 script_by parameters hosts body = record {
   span = nowhere;
   statements = expression (text (codes "use strict"))
-      ∷ expression (called (function None parameters body) (texts hosts) None) ∷ [];
+      ∷ expression (called (function None parameters body) (handed hosts) None) ∷ [];
 }

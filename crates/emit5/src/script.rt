@@ -2,7 +2,7 @@
 
 ghost use Rattle.std.specs.Prelude.{◌≡◌, ◌++◌, ◌∷◌, [], map, IfOk, OnOk, None, Some};
 ghost use Rattle.std.specs.List.{flat_map};
-ghost use Rattle.emission_rules.specs.Functions.{bodies, emitted, function_method, instantiations, module_names, own_declarations, functions_emitted, scene_by, scoped_names, texts};
+ghost use Rattle.emission_rules.specs.Functions.{bodies, emitted, function_method, instantiations, module_names, own_declarations, functions_emitted, handed, handed_host, is_missing, scene_by, scoped_names};
 ghost use Rattle.emission_rules.specs.Nodes.{called, declared, expression, function, identifier, variables};
 ghost use Rattle.emission_rules.specs.Scenes.{no_uses};
 ghost use Rattle.emit5.specs.Scripts.{modules_run, script_body, script_by};
@@ -16,11 +16,12 @@ use binding_tables::NumberedNames;
 use core_ast::{Core, CorePart, ScopedName};
 use emission_rules::{Scene, Slots};
 use emit_expressions::{
-    called, function, identifier, member, name, name_of, no_uses, nowhere, object, word_text,
+    called, conditional, function, identifier, member, name, name_of, no_uses, nothing, nowhere,
+    object, operated, unary, word_text,
 };
 use emit_names::{helped_names, host_list, hosts_of, names_of, sign, take_names};
 use es_outside::HostNames;
-use es5_ast::{Declared5, Expr5, Identifier5, Script, Stat5};
+use es5_ast::{BinaryOperator5, Declared5, Expr5, Identifier5, Script, Stat5, UnaryOperator5};
 use shared_text::Name;
 use sqlite_items::{Boxed, Items};
 use std::alloc::{AllocError, Global};
@@ -159,13 +160,31 @@ fn parameters(alloc: Global, names: &[Name]) -> Result<Items<Identifier5>, Alloc
     Ok(made)
 }
 
-/// These names as expressions.
-fn texts(alloc: Global, names: &[Name]) -> Result<Items<Expr5>, AllocError>
-    ensures { IfOk result (λ xs. xs ≡ texts names.now) }
+/// Whether there is no host of this name, which `typeof` reads all the same (5.1 edition, 11.4.3).
+fn is_missing(alloc: Global, host: &[u8]) -> Result<Boxed<Expr5>, AllocError>
+    ensures { IfOk result (λ x. x ≡ is_missing host.now) }
+{
+    let kind = unary(alloc, UnaryOperator5::Typeof, name(alloc, host)?)?;
+    let word = word_text(alloc, b"undefined")?;
+    operated(alloc, kind, BinaryOperator5::Same, word)
+}
+
+/// A host, or nothing where an engine lacks it, as it may one that no module imports.
+fn handed_host(alloc: Global, host: &[u8]) -> Result<Boxed<Expr5>, AllocError>
+    ensures { IfOk result (λ x. x ≡ handed_host host.now) }
+{
+    let test = is_missing(alloc, host)?;
+    let none = nothing(alloc)?;
+    conditional(alloc, test, none, name(alloc, host)?)
+}
+
+/// What the script's function is handed.
+fn handed(alloc: Global, hosts: &[Name]) -> Result<Items<Expr5>, AllocError>
+    ensures { IfOk result (λ xs. xs ≡ handed hosts.now) }
 {
     let mut made = Items::new(alloc);
-    for text in names {
-        made.push(name(alloc, text.bytes())?.into_inner())?;
+    for host in hosts {
+        made.push(handed_host(alloc, host.bytes())?.into_inner())?;
     }
     Ok(made)
 }
@@ -177,10 +196,10 @@ fn called_with(
     hosts: &[Name],
     body: Items<Stat5>,
 ) -> Result<Stat5, AllocError>
-    ensures { IfOk result (λ s. s ≡ expression (called (function None parameters body) (texts hosts.now) None)) }
+    ensures { IfOk result (λ s. s ≡ expression (called (function None parameters body) (handed hosts.now) None)) }
 {
     let made = function(alloc, None, parameters, body)?;
-    let operands = texts(alloc, hosts)?;
+    let operands = handed(alloc, hosts)?;
     Ok(expression(called(alloc, made, operands, None)?))
 }
 

@@ -21,7 +21,7 @@ pub use heads::{head_emitted, object};
 pub use helpers::helper_name;
 pub use keys::plain;
 pub use leaves::{identifier, integer, name, nothing, nowhere, text, this, word_text};
-pub use operands::{assigned, operated, stored, then};
+pub use operands::{assigned, conditional, operated, stored, then, unary};
 pub use operations::{lazy_emitted, op_emitted};
 pub use scenes::{ask, name_of, no_uses};
 pub use statements::{block, declared, expression, function, push_variables};

@@ -163,7 +163,8 @@ pub fn stored(
     assigned(alloc, AssignOperator5::Assign, target, value)
 }
 
-pub(crate) fn unary(
+/// An operator before a value.
+pub fn unary(
     alloc: Global,
     operator: UnaryOperator5,
     operand: Boxed<Expr5>,
@@ -183,7 +184,8 @@ pub(crate) fn update(
     Ok(expressions::update(alloc, nowhere(), operator, target)?.into_value())
 }
 
-pub(crate) fn conditional(
+/// A choice.
+pub fn conditional(
     alloc: Global,
     test: Boxed<Expr5>,
     yes: Boxed<Expr5>,
