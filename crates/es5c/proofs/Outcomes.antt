@@ -13,7 +13,7 @@ use Rattle.es_outside.specs.Sinks.{Adds}
 use Rattle.es5c.specs.declared.status.Status.{Status}
 use Rattle.es5c.specs.declared.status.Status.TheVariants as status
 use Rattle.es5c.specs.declared.fault.Fault.{Fault}
-use Rattle.es5c.specs.declared.fault.Fault.TheVariants.{Missing, ReadFailed, FileTooLong, InGraph, NotBuilt, BadMap, Unbuilt}
+use Rattle.es5c.specs.declared.fault.Fault.TheVariants.{Missing, ReadFailed, FileTooLong, InGraph, BadMap, Unbuilt}
 use Rattle.es_outside.specs.Files.{read_of}
 use Rattle.first_trees.specs.declared.Module.{Module}
 use Rattle.first_forms.specs.Lexing.{tokens_of}
@@ -21,9 +21,6 @@ use Rattle.first_forms.specs.Modules.{Spells}
 use Rattle.first_forms.specs.declared.reader.ReadFault.{ReadFault}
 use Rattle.first_forms.specs.declared.reader.ReadFault.TheVariants as read
 use Rattle.first_forms.specs.declared.token.Token.{Token}
-use Rattle.es_text.specs.Units.{IsTextFault}
-use Rattle.es_text.specs.declared.units.TextFault.{TextFault}
-use Rattle.es_text.specs.declared.units.TextFault.TheVariants as texts
 use Rattle.es5c.specs.declared.fault.CommandFault.{CommandFault}
 use Rattle.es5c.specs.declared.fault.CommandFault.TheVariants.{Refused, OutOfMemory}
 use Rattle.command_words.specs.declared.command.WordsFault.{WordsFault}
@@ -44,11 +41,13 @@ use Rattle.graph_refusals.specs.declared.fault.GraphFault.{GraphFault}
 use Rattle.graph_refusals.specs.declared.fault.GraphFault.TheVariants as graph_fault
 use Rattle.graph_refusals.specs.declared.fault.Refusal.{Refusal}
 use Rattle.graph_checks.specs.Checks.{HasGraphFault, IsRefusedFor, Passes, Refuses, by_files, by_reading}
-use Rattle.graph_checks.proofs.Entry.{entry_missing, entry_no_text, entry_too_long, entry_unread}
+use Rattle.graph_checks.proofs.Entry.{entry_missing, entry_too_long, entry_unread}
+use Rattle.module_linker.specs.Checking.{IsMadeOf}
+use Rattle.pipeline.specs.Compiled.{IsCompiled}
 use Rattle.graph_checks.proofs.Laws.{one_limit_refused, passes_or_refused, refuses_no_read}
 use Rattle.es5c.specs.Lines.{graph_status_of, line_of, status_of, usage_line}
-use Rattle.es5c.specs.Outcome.{max_module_bytes, max_script_bytes, IsAccepted, IsUnbuilt, RefusesEntry, in_graph, not_built, HasMap, HasNoMap, no_script, script_too_long, bad_map, IsMapText, OnFile, HasFault, GraphCause, IsToCome, Cause, subject, Written, HasAdded, Call, Makes, script, map, IsLine, usage, refusal, IsReported, cut_output, cut_line, IsOutcome, IsCalm, IsDue, ComesWhenDue}
-use Rattle.es5c.specs.Parts.{map_fault_of, graph_fault_of, entry_refusal, IsEntryFault, IsBytesScript, RefusesBytes, bytes_too_long, bytes_no_text, bytes_unbuilt, TellsUnbuilt, tells_first, tells_no_text, tells_nothing, FitsBytes, IsBytesMap, FitsScript, Fits, IsFileScript, IsFileMap, MadeBy, IsSaid, said, cut_off, unsaid, IsMisuseOutcome, IsFailOutcome, IsWritten, IsCommandOutcome, wrote, failed}
+use Rattle.es5c.specs.Outcome.{max_module_bytes, max_script_bytes, IsAccepted, IsBuilt, IsGraphScript, IsNoForm, RefusesEntry, in_graph, HasMap, HasNoMap, no_script, script_too_long, bad_map, IsMapText, OnFile, HasFault, GraphCause, IsToCome, Cause, subject, Written, HasAdded, Call, Makes, script, whole, map, IsLine, usage, refusal, IsReported, cut_output, cut_line, IsOutcome, IsCalm, IsDue, ComesWhenDue}
+use Rattle.es5c.specs.Parts.{map_fault_of, graph_fault_of, entry_refusal, IsEntryFault, IsBytesScript, formed, unformed, RefusesBytes, bytes_too_long, FitsBytes, IsBytesMap, FitsScript, Fits, IsFileScript, of_module, of_graph, IsFileMap, MadeBy, IsSaid, said, cut_off, unsaid, IsMisuseOutcome, IsFailOutcome, IsWritten, IsCommandOutcome, wrote, failed}
 
 same_some : {A : Type 0} {x y : A} → Some x ≡ Some y → x ≡ y
 same_some e = cc
@@ -116,27 +115,31 @@ unmapped_file (Some content) read fault e (bad_map {fault = f} short no_map) =
     let whole : content ≡ read = whole_file max_script_bytes content read (same_some e) short in
     subst (λ (c : List ℕ). HasNoMap (Some c) (BadMap f)) (sym whole) (bad_map short no_map)
 
+-- a graph that is compiled passes every check
+pub passes_built : {hosts : List (List ℕ)} {told : Option (List ℕ → Option (List ℕ))} {entry script : List ℕ} → IsBuilt hosts told entry script → Passes told hosts entry
+passes_built b = record { graph = b.graph; loaded = b.loads; endings = b.relinked.endings; linked = b.relinked.ends }
+
 -- what the bytes of the entry hold against it
-bytes_refuse : (hosts : List (List ℕ)) (told : Option (List ℕ → Option (List ℕ))) (entry read : List ℕ) (old new : ℕ) (fault : Fault) → Passes told hosts entry → IfSome told (λ file. option_map (read_of max_module_bytes) (file entry) ≡ Some read) → RefusesBytes hosts entry read fault → Cause hosts (asked.build entry) told old new fault
-bytes_refuse hosts told entry read old new _ passes e (bytes_too_long long) =
+bytes_refuse : (hosts : List (List ℕ)) (told : Option (List ℕ → Option (List ℕ))) (entry read : List ℕ) (old new : ℕ) (fault : Fault) → IfSome told (λ file. option_map (read_of max_module_bytes) (file entry) ≡ Some read) → RefusesBytes hosts entry read fault → Cause hosts (asked.build entry) told old new fault
+bytes_refuse hosts told entry read old new _ e (bytes_too_long long) =
     let l = long_told told entry read e long in
     by_files (entry_too_long told hosts entry l.content l.holds l.long)
-bytes_refuse hosts told entry read old new _ passes e (bytes_no_text at short fault) = by_files (entry_no_text told hosts entry read at (whole_told told entry read e short) short fault)
-bytes_refuse hosts told entry read old new _ passes e (bytes_unbuilt short unbuilt first) = not_built passes (whole_told told entry read e short) unbuilt first
 
-found_entry : (hosts : List (List ℕ)) (told : Option (List ℕ → Option (List ℕ))) (entry read : List ℕ) (old new : ℕ) (result : Result (Vec ℕ Global) CommandFault) → Passes told hosts entry → IfSome told (λ file. option_map (read_of max_module_bytes) (file entry) ≡ Some read) → MatchResult result (λ s. IsBytesScript hosts read s.items) (FitsBytes hosts entry read) → MatchResult result (λ s. IsFileScript hosts told entry s.items) (Fits hosts (asked.build entry) told old new)
-found_entry hosts told entry read old new (Ok s) passes e b = record {
-  m = b.m;
-  accepted = record { passes = passes; bytes = read; holds = whole_told told entry read e b.within; within = b.within; spells = b.spells };
-  script_of = b.script_of;
-}
-found_entry hosts told entry read old new (Err OutOfMemory) passes e b = tt
-found_entry hosts told entry read old new (Err (Refused fault)) passes e b = bytes_refuse hosts told entry read old new fault passes e b
+bytes_script : (hosts : List (List ℕ)) (told : Option (List ℕ → Option (List ℕ))) (entry read compiled script : List ℕ) → IsBuilt hosts told entry compiled → IfSome told (λ file. option_map (read_of max_module_bytes) (file entry) ≡ Some read) → IsBytesScript hosts read compiled script → IsFileScript hosts told entry script
+bytes_script hosts told entry read compiled _ built e (formed m short spells of) =
+    of_module m (record { passes = passes_built built; bytes = read; holds = whole_told told entry read e short; within = short; spells = spells }) of
+bytes_script hosts told entry read compiled _ built e (unformed short none) =
+    of_graph (record { built = built; bytes = read; holds = whole_told told entry read e short; unformed = none })
+
+found_entry : (hosts : List (List ℕ)) (told : Option (List ℕ → Option (List ℕ))) (entry read compiled : List ℕ) (old new : ℕ) (result : Result (Vec ℕ Global) CommandFault) → IsBuilt hosts told entry compiled → IfSome told (λ file. option_map (read_of max_module_bytes) (file entry) ≡ Some read) → MatchResult result (λ s. IsBytesScript hosts read compiled s.items) (FitsBytes hosts entry read) → MatchResult result (λ s. IsFileScript hosts told entry s.items) (Fits hosts (asked.build entry) told old new)
+found_entry hosts told entry read compiled old new (Ok s) built e b = bytes_script hosts told entry read compiled s.items built e b
+found_entry hosts told entry read compiled old new (Err OutOfMemory) built e b = tt
+found_entry hosts told entry read compiled old new (Err (Refused fault)) built e b = bytes_refuse hosts told entry read old new fault e b
 
 -- the same, where the bytes are those of a slice
-pub found_as : (hosts : List (List ℕ)) (told : Option (List ℕ → Option (List ℕ))) (entry : List ℕ) (old new : ℕ) (read slice : List ℕ) (result : Result (Vec ℕ Global) CommandFault) → slice ≡ read → Passes told hosts entry → IfSome told (λ file. option_map (read_of max_module_bytes) (file entry) ≡ Some read) → MatchResult result (λ s. IsBytesScript hosts slice s.items) (FitsBytes hosts entry slice) → MatchResult result (λ s. IsFileScript hosts told entry s.items) (Fits hosts (asked.build entry) told old new)
-found_as hosts told entry old new read slice result e passes f b =
-    found_entry hosts told entry read old new result passes f (subst (λ (r : List ℕ). MatchResult result (λ s. IsBytesScript hosts r s.items) (FitsBytes hosts entry r)) e b)
+pub found_as : (hosts : List (List ℕ)) (told : Option (List ℕ → Option (List ℕ))) (entry compiled : List ℕ) (old new : ℕ) (read slice : List ℕ) (result : Result (Vec ℕ Global) CommandFault) → slice ≡ read → IsBuilt hosts told entry compiled → IfSome told (λ file. option_map (read_of max_module_bytes) (file entry) ≡ Some read) → MatchResult result (λ s. IsBytesScript hosts slice compiled s.items) (FitsBytes hosts entry slice) → MatchResult result (λ s. IsFileScript hosts told entry s.items) (Fits hosts (asked.build entry) told old new)
+found_as hosts told entry compiled old new read slice result e built f b =
+    found_entry hosts told entry read compiled old new result built f (subst (λ (r : List ℕ). MatchResult result (λ s. IsBytesScript hosts r compiled s.items) (FitsBytes hosts entry r)) e b)
 
 -- a fault of the entry itself, or want of memory
 pub fits_entry : (hosts : List (List ℕ)) (told : Option (List ℕ → Option (List ℕ))) (entry : List ℕ) (old new : ℕ) (kind : FileFault) (fault : CommandFault) → IsEntryFault entry kind fault → IsRefusedFor told hosts entry old new (record { path = entry; fault = kind }) → Fits hosts (asked.build entry) told old new fault
@@ -157,21 +160,12 @@ pub fits_bytes : (hosts : List (List ℕ)) (entry bytes : List ℕ) (kind : File
 fits_bytes hosts entry bytes kind (Refused f) e r = subst (RefusesBytes hosts entry bytes) (sym e) r
 fits_bytes hosts entry bytes kind OutOfMemory e r = tt
 
-pub no_text_told : (entry bytes : List ℕ) (at : ℕ) (text : TextFault) (fault : CommandFault) → text ≡ texts.NotUtf8 at → IsTextFault bytes text → IsEntryFault entry (in_file.NotUtf8 at) fault → TellsUnbuilt entry bytes fault
-no_text_told entry bytes at text (Refused f) is v e = subst (λ (x : Fault). TellsUnbuilt entry bytes (Refused x)) (sym e) (tells_no_text at (subst (IsTextFault bytes) is v))
-no_text_told entry bytes at text OutOfMemory is v e = tells_nothing
-
--- no module of the forms that are built is spelled, where the reader says so
-pub no_form : (hosts : List (List ℕ)) (bytes : List ℕ) (tokens : List Token) (fault : ReadFault) (at : ℕ) → tokens ≡ tokens_of bytes → fault ≡ read.NotBuilt at → ((m : Module) → Spells hosts tokens m → fault ≡ read.OutOfMemory) → IsUnbuilt hosts bytes
+-- no module of the first forms is spelled, where the reader says so
+pub no_form : (hosts : List (List ℕ)) (bytes : List ℕ) (tokens : List Token) (fault : ReadFault) (at : ℕ) → tokens ≡ tokens_of bytes → fault ≡ read.NotBuilt at → ((m : Module) → Spells hosts tokens m → fault ≡ read.OutOfMemory) → IsNoForm hosts bytes
 no_form hosts bytes tokens fault at e is complete = λ m spells.
     let none : fault ≡ read.OutOfMemory = complete m (subst (λ (ts : List Token). Spells hosts ts m) (sym e) spells) in
     let bad : read.NotBuilt at ≡ read.OutOfMemory = sym is ∙ none in
     cc
-
-pub unbuilt_fits : (hosts : List (List ℕ)) (entry bytes : List ℕ) (fault : CommandFault) → length bytes ≤ max_module_bytes → IsUnbuilt hosts bytes → TellsUnbuilt entry bytes fault → FitsBytes hosts entry bytes fault
-unbuilt_fits hosts entry bytes _ short unbuilt (tells_first place) = bytes_unbuilt short unbuilt place
-unbuilt_fits hosts entry bytes _ short unbuilt (tells_no_text at v) = bytes_no_text at short v
-unbuilt_fits hosts entry bytes _ short unbuilt tells_nothing = tt
 
 -- a fault of the graph
 pub graph_fits : (hosts : List (List ℕ)) (told : Option (List ℕ → Option (List ℕ))) (entry : List ℕ) (old new : ℕ) (fault : GraphFault) → HasGraphFault told hosts entry old new fault → Fits hosts (asked.build entry) told old new (graph_fault_of fault)
@@ -193,7 +187,6 @@ fits_from hosts told entry old middle new (Err (Refused Missing)) le h = h
 fits_from hosts told entry old middle new (Err (Refused ReadFailed)) le h = rose_from old middle new le h
 fits_from hosts told entry old middle new (Err (Refused FileTooLong)) le h = h
 fits_from hosts told entry old middle new (Err (Refused (InGraph r))) le h = refused_from told hosts entry old middle new r le h
-fits_from hosts told entry old middle new (Err (Refused (NotBuilt place))) le h = h
 fits_from hosts told entry old middle new (Err (Refused (BadMap fault))) le h = h
 fits_from hosts told entry old middle new (Err (Refused Unbuilt)) le h = h
 
@@ -203,8 +196,11 @@ built_of hosts list told told2 entry old middle new result e f le h =
     let at_told = subst (λ (t : Option (List ℕ → Option (List ℕ))). MatchResult result (λ s. IsFileScript list t entry s.items) (Fits list (asked.build entry) t middle new)) f h in
     fits_from hosts told entry old middle new result le (subst (λ (l : List (List ℕ)). MatchResult result (λ s. IsFileScript l told entry s.items) (Fits l (asked.build entry) told middle new)) e at_told)
 
-pub passes_at : (hosts list : List (List ℕ)) (told told2 : Option (List ℕ → Option (List ℕ))) (entry : List ℕ) → list ≡ hosts → told2 ≡ told → Passes told hosts entry → Passes told2 list entry
-passes_at hosts list told told2 entry e f p = subst (λ (t : Option (List ℕ → Option (List ℕ))). Passes t list entry) (sym f) (subst (λ (l : List (List ℕ)). Passes told l entry) (sym e) p)
+-- what is made of the entry's graph, for a list of the hosts' names and for what files tell after it
+pub built_at : (hosts list : List (List ℕ)) (told told2 : Option (List ℕ → Option (List ℕ))) (entry : List ℕ) (made : Vec ℕ Global) → list ≡ hosts → told2 ≡ told → IsMadeOf (λ g h (s : Vec ℕ Global). IsCompiled g h s.items) told entry hosts made → IsBuilt list told2 entry made.items
+built_at hosts list told told2 entry made e f m =
+    let here : IsBuilt hosts told entry made.items = record { graph = m.graph; loads = m.loads; linked = m.is_made.linked; relinked = m.is_made.relinked; compiled = m.is_made.is_made } in
+    subst (λ (t : Option (List ℕ → Option (List ℕ))). IsBuilt list t entry made.items) (sym f) (subst (λ (l : List (List ℕ)). IsBuilt l told entry made.items) (sym e) here)
 
 pub found_map : (files : Option (List ℕ → Option (List ℕ))) (path : List ℕ) (old new : ℕ) (read : List ℕ) (result : Result (Vec ℕ Global) CommandFault) → IfSome files (λ file. option_map (read_of max_script_bytes) (file path) ≡ Some read) → MatchResult result (λ s. IsBytesMap read s.items) (FitsScript read) → MatchResult result (λ s. IsFileMap files path s.items) (Fits [] (asked.map_of path) files old new)
 found_map files path old new read (Ok s) told b = record {
@@ -217,7 +213,6 @@ found_map files path old new read (Err OutOfMemory) told b = tt
 found_map files path old new read (Err (Refused Missing)) told b = elim b [ ]
 found_map files path old new read (Err (Refused (InGraph r))) told b = elim b [ ]
 found_map files path old new read (Err (Refused ReadFailed)) told b = elim b [ ]
-found_map files path old new read (Err (Refused (NotBuilt place))) told b = elim b [ ]
 found_map files path old new read (Err (Refused Unbuilt)) told b = elim b [ ]
 found_map files path old new read (Err (Refused FileTooLong)) told b = if_some_map files (λ file e. unmapped_file (file path) read FileTooLong e b) told
 found_map files path old new read (Err (Refused (BadMap f))) told b = if_some_map files (λ file e. unmapped_file (file path) read (BadMap f) e b) told
@@ -270,7 +265,6 @@ report_of c Missing r = r
 report_of c ReadFailed r = r
 report_of c FileTooLong r = r
 report_of c (InGraph r) reported = by_graph_status (λ (s : Status). IsReported c s → IsOutcome c s) r.fault (λ x. x) (λ x. x) (λ x. x) reported
-report_of c (NotBuilt place) r = r
 report_of c (BadMap fault) r = r
 report_of c Unbuilt r = r
 
@@ -290,8 +284,12 @@ fails c a s (Refused fault) command f h o =
     reported c (status_of fault) s line l o h (λ k. report_of c fault (record { line = line; is_line = l; on_err = k; on_out = o }))
 fails c a s OutOfMemory command f h o = subst (λ (t : Status). IsOutcome c t) (sym h.0) (o, h.1)
 
+makes_script : (c : Call) (entry bytes : List ℕ) → command_of c.words ≡ Some (asked.build entry) → IsFileScript c.hosts c.files entry bytes → Makes c bytes
+makes_script c entry _ command (of_module m accepted of) = script entry m command accepted of
+makes_script c entry _ command (of_graph g) = whole entry command g
+
 makes : (c : Call) (a : Asked) (bytes : List ℕ) → command_of c.words ≡ Some a → MadeBy c.hosts a c.files bytes → Makes c bytes
-makes c (asked.build entry) bytes command f = script entry f.m command f.accepted f.script_of
+makes c (asked.build entry) bytes command f = makes_script c entry bytes command f
 makes c (asked.map_of path) bytes command f = subst (λ (b : List ℕ). Makes c b) (sym f.line_is) (map f.text path command f.accepted f.is_map)
 makes c (asked.split entry) bytes command f = absurd f
 makes c (asked.rebuild entry list) bytes command f = absurd f
@@ -303,12 +301,9 @@ pub done : (c : Call) (a : Asked) (s : Status) → command_of c.words ≡ Some a
 done c a s command (wrote bytes f h e) = written c s bytes (makes c a bytes command f) e h
 done c a s command (failed fault f h o) = fails c a s fault command f h o
 
--- a graph that is accepted has no fault
-one_finding : (hosts : List (List ℕ)) (file : List ℕ → Option (List ℕ)) (entry : List ℕ) (m : Module) (fault : Fault) → IsAccepted hosts (Some file) entry m → RefusesEntry hosts (Some file) entry fault → ⊥
-one_finding hosts file entry m _ a (in_graph {refusal = r} refuses) = passes_or_refused file hosts entry r a.passes refuses
-one_finding hosts file entry m _ a (not_built {bytes = bytes} passes holds unbuilt place) =
-    let same : a.bytes ≡ bytes = same_some (sym a.holds ∙ holds) in
-    unbuilt m (subst (λ (b : List ℕ). Spells hosts (tokens_of b) m) same a.spells)
+-- a graph that passes has no fault
+one_finding : (hosts : List (List ℕ)) (file : List ℕ → Option (List ℕ)) (entry : List ℕ) (fault : Fault) → Passes (Some file) hosts entry → RefusesEntry hosts (Some file) entry fault → ⊥
+one_finding hosts file entry _ p (in_graph {refusal = r} refuses) = passes_or_refused file hosts entry r p refuses
 
 -- nor has one that holds a map
 one_map : (file : Option (List ℕ)) (text : List ℕ) (fault : Fault) → HasMap file text → IsMapText text → HasNoMap file fault → ⊥
@@ -340,9 +335,6 @@ refusal_status told hosts entry r refuses = status_by_limit r.fault (refuses_no_
 one_status : (hosts : List (List ℕ)) (file : List ℕ → Option (List ℕ)) (entry : List ℕ) (f g : Fault) → RefusesEntry hosts (Some file) entry f → RefusesEntry hosts (Some file) entry g → status_of f ≡ status_of g
 one_status hosts file entry _ _ (in_graph {refusal = r} x) (in_graph {refusal = q} y) =
     refusal_status (Some file) hosts entry r x ∙ ap (λ b. cond b status.Limit status.Refused) (one_limit_refused file hosts entry r q x y) ∙ sym (refusal_status (Some file) hosts entry q y)
-one_status hosts file entry _ _ (in_graph {refusal = r} x) (not_built passes holds unbuilt place) = absurd (passes_or_refused file hosts entry r passes x)
-one_status hosts file entry _ _ (not_built passes holds unbuilt place) (in_graph {refusal = r} x) = absurd (passes_or_refused file hosts entry r passes x)
-one_status hosts file entry _ _ (not_built passes holds unbuilt place) (not_built passes2 holds2 unbuilt2 place2) = refl
 
 one_map_status : (file : Option (List ℕ)) (f g : Fault) → HasNoMap file f → HasNoMap file g → status_of f ≡ status_of g
 one_map_status file f g no_script no_script = refl
@@ -391,7 +383,6 @@ fault_told hosts a told old new Missing calm h = h
 fault_told hosts a told old new ReadFailed calm h = absurd (calm h)
 fault_told hosts a told old new FileTooLong calm h = h
 fault_told hosts a told old new (InGraph r) calm h = graph_fault_told hosts a told old new r calm h
-fault_told hosts a told old new (NotBuilt place) calm h = h
 fault_told hosts a told old new (BadMap fault) calm h = h
 fault_told hosts a told old new Unbuilt calm h = to_come hosts a told h
 
@@ -404,20 +395,24 @@ module _ (c : Call) (file : List ℕ → Option (List ℕ)) (told : c.files ≡ 
   fault_here : (a b : Asked) (fault : Fault) → command_of c.words ≡ Some a → command_of c.words ≡ Some b → HasFault c.hosts b (Some file) fault → HasFault c.hosts a (Some file) fault
   fault_here a b fault e f h = subst (λ (z : Asked). HasFault c.hosts z (Some file) fault) (same_some (sym f ∙ e)) h
 
+  built_is_due : (entry : List ℕ) → command_of c.words ≡ Some (asked.build entry) → Passes (Some file) c.hosts entry → IsDue c file status.Done
+  built_is_due entry command here = record {
+    no_command = λ none. absurd (cc);
+    accepted = λ entry2 command2 p. refl;
+    mapped = λ path text command2 h is. refl;
+    refused = λ a fault command2 r. absurd (one_finding c.hosts file entry fault here (fault_here (asked.build entry) a fault command command2 r));
+  }
+
   made_is_due : (bytes : List ℕ) → Makes c bytes → IsDue c file status.Done
   made_is_due bytes (script entry m command accepted same) =
-      let here = at_file (λ t. IsAccepted c.hosts t entry m) accepted in
-      record {
-        no_command = λ none. absurd (cc);
-        accepted = λ entry2 m2 command2 a. refl;
-        mapped = λ path text command2 h is. refl;
-        refused = λ a fault command2 r. absurd (one_finding c.hosts file entry m fault here (fault_here (asked.build entry) a fault command command2 r));
-      }
+      built_is_due entry command (at_file (λ t. Passes t c.hosts entry) accepted.passes)
+  made_is_due bytes (whole entry command g) =
+      built_is_due entry command (at_file (λ t. Passes t c.hosts entry) (passes_built g.built))
   made_is_due bytes (map text path command has is) =
       let here = at_file (λ t. OnFile t path (λ f. HasMap f text)) has in
       record {
         no_command = λ none. absurd (cc);
-        accepted = λ entry m command2 a. refl;
+        accepted = λ entry command2 p. refl;
         mapped = λ path2 text2 command2 h is2. refl;
         refused = λ a fault command2 r. absurd (one_map (file path) text fault here is (fault_here (asked.map_of path) a fault command command2 r));
       }
@@ -425,7 +420,7 @@ module _ (c : Call) (file : List ℕ → Option (List ℕ)) (told : c.files ≡ 
   refusal_is_due : (fault : Fault) (a : Asked) → command_of c.words ≡ Some a → HasFault c.hosts a (Some file) fault → IsDue c file (status_of fault)
   refusal_is_due fault a command r = record {
     no_command = λ none. absurd (cc);
-    accepted = λ entry m command2 h. absurd (one_finding c.hosts file entry m fault h (fault_here (asked.build entry) a fault command2 command r));
+    accepted = λ entry command2 p. absurd (one_finding c.hosts file entry fault p (fault_here (asked.build entry) a fault command2 command r));
     mapped = λ path text command2 h is. absurd (one_map (file path) text fault h is (fault_here (asked.map_of path) a fault command2 command r));
     refused = λ b fault2 command2 r2. same_fault c.hosts a file fault fault2 r (fault_here a b fault2 command command2 r2);
   }
@@ -433,7 +428,7 @@ module _ (c : Call) (file : List ℕ → Option (List ℕ)) (told : c.files ≡ 
   line_is_due : IsCalm c → (s : Status) (bytes : List ℕ) → IsLine c s bytes → IsDue c file s
   line_is_due calm s bytes (usage none) = record {
     no_command = λ n. refl;
-    accepted = λ entry m command a. absurd (cc);
+    accepted = λ entry command p. absurd (cc);
     mapped = λ path text command h is. absurd (cc);
     refused = λ a fault command r. absurd (cc);
   }

@@ -1,15 +1,14 @@
 -- The lines of refusals, and the numbers of statuses.
 use Rattle.std.specs.Prelude.{ℕ, if◌then◌else◌, List, [], ◌∷◌, ◌++◌, codes}
 use Rattle.std.specs.Fmt.{decimal}
-use Rattle.es_text.specs.declared.Place.{Place}
 use Rattle.es5c.specs.declared.status.Status.{Status}
 use Rattle.es5c.specs.declared.status.Status.TheVariants as status
 use Rattle.es5c.specs.declared.fault.Fault.{Fault}
-use Rattle.es5c.specs.declared.fault.Fault.TheVariants.{Missing, ReadFailed, FileTooLong, InGraph, NotBuilt, BadMap, Unbuilt}
+use Rattle.es5c.specs.declared.fault.Fault.TheVariants.{Missing, ReadFailed, FileTooLong, InGraph, BadMap, Unbuilt}
 use Rattle.graph_refusals.specs.declared.fault.FileFault.{FileFault}
 use Rattle.graph_refusals.specs.declared.fault.FileFault.TheVariants as in_file
 use Rattle.graph_refusals.specs.Lines as graph
-use Rattle.graph_refusals.specs.Lines.{is_limit, place_text}
+use Rattle.graph_refusals.specs.Lines.{is_limit}
 use Rattle.source_map.specs.declared.fault.MapFault.{MapFault}
 use Rattle.source_map.specs.declared.fault.MapFault.TheVariants.{NoMap, BadBase64, BadJson, BadVersion, BadDigit, BadFields, BadIndex}
 
@@ -37,17 +36,12 @@ map_fault_line path (BadFields at) = path ++ codes ": map fault BadFields at " +
 map_fault_line path (BadIndex at) = path ++ codes ": map fault BadIndex at " ++ (decimal at ++ 10 ∷ [])
 map_fault_line path _ = []
 
--- the line for an entry whose first token stands here
-abbrev pub not_built_line : List ℕ → Place → List ℕ
-not_built_line path place = path ++ place_text place ++ (codes ": not built" ++ 10 ∷ [])
-
 -- what each fault's line says; the path is that of the file, or the word of the command
 abbrev pub line_of : List ℕ → Fault → List ℕ
 line_of path Missing = path ++ (codes ": missing" ++ 10 ∷ [])
 line_of path ReadFailed = path ++ (codes ": read fault" ++ 10 ∷ [])
 line_of path FileTooLong = path ++ (codes ": file too long" ++ 10 ∷ [])
 line_of path (InGraph refusal) = graph.line_of refusal
-line_of path (NotBuilt place) = not_built_line path place
 line_of path (BadMap fault) = map_fault_line path fault
 line_of path Unbuilt = path ++ (codes ": not built" ++ 10 ∷ [])
 
@@ -66,6 +60,5 @@ status_of Missing = status.Refused
 status_of ReadFailed = status.ReadFault
 status_of FileTooLong = status.Limit
 status_of (InGraph refusal) = graph_status_of refusal.fault
-status_of (NotBuilt place) = status.Refused
 status_of (BadMap fault) = status.Refused
 status_of Unbuilt = status.Refused

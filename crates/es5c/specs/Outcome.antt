@@ -2,7 +2,6 @@
 use Rattle.std.specs.Prelude.{◌≡◌, ℕ, ◌<◌, ◌≤◌, List, [], ◌∷◌, ◌++◌, Option, Some, None, Ok, Err, IfSome, length, codes}
 use Rattle.es_outside.specs.Counts.{CountRose}
 use Rattle.es_outside.specs.Sinks.{Adds, AddsFront}
-use Rattle.es_text.specs.declared.Place.{Place}
 use Rattle.first_trees.specs.declared.Module.{Module}
 use Rattle.first_forms.specs.Lexing.{tokens_of}
 use Rattle.first_forms.specs.Modules.{Spells}
@@ -16,11 +15,14 @@ use Rattle.command_words.specs.Words as asked
 use Rattle.module_loading.specs.Files.{Holds, Told}
 use Rattle.graph_refusals.specs.declared.fault.Refusal.{Refusal}
 use Rattle.graph_checks.specs.Checks.{Passes, Refuses, IsRefusedFor}
-use Rattle.graph_checks.specs.First.{IsFirstPlace}
+use Rattle.es6_ast.specs.declared.graph.Graph.{Graph}
+use Rattle.module_linker.specs.Linking.{IsRelinked}
+use Rattle.module_linker.specs.Loading.{IsGraphOf}
+use Rattle.pipeline.specs.Compiled.{IsCompiled}
 use Rattle.es5c.specs.declared.status.Status.{Status}
 use Rattle.es5c.specs.declared.status.Status.TheVariants as status
 use Rattle.es5c.specs.declared.fault.Fault.{Fault}
-use Rattle.es5c.specs.declared.fault.Fault.TheVariants.{Missing, ReadFailed, FileTooLong, InGraph, NotBuilt, BadMap, Unbuilt}
+use Rattle.es5c.specs.declared.fault.Fault.TheVariants.{Missing, ReadFailed, FileTooLong, InGraph, BadMap, Unbuilt}
 use Rattle.es5c.specs.Lines.{line_of, status_of, usage_line}
 
 -- the most bytes of a module
@@ -39,14 +41,28 @@ pub record IsAccepted (hosts : List (List ℕ)) (told : Told) (entry : List ℕ)
   pub within : length bytes ≤ max_module_bytes
   pub spells : Spells hosts (tokens_of bytes) m
 
--- the bytes are in no form that is built today
-abbrev pub IsUnbuilt : List (List ℕ) → List ℕ → Type 0
-IsUnbuilt hosts bytes = (m : Module) → Spells hosts (tokens_of bytes) m → ⊥
+-- the bytes are in none of the first forms
+abbrev pub IsNoForm : List (List ℕ) → List ℕ → Type 0
+IsNoForm hosts bytes = (m : Module) → Spells hosts (tokens_of bytes) m → ⊥
 
--- The graph of the entry has this fault, or it passes every check, and the entry is in no form that is built today.
+-- The graph of the entry is loaded and linked, and these bytes are what it is compiled to.
+pub record IsBuilt (hosts : List (List ℕ)) (told : Told) (entry script : List ℕ) : Type 0 where
+  pub graph : Graph
+  pub loads : IsGraphOf told entry graph
+  pub linked : Graph
+  pub relinked : IsRelinked graph hosts linked
+  pub compiled : IsCompiled linked hosts script
+
+-- The same, where the entry is in none of the first forms.
+pub record IsGraphScript (hosts : List (List ℕ)) (told : Told) (entry script : List ℕ) : Type 0 where
+  pub built : IsBuilt hosts told entry script
+  pub bytes : List ℕ
+  pub holds : Holds told entry (Some bytes)
+  pub unformed : IsNoForm hosts bytes
+
+-- The graph of the entry has this fault.
 pub data RefusesEntry (hosts : List (List ℕ)) (told : Told) (entry : List ℕ) : Fault → Type 0 where
   in_graph : {refusal : Refusal} → Refuses told hosts entry refusal → RefusesEntry hosts told entry (InGraph refusal)
-  not_built : {bytes : List ℕ} {place : Place} → Passes told hosts entry → Holds told entry (Some bytes) → IsUnbuilt hosts bytes → IsFirstPlace bytes place → RefusesEntry hosts told entry (NotBuilt place)
 
 -- The file is a script that holds the text of a map.
 pub record HasMap (file : Option (List ℕ)) (text : List ℕ) : Type 0 where
@@ -141,9 +157,11 @@ abbrev pub call_of : {F : Type 0} → (F → Told) → (F → ℕ) → List (Lis
 call_of files faults words hosts old new out err =
     record { words = words; hosts = hosts; files = files old; faults_old = faults old; faults_new = faults new; out = out; err = err }
 
--- What the call is to write, on the output: the script of the entry's module, or the text of a script's map.
+-- What the call is to write, on the output: the script of the entry's module where that is in one of the first forms, else that of its
+-- graph, or the text of a script's map.
 pub data Makes (c : Call) : List ℕ → Type 0 where
   script : {bytes : List ℕ} (entry : List ℕ) (m : Module) → command_of c.words ≡ Some (asked.build entry) → IsAccepted c.hosts c.files entry m → IsScriptOf c.hosts m bytes → Makes c bytes
+  whole : {bytes : List ℕ} (entry : List ℕ) → command_of c.words ≡ Some (asked.build entry) → IsGraphScript c.hosts c.files entry bytes → Makes c bytes
   map : (text path : List ℕ) → command_of c.words ≡ Some (asked.map_of path) → OnFile c.files path (λ file. HasMap file text) → IsMapText text → Makes c (map_line text)
 
 -- The call has this line for this fault.
@@ -190,7 +208,7 @@ pub record IsCalm (c : Call) : Type 0 where
 -- The status that is due, where the files are told, no count rose and memory is there.
 pub record IsDue (c : Call) (file : List ℕ → Option (List ℕ)) (s : Status) : Type 0 where
   pub no_command : command_of c.words ≡ None → s ≡ status.Usage
-  pub accepted : (entry : List ℕ) (m : Module) → command_of c.words ≡ Some (asked.build entry) → IsAccepted c.hosts (Some file) entry m → s ≡ status.Done
+  pub accepted : (entry : List ℕ) → command_of c.words ≡ Some (asked.build entry) → Passes (Some file) c.hosts entry → s ≡ status.Done
   pub mapped : (path text : List ℕ) → command_of c.words ≡ Some (asked.map_of path) → HasMap (file path) text → IsMapText text → s ≡ status.Done
   pub refused : (a : Asked) (fault : Fault) → command_of c.words ≡ Some a → HasFault c.hosts a (Some file) fault → s ≡ status_of fault
 

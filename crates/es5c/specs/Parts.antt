@@ -1,7 +1,5 @@
 -- What the parts of a command leave, from which its outcome comes.
 use Rattle.std.specs.Prelude.{◌≡◌, ℕ, ◌<◌, ◌≤◌, List, [], Some, Ok, length}
-use Rattle.std.specs.Str.{IsValidUpTo}
-use Rattle.es_text.specs.declared.Place.{Place}
 use Rattle.first_trees.specs.declared.Module.{Module}
 use Rattle.first_forms.specs.Lexing.{tokens_of}
 use Rattle.first_forms.specs.Modules.{Spells}
@@ -18,15 +16,14 @@ use Rattle.graph_refusals.specs.declared.fault.GraphFault.{GraphFault}
 use Rattle.graph_refusals.specs.declared.fault.GraphFault.TheVariants as graph_fault
 use Rattle.graph_refusals.specs.declared.fault.FileFault.{FileFault}
 use Rattle.graph_refusals.specs.declared.fault.FileFault.TheVariants as in_file
-use Rattle.graph_checks.specs.First.{IsFirstPlace}
 use Rattle.es5c.specs.declared.status.Status.{Status}
 use Rattle.es5c.specs.declared.status.Status.TheVariants as status
 use Rattle.es5c.specs.declared.fault.Fault.{Fault}
-use Rattle.es5c.specs.declared.fault.Fault.TheVariants.{InGraph, NotBuilt, BadMap}
+use Rattle.es5c.specs.declared.fault.Fault.TheVariants.{InGraph, BadMap}
 use Rattle.es5c.specs.declared.fault.CommandFault.{CommandFault}
 use Rattle.es5c.specs.declared.fault.CommandFault.TheVariants.{Refused, OutOfMemory}
 use Rattle.es5c.specs.Lines.{line_of, status_of, usage_line}
-use Rattle.es5c.specs.Outcome.{max_module_bytes, max_script_bytes, IsAccepted, IsUnbuilt, HasMap, HasNoMap, IsMapText, map_line, OnFile, Cause, subject, Written, HasAdded, HasFailed}
+use Rattle.es5c.specs.Outcome.{max_module_bytes, max_script_bytes, IsAccepted, IsGraphScript, IsNoForm, HasMap, HasNoMap, IsMapText, map_line, OnFile, Cause, subject, Written, HasAdded, HasFailed}
 
 abbrev pub map_fault_of : MapFault → CommandFault
 map_fault_of map_fault.OutOfMemory = OutOfMemory
@@ -45,23 +42,14 @@ abbrev pub IsEntryFault : List ℕ → FileFault → CommandFault → Type 0
 IsEntryFault entry fault (Refused answer) = answer ≡ entry_refusal entry fault
 IsEntryFault entry fault OutOfMemory = Unit {0}
 
--- The script of the bytes of an entry, and what they hold against it.
-pub record IsBytesScript (hosts : List (List ℕ)) (bytes script : List ℕ) : Type 0 where
-  pub m : Module
-  pub within : length bytes ≤ max_module_bytes
-  pub spells : Spells hosts (tokens_of bytes) m
-  pub script_of : IsScriptOf hosts m script
+-- The script of the bytes of an entry: that of its module where this is in one of the first forms, else the one that its graph is compiled to.
+pub data IsBytesScript (hosts : List (List ℕ)) (bytes compiled : List ℕ) : List ℕ → Type 0 where
+  formed : {script : List ℕ} (m : Module) → length bytes ≤ max_module_bytes → Spells hosts (tokens_of bytes) m → IsScriptOf hosts m script → IsBytesScript hosts bytes compiled script
+  unformed : length bytes ≤ max_module_bytes → IsNoForm hosts bytes → IsBytesScript hosts bytes compiled compiled
 
+-- what they hold against it
 pub data RefusesBytes (hosts : List (List ℕ)) (entry bytes : List ℕ) : Fault → Type 0 where
   bytes_too_long : max_module_bytes < length bytes → RefusesBytes hosts entry bytes (entry_refusal entry in_file.FileTooLong)
-  bytes_no_text : (at : ℕ) → length bytes ≤ max_module_bytes → IsValidUpTo bytes at → RefusesBytes hosts entry bytes (entry_refusal entry (in_file.NotUtf8 at))
-  bytes_unbuilt : {place : Place} → length bytes ≤ max_module_bytes → IsUnbuilt hosts bytes → IsFirstPlace bytes place → RefusesBytes hosts entry bytes (NotBuilt place)
-
--- what is told of bytes in no form that is built today: where their first token stands, or that they are no text
-pub data TellsUnbuilt (entry bytes : List ℕ) : CommandFault → Type 0 where
-  tells_first : {place : Place} → IsFirstPlace bytes place → TellsUnbuilt entry bytes (Refused (NotBuilt place))
-  tells_no_text : (at : ℕ) → IsValidUpTo bytes at → TellsUnbuilt entry bytes (Refused (entry_refusal entry (in_file.NotUtf8 at)))
-  tells_nothing : TellsUnbuilt entry bytes OutOfMemory
 
 abbrev pub FitsBytes : List (List ℕ) → List ℕ → List ℕ → CommandFault → Type 0
 FitsBytes hosts entry bytes (Refused fault) = RefusesBytes hosts entry bytes fault
@@ -105,11 +93,10 @@ abbrev pub Fits : List (List ℕ) → Asked → Told → ℕ → ℕ → Command
 Fits hosts a told old new (Refused fault) = Cause hosts a told old new fault
 Fits hosts a told old new OutOfMemory = Unit {0}
 
--- The graph of the entry is accepted, and this is the script of the entry's module.
-pub record IsFileScript (hosts : List (List ℕ)) (told : Told) (entry script : List ℕ) : Type 0 where
-  pub m : Module
-  pub accepted : IsAccepted hosts told entry m
-  pub script_of : IsScriptOf hosts m script
+-- The graph of the entry passes, and this is the script of the entry's module, or that of the graph.
+pub data IsFileScript (hosts : List (List ℕ)) (told : Told) (entry : List ℕ) : List ℕ → Type 0 where
+  of_module : {script : List ℕ} (m : Module) → IsAccepted hosts told entry m → IsScriptOf hosts m script → IsFileScript hosts told entry script
+  of_graph : {script : List ℕ} → IsGraphScript hosts told entry script → IsFileScript hosts told entry script
 
 -- The file, or one that tells nothing, holds a map, and this is its text on a line.
 pub record IsFileMap (told : Told) (path line : List ℕ) : Type 0 where

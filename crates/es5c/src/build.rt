@@ -1,26 +1,43 @@
 //! The command `build`.
 
-ghost use Rattle.std.specs.Prelude.{◌≡◌, ◌≤◌, length, IfOk, MatchResult};
+ghost use Rattle.std.specs.Prelude.{◌≡◌, ◌≤◌, IfOk, MatchResult};
 ghost use Rattle.es_outside.specs.HostList.{names};
 ghost use Rattle.command_words.specs.Words.{build};
-ghost use Rattle.graph_checks.specs.Checks.{Passes};
-ghost use Rattle.es5c.specs.Outcome.{max_module_bytes};
-ghost use Rattle.es5c.specs.Parts.{IsBytesScript, FitsBytes, IsFileScript, Fits, IsEntryFault, TellsUnbuilt};
+ghost use Rattle.es5c.specs.Outcome.{IsBuilt};
+ghost use Rattle.es5c.specs.Parts.{IsBytesScript, FitsBytes, IsFileScript, Fits, IsEntryFault};
 
 use crate::fault::{CommandFault, Fault};
-use es_outside::{FileAnswer, Files, Hosts};
-use es_text::TextFault;
+use es_outside::{FileAnswer, Files, HostNames, Hosts};
+use es6_ast::Graph;
 use first_forms::{ReadFault, read_module, tokens};
 use first_script::script_of;
-use graph_checks::{checked, first_place};
+use graph_checks::checked;
 use graph_refusals::{FileFault, Refusal};
+use module_linker::UsesGraph;
+use pipeline::compile;
 use shared_text::Name;
 use std::alloc::{AllocError, Global};
 
 /// The most bytes of a module.
 pub const MAX_MODULE_BYTES: u32 = 4_194_304;
 
-/// The script of the module with this path, if its graph passes every check and it is in a form that is built today.
+/// What a linked graph is compiled to.
+struct Compiled;
+
+impl UsesGraph for Compiled {
+    ghost use Rattle.pipeline.specs.Compiled.{IsCompiled};
+
+    type Made = Vec<u8>;
+
+    ghost makes = { λ graph hosts script. IsCompiled graph hosts script.items };
+
+    fn made(alloc: Global, graph: &Graph, hosts: &HostNames) -> Result<Vec<u8>, AllocError> {
+        compile(alloc, graph, hosts)
+    }
+}
+
+/// The script of the module with this path, if its graph passes every check: where it is in one of the first forms, by their own
+/// rule, and else what the graph is compiled to.
 pub fn build<F: Files>(
     alloc: Global,
     path: &str,
@@ -34,9 +51,9 @@ pub fn build<F: Files>(
     ensures no_fall { F.faults files.old ≤ F.faults files.new }
 {
     let host_names = hosts.names(alloc)?;
-    checked(alloc, files, path, &host_names)?;
+    let compiled = checked::<F, Compiled>(alloc, files, path, &host_names)?;
     let names = host_list(alloc, hosts)?;
-    script_of_entry(alloc, path, files, names.as_slice())
+    script_of_entry(alloc, path, files, names.as_slice(), compiled)
 }
 
 /// The names of the hosts, in order.
@@ -50,14 +67,15 @@ fn host_list(alloc: Global, hosts: &Hosts) -> Result<Vec<Name>, AllocError>
     Ok(list)
 }
 
-/// The script of the entry of a graph that passed. The file is read once more, up to one byte past the limit.
+/// The script of the entry of a graph that passed and is compiled. The file is read once more, up to one byte past the limit.
 fn script_of_entry<F: Files>(
     alloc: Global,
     path: &str,
     files: &mut F,
     hosts: &[Name],
+    compiled: Vec<u8>,
 ) -> Result<Vec<u8>, CommandFault>
-    requires { Passes (F.files files.old) hosts.now path.now }
+    requires { IsBuilt hosts.now (F.files files.old) path.now compiled.items }
     ensures built { MatchResult result
         (λ script. IsFileScript hosts.now (F.files files.old) path.now script.items)
         (Fits hosts.now (build path.now) (F.files files.old) (F.faults files.old) (F.faults files.new)) }
@@ -65,22 +83,23 @@ fn script_of_entry<F: Files>(
     ensures no_fall { F.faults files.old ≤ F.faults files.new }
 {
     match files.read(alloc, path, MAX_MODULE_BYTES) {
-        FileAnswer::Found(bytes) => script_of_bytes(alloc, path, bytes.as_slice(), hosts),
+        FileAnswer::Found(bytes) => script_of_bytes(alloc, path, bytes.as_slice(), hosts, compiled),
         FileAnswer::Missing => Err(entry_fault(alloc, path, FileFault::Missing)),
         FileAnswer::Failed => Err(entry_fault(alloc, path, FileFault::ReadFailed)),
         FileAnswer::OutOfMemory => Err(CommandFault::OutOfMemory),
     }
 }
 
-/// The script of the bytes of an entry.
+/// The script of the bytes of an entry, by the rule of the first forms if they are in one.
 fn script_of_bytes(
     alloc: Global,
     path: &str,
     bytes: &[u8],
     hosts: &[Name],
+    compiled: Vec<u8>,
 ) -> Result<Vec<u8>, CommandFault>
     ensures { MatchResult result
-        (λ script. IsBytesScript hosts.now bytes.now script.items)
+        (λ script. IsBytesScript hosts.now bytes.now compiled.items script.items)
         (FitsBytes hosts.now path.now bytes.now) }
 {
     if bytes.len() > MAX_MODULE_BYTES as usize {
@@ -89,20 +108,8 @@ fn script_of_bytes(
     let tokens = tokens(alloc, bytes)?;
     match read_module(alloc, tokens.as_slice(), hosts) {
         Ok(module) => Ok(script_of(alloc, &module, hosts)?),
-        Err(ReadFault::NotBuilt { .. }) => Err(unbuilt(alloc, path, bytes)),
+        Err(ReadFault::NotBuilt { .. }) => Ok(compiled),
         Err(ReadFault::OutOfMemory) => Err(CommandFault::OutOfMemory),
-    }
-}
-
-/// What is told of an entry that is in no form that is built today.
-fn unbuilt(alloc: Global, path: &str, bytes: &[u8]) -> CommandFault
-    requires { length bytes.now ≤ max_module_bytes }
-    ensures { TellsUnbuilt path.now bytes.now result }
-{
-    match first_place(alloc, bytes) {
-        Ok(place) => CommandFault::Refused(Fault::NotBuilt(place)),
-        Err(TextFault::NotUtf8 { at }) => entry_fault(alloc, path, FileFault::NotUtf8 { at }),
-        Err(TextFault::OutOfMemory) => CommandFault::OutOfMemory,
     }
 }
 

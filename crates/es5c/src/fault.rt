@@ -2,11 +2,10 @@
 
 ghost use Rattle.std.specs.Prelude.{◌≡◌, [], ◌∷◌, ◌++◌, IfOk, OnOk};
 ghost use Rattle.std.specs.Fmt.{decimal};
-ghost use Rattle.es5c.specs.Lines.{line_of, status_of, graph_status_of, map_fault_line, not_built_line};
+ghost use Rattle.es5c.specs.Lines.{line_of, status_of, graph_status_of, map_fault_line};
 
 use crate::status::Status;
-use es_text::Place;
-use graph_refusals::{FileFault, GraphFault, Refusal, push_place};
+use graph_refusals::{FileFault, GraphFault, Refusal};
 use source_map::MapFault;
 use std::alloc::{AllocError, Global};
 
@@ -21,8 +20,6 @@ pub enum Fault {
     FileTooLong,
     /// The graph of the entry has this fault.
     InGraph(Refusal),
-    /// The graph has none, and the entry, whose first token stands here, is in no form that is built today.
-    NotBuilt(Place),
     /// The script holds no map.
     BadMap(MapFault),
     /// The command isn't built yet.
@@ -77,9 +74,7 @@ impl Fault {
         ensures { result ≡ status_of self.now }
     {
         match self {
-            Fault::Missing | Fault::NotBuilt(_) | Fault::BadMap(_) | Fault::Unbuilt => {
-                Status::Refused
-            }
+            Fault::Missing | Fault::BadMap(_) | Fault::Unbuilt => Status::Refused,
             Fault::ReadFailed => Status::ReadFault,
             Fault::FileTooLong => Status::Limit,
             Fault::InGraph(refusal) => graph_status(&refusal.fault),
@@ -95,7 +90,6 @@ impl Fault {
             Fault::ReadFailed => line_about_file(alloc, path, ": read fault\n"),
             Fault::FileTooLong => line_about_file(alloc, path, ": file too long\n"),
             Fault::InGraph(refusal) => refusal.line(alloc),
-            Fault::NotBuilt(place) => line_about_place(alloc, path, place),
             Fault::BadMap(fault) => line_about_map(alloc, path, fault),
             Fault::Unbuilt => line_about_file(alloc, path, ": not built\n"),
         }
@@ -164,14 +158,5 @@ fn line_about_mappings(
     let number = format!(in alloc; "{at}\n")?;
     let mut line = line_about_file(alloc, path, text)?;
     line.extend_from_slice(number.as_bytes())?;
-    Ok(line)
-}
-
-fn line_about_place(alloc: Global, path: &str, place: &Place) -> Result<Vec<u8>, AllocError>
-    ensures { IfOk result (λ line. line.items ≡ not_built_line path.now place.now) }
-{
-    let mut line = Vec::from_slice(alloc, path.as_bytes())?;
-    push_place(alloc, &mut line, place)?;
-    line.extend_from_slice(b": not built\n")?;
     Ok(line)
 }

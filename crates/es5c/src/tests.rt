@@ -56,7 +56,7 @@ fn first_call(alloc: Global, fails: bool) -> Result<Vec<u32>, AllocError> {
 }
 
 fn sink(alloc: Global, fails: bool) -> Result<MemorySink, AllocError> {
-    let room = vec![in alloc; 0u8; 1000]?;
+    let room = vec![in alloc; 0u8; 65_536]?;
     Ok(MemorySink::new(alloc, room, first_call(alloc, fails)?))
 }
 
@@ -124,14 +124,35 @@ fn modules_are_built(rt: HostRuntime) -> Result<(), Fail> {
     Ok(())
 }
 
+/// Whether the bytes begin with these.
+fn begins(bytes: &[u8], front: &[u8]) -> bool {
+    match bytes.split_at_checked(front.len()) {
+        Some((begin, _)) => begin == front,
+        None => false,
+    }
+}
+
+/// What has none of the first forms is compiled: one function in strict code, which is handed the hosts.
+#[test]
+fn graphs_are_compiled(rt: HostRuntime) -> Result<(), Fail> {
+    for text in [
+        "import {print} from \"host\";\nprint(1 * 2);",
+        "import {b} from \"./b.js\";",
+        "import * as b from \"./b.js\"; export {b};",
+        "for (const x of [1, 2]) x;",
+    ] {
+        let outcome = build(rt.alloc(), text, Failing::Nothing)?;
+        assert_eq!(rt; outcome.status, Status::Done);
+        assert_eq!(rt; outcome.err.bytes().len(), 0);
+        let front = b"\"use strict\";\n(function(print, count) {\n".as_slice();
+        assert_eq!(rt; begins(outcome.out.bytes(), front), true);
+    }
+    Ok(())
+}
+
 #[test]
 fn modules_are_refused(rt: HostRuntime) -> Result<(), Fail> {
     for (text, line) in [
-        (
-            "\nimport {print} from \"host\";\nprint(1 * 2);",
-            "main.js:2:1: not built\n",
-        ),
-        ("import {b} from \"./b.js\";", "main.js:1:1: not built\n"),
         (
             "import {none} from \"host\";",
             "main.js:1:9: unresolved name \"none\"\n",

@@ -1,5 +1,4 @@
 pub mod Entry
-pub mod FirstToken
 pub mod Laws
 pub mod Linked
 pub mod OneReading

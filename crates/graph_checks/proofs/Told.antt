@@ -7,7 +7,7 @@ use Rattle.module_loading.specs.declared.fault.LoadFault.TheVariants as loads
 use Rattle.module_links.specs.declared.fault.LinkFault.{LinkFault}
 use Rattle.module_linker.specs.declared.checking.CheckFault.{CheckFault}
 use Rattle.module_linker.specs.declared.checking.CheckFault.TheVariants.{Load, Link}
-use Rattle.module_linker.specs.Checking.{ChecksGraph, HasFailedRead, IsLoadedTo}
+use Rattle.module_linker.specs.Checking.{HasCheckFault, HasFailedRead, IsUnlinked}
 use Rattle.module_linker.specs.Loading.{IsFaultOf}
 use Rattle.graph_refusals.specs.declared.fault.GraphFault.{GraphFault}
 use Rattle.graph_refusals.specs.declared.fault.GraphFault.TheVariants.{Refused, OutOfMemory}
@@ -24,7 +24,7 @@ pub told_with : (entry path : List ℕ) (fault : LoadFault ModuleFault) (answer 
 told_with entry path fault (Refused refusal) e f = ap (λ (p : List ℕ). told_load p fault) (sym e) ∙ sym f
 told_with entry path fault OutOfMemory e f = tt
 
-abbrev failed_by : CheckFault → Result Unit CheckFault
+abbrev failed_by : {A : Type 0} → CheckFault → Result A CheckFault
 failed_by fault = Err fault
 
 module _ (told : Option (List ℕ → Option (List ℕ))) (hosts : List (List ℕ)) (entry : List ℕ) (old new : ℕ) where
@@ -46,13 +46,13 @@ module _ (told : Option (List ℕ → Option (List ℕ))) (hosts : List (List �
   load_fault fault (Refused refusal) f rose e = refused_load fault refusal f rose e
   load_fault fault OutOfMemory f rose e = tt
 
-  link_fault : (fault : LinkFault) (answer : GraphFault) → IsLoadedTo told entry hosts (Err fault) → answer ≡ told_link fault → HasGraphFault told hosts entry old new answer
-  link_fault fault (Refused refusal) l e = by_files (unlinked l.graph fault l.loads l.answers (sym e))
+  link_fault : (fault : LinkFault) (answer : GraphFault) → IsUnlinked told entry hosts fault → answer ≡ told_link fault → HasGraphFault told hosts entry old new answer
+  link_fault fault (Refused refusal) l e = by_files (unlinked l.graph fault l.loads l.refused (sym e))
   link_fault fault OutOfMemory l e = tt
 
-  pub check_load : (failed : CheckFault) (fault : LoadFault ModuleFault) (answer : GraphFault) → failed ≡ Load fault → ChecksGraph told entry hosts (failed_by failed) → (HasFailedRead (failed_by failed) → CountRose old new) → OrNoMemory (told_load entry fault) answer → HasGraphFault told hosts entry old new answer
+  pub check_load : {A : Type 0} (failed : CheckFault) (fault : LoadFault ModuleFault) (answer : GraphFault) → failed ≡ Load fault → HasCheckFault told entry hosts failed → (HasFailedRead (failed_by {A = A} failed) → CountRose old new) → OrNoMemory (told_load entry fault) answer → HasGraphFault told hosts entry old new answer
   check_load failed fault answer e h rose o =
-      load_fault fault answer (subst (λ (x : CheckFault). ChecksGraph told entry hosts (failed_by x)) e h) (λ path f. rose (path, ap failed_by (e ∙ ap Load f))) o
+      load_fault fault answer (subst (λ (x : CheckFault). HasCheckFault told entry hosts x) e h) (λ path f. rose (path, ap failed_by (e ∙ ap Load f))) o
 
-  pub check_link : (failed : CheckFault) (fault : LinkFault) (answer : GraphFault) → failed ≡ Link fault → ChecksGraph told entry hosts (failed_by failed) → answer ≡ told_link fault → HasGraphFault told hosts entry old new answer
-  check_link failed fault answer e h f = link_fault fault answer (subst (λ (x : CheckFault). ChecksGraph told entry hosts (failed_by x)) e h) f
+  pub check_link : (failed : CheckFault) (fault : LinkFault) (answer : GraphFault) → failed ≡ Link fault → HasCheckFault told entry hosts failed → answer ≡ told_link fault → HasGraphFault told hosts entry old new answer
+  check_link failed fault answer e h f = link_fault fault answer (subst (λ (x : CheckFault). HasCheckFault told entry hosts x) e h) f

@@ -3,7 +3,5 @@
 
 mod checking;
 mod faults;
-mod first;
 
 pub use checking::checked;
-pub use first::first_place;

@@ -7,7 +7,7 @@ mod linking;
 mod loading;
 mod reading;
 
-pub use checking::{CheckFault, check};
+pub use checking::{CheckFault, UsesGraph, check};
 pub use linking::link;
 pub use loading::{Modules, load};
 pub use module_checks::ModuleFault;

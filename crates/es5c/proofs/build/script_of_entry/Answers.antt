@@ -4,7 +4,7 @@ use Rattle.es5c.proofs.build.script_of_entry.Goals as goal
 
 pub returns-in-Found-clause-built : goal.returns-in-Found-clause-built
 returns-in-Found-clause-built g c =
-    found_as c.args.hosts.now (g.F.Files.files c.args.files.now) c.args.path.now (g.F.Files.faults c.args.files.now) (g.F.Files.faults c.read.new.self) c.in-Found.bytes.items c.as_slice.result.now c.script_of_bytes.result
+    found_as c.args.hosts.now (g.F.Files.files c.args.files.now) c.args.path.now c.args.compiled.items (g.F.Files.faults c.args.files.now) (g.F.Files.faults c.read.new.self) c.in-Found.bytes.items c.as_slice.result.now c.script_of_bytes.result
     c.as_slice.ensures.value c.requires c.in-Found.ensures.told c.script_of_bytes.ensures
 
 pub returns-in-Missing-clause-built : goal.returns-in-Missing-clause-built
