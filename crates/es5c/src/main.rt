@@ -1,25 +1,22 @@
-//! The program `es5c`: `es5c build ENTRY` writes the ES5 script of a module to the standard output, and `es5c map SCRIPT` the text of the
+//! The program `es5c`: `es5c build ENTRY` writes the ES5 script of a graph of modules to the standard output, and `es5c map SCRIPT` the text of the
 //! map that a script holds.
 #![tactic(auto)]
 
 mod build;
 mod command;
 mod fault;
-mod hosts;
 mod map;
-mod real;
 mod status;
 #[cfg(test)]
 mod tests;
 mod top;
 
 use es_outside::{Host, Hosts};
-use hosts::{CountHost, PrintHost, ReadHost};
-use real::{RealFiles, StreamSink};
 use status::Status;
 use std::alloc::{AllocError, Global};
 use std::process::ExitCode;
 use std::{env, io};
+use system_outside::{CountHost, PrintHost, ReadHost, StreamSink, SystemFiles};
 use top::es5c;
 
 fn main(rt: HostRuntime) -> ExitCode {
@@ -48,7 +45,7 @@ fn run(rt: &HostRuntime) -> Result<Status, AllocError> {
     let Ok(mut hosts) = Hosts::new(alloc, list) else {
         return Ok(Status::HostFault);
     };
-    let mut files = RealFiles::new(rt);
+    let mut files = SystemFiles::new(rt);
     let mut out = StreamSink::new(rt.stdout());
     let mut err = StreamSink::new(rt.stderr());
     Ok(es5c(

@@ -1,4 +1,4 @@
-//! The real outside: files and streams. They tell no content, since no contract can say what a system call gives or
+//! Files and streams of the system. They tell no content, since no contract can say what a system call gives or
 //! takes, and each counts its faults.
 
 ghost use Rattle.std.specs.Prelude.{◌≡◌};
@@ -14,7 +14,7 @@ const READ_SIZE: usize = 8192;
 
 /// The files of the system.
 #[derive(Drop)]
-pub struct RealFiles<'a, R: Files> {
+pub struct SystemFiles<'a, R: Files> {
     rt: &'a R,
     faults: FaultCount,
 }
@@ -43,20 +43,20 @@ impl From<io::Error> for ReadError {
     }
 }
 
-impl<'a, R: Files> RealFiles<'a, R> {
+impl<'a, R: Files> SystemFiles<'a, R> {
     /// The files of this system, without a fault yet.
-    pub fn new(rt: &'a R) -> RealFiles<'a, R>
+    pub fn new(rt: &'a R) -> SystemFiles<'a, R>
         ensures system { result.rt.now ≡ rt.now }
         ensures no_fault { result.faults ≡ 0 }
     {
-        RealFiles {
+        SystemFiles {
             rt,
             faults: FaultCount::new(),
         }
     }
 }
 
-impl<'a, R: Files> es_outside::Files for RealFiles<'a, R> {
+impl<'a, R: Files> es_outside::Files for SystemFiles<'a, R> {
     ghost use Rattle.std.specs.Prelude.{None};
 
     ghost files = { λ _. None };
