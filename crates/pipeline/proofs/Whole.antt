@@ -23,7 +23,7 @@ written_of
 written_of {modules = modules} g hosts s {entries = entries} es {core = core} bytes are named m e c written =
     let of_modules : IsWrittenOf g.modules core hosts bytes = subst (λ (ms : List LoadedModule). IsWrittenOf ms core hosts bytes) m written in
     let of_core : IsWrittenOf g.modules (core_of g s es) hosts bytes =
-        subst (λ (k : Core). IsWrittenOf g.modules k hosts bytes) (c ∙ ap (core_of g s) e) of_modules in
+    subst (λ (k : Core). IsWrittenOf g.modules k hosts bytes) (c ∙ ap (core_of g s) e) of_modules in
     record { scopes = s; are_scopes = are; namespaces = es; are_namespaces = named; written = of_core }
 
 -- of an answer
