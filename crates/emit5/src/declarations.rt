@@ -44,7 +44,8 @@ pub(crate) fn names(alloc: Global, scene: &Scene, vars: &[Var]) -> Result<Items<
     Ok(made)
 }
 
-pub(crate) fn push_declared(
+/// A name that is declared, with its value.
+pub fn push_declared(
     alloc: Global,
     text: &[u8],
     value: Option<Boxed<Expr5>>,

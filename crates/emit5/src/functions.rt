@@ -95,7 +95,7 @@ fn own_identifier(
 }
 
 /// The statements, behind what is declared.
-pub(crate) fn behind(
+pub fn behind(
     alloc: Global,
     declared: Items<Declared5>,
     statements: Items<Stat5>,

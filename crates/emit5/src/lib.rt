@@ -12,4 +12,8 @@ mod statements;
 mod values;
 mod walk;
 
-pub use script::emit;
+pub use declarations::push_declared;
+pub use functions::behind;
+pub use modules::module;
+pub use script::{emit, handed, own_declarations, parameters, scene_behind};
+pub use statements::{expression, returned};

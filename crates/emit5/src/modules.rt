@@ -26,7 +26,8 @@ fn at_once(alloc: Global, statements: Items<Stat5>, uses: Uses) -> Result<Stat5,
     Ok(expression(called(alloc, made, Items::new(alloc), None)?))
 }
 
-fn module(
+/// What a module begins with, or its body: a function that is called at once, and nothing for no statements.
+pub fn module(
     alloc: Global,
     source: &[CoreStat],
     scene: &mut Scene,

@@ -71,7 +71,7 @@ fn push_method(alloc: Global, text: &[u8], out: &mut Items<Declared5>) -> Result
 }
 
 /// The names of the script's own.
-fn own_declarations(alloc: Global) -> Result<Items<Declared5>, AllocError>
+pub fn own_declarations(alloc: Global) -> Result<Items<Declared5>, AllocError>
     ensures { IfOk result (λ ds. ds ≡ own_declarations) }
 {
     let mut out = Items::new(alloc);
@@ -150,7 +150,8 @@ fn script_body(
     Ok(body)
 }
 
-fn parameters(alloc: Global, names: &[Name]) -> Result<Items<Identifier5>, AllocError>
+/// These names as parameters.
+pub fn parameters(alloc: Global, names: &[Name]) -> Result<Items<Identifier5>, AllocError>
     ensures { IfOk result (λ xs. xs ≡ map (λ n. identifier n) names.now) }
 {
     let mut made = Items::new(alloc);
@@ -179,7 +180,7 @@ fn handed_host(alloc: Global, host: &[u8]) -> Result<Boxed<Expr5>, AllocError>
 }
 
 /// What the script's function is handed.
-fn handed(alloc: Global, hosts: &[Name]) -> Result<Items<Expr5>, AllocError>
+pub fn handed(alloc: Global, hosts: &[Name]) -> Result<Items<Expr5>, AllocError>
     ensures { IfOk result (λ xs. xs ≡ handed hosts.now) }
 {
     let mut made = Items::new(alloc);
@@ -221,7 +222,7 @@ fn script(
 }
 
 /// The scene behind the functions of the table.
-fn scene_behind(
+pub fn scene_behind(
     alloc: Global,
     core: &Core,
     hosts: &[Name],

@@ -31,7 +31,7 @@ pub(crate) fn boxed_block(
 }
 
 /// 12.4
-pub(crate) fn expression(value: Boxed<Expr5>) -> Stat5
+pub fn expression(value: Boxed<Expr5>) -> Stat5
     ensures { result ≡ expression value }
 {
     Stat5::Expression {
@@ -41,7 +41,7 @@ pub(crate) fn expression(value: Boxed<Expr5>) -> Stat5
 }
 
 /// 12.9
-pub(crate) fn returned(value: Boxed<Expr5>) -> Stat5
+pub fn returned(value: Boxed<Expr5>) -> Stat5
     ensures { result ≡ Stat5.Return nowhere (Some value) }
 {
     Stat5::Return {
