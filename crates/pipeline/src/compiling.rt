@@ -25,7 +25,7 @@ use sqlite_items::Items;
 use std::alloc::{AllocError, Global};
 
 /// What a declaration declares, by the walk of the early errors' definitions.
-struct Declared;
+pub struct Declared;
 
 impl Declares for Declared {
     fn declared(alloc: Global, statement: &Statement) -> Result<Items<Name>, AllocError> {

@@ -46,7 +46,7 @@ fn all_named(alloc: Global, modules: &[LoadedModule]) -> Result<Items<Items<u32>
 }
 
 /// The modules in the order in which they are evaluated (ECMA-262, 6th edition, 15.2.1.16.5).
-pub(crate) fn order_of(alloc: Global, graph: &Graph) -> Result<Items<u32>, AllocError>
+pub fn order_of(alloc: Global, graph: &Graph) -> Result<Items<u32>, AllocError>
     ensures { IfOk result (λ order. order ≡ order_of graph.now) }
 {
     let requests = all_named(alloc, graph.modules.as_slice())?;
@@ -54,7 +54,7 @@ pub(crate) fn order_of(alloc: Global, graph: &Graph) -> Result<Items<u32>, Alloc
 }
 
 /// What the passes leave of a core.
-fn passed(alloc: Global, core: Core) -> Result<Core, AllocError>
+pub fn passed(alloc: Global, core: Core) -> Result<Core, AllocError>
     ensures { IfOk result (λ after. after ≡ with_machines (with_yields_flat (without_scopes core))) }
 {
     let flat = flatten_scopes(alloc, core)?;

@@ -14,7 +14,7 @@ use std::alloc::{AllocError, Global};
 
 /// The definitions that a core asks for. That their text is a script is tested and not proved; where it weren't, this would fail as
 /// if memory were wanting.
-pub(crate) fn helpers_of(alloc: Global, core: &Core) -> Result<Items<Stat5>, AllocError>
+pub fn helpers_of(alloc: Global, core: &Core) -> Result<Items<Stat5>, AllocError>
     ensures { IfOk result (λ helpers. AreDefinitions (wanted (used_primitives core.now)) helpers) }
 {
     match helper_script(alloc, &UsedPrimitives::of_core(core)) {

@@ -6,4 +6,6 @@ mod cores;
 mod helping;
 mod writing;
 
-pub use compiling::compile;
+pub use compiling::{Declared, compile};
+pub use cores::{order_of, passed};
+pub use helping::helpers_of;
