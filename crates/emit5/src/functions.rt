@@ -94,7 +94,7 @@ fn own_identifier(
     }
 }
 
-/// The statements, behind what is declared.
+/// The statements, behind the variables that are declared.
 pub fn behind(
     alloc: Global,
     declared: Items<Declared5>,

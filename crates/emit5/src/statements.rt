@@ -30,7 +30,7 @@ pub(crate) fn boxed_block(
     Boxed::new(alloc, Stat5::Block(block(statements)))
 }
 
-/// 12.4
+/// An expression statement (12.4).
 pub fn expression(value: Boxed<Expr5>) -> Stat5
     ensures { result ≡ expression value }
 {
@@ -40,7 +40,7 @@ pub fn expression(value: Boxed<Expr5>) -> Stat5
     }
 }
 
-/// 12.9
+/// A return of this value (12.9).
 pub fn returned(value: Boxed<Expr5>) -> Stat5
     ensures { result ≡ Stat5.Return nowhere (Some value) }
 {
