@@ -4,8 +4,9 @@
 // 1. Maps that the writer of this file makes (at random, and by hand) are read as the segments that they
 //    were made of.
 // 2. What our writer makes of them is read by node's own `module.SourceMap`, segment by segment, and by the
-//    package `source-map` where it is there.
-// 3. Texts with a fault are refused.
+//    package `source-map` where it is there, 0.6 or 0.7.
+// 3. Both readers see each segment that is changed.
+// 4. Texts with a fault are refused.
 "use strict";
 
 const { execFileSync } = require("child_process");
@@ -97,7 +98,8 @@ function run(text) {
 
 // ---- the readers
 
-function compareWithNode(text, segments, what) {
+// how many segments node reads otherwise
+function nodeDiffers(text, segments) {
   const map = new SourceMap(JSON.parse(text));
   let wrong = 0;
   for (const [line, column, source, sourceLine, sourceColumn] of segments) {
@@ -108,43 +110,88 @@ function compareWithNode(text, segments, what) {
       : entry.originalSource === `s${source}.js` && entry.originalLine === sourceLine && entry.originalColumn === sourceColumn;
     if (!there || !same) wrong += 1;
   }
-  check(wrong === 0, `${what}: node's SourceMap differs at ${wrong} of ${segments.length} segments`);
+  return wrong;
 }
 
-async function compareWithPackage(text, segments, what) {
-  let library;
+const library = (() => {
   try {
-    library = require("source-map");
+    return require("source-map");
   } catch {
-    return false;
+    return null;
   }
+})();
+
+// The segments as the package reads them, or its refusal. In a segment of one field 0.6 gives a source all the same, `.`, and 0.7 none; neither gives a
+// line. What is left out is null or undefined.
+async function packageReads(text) {
   const read = [];
-  const consumer = await new library.SourceMapConsumer(JSON.parse(text));
-  consumer.eachMapping((mapping) => {
-    const segment = [mapping.generatedLine - 1, mapping.generatedColumn];
-    if (mapping.source !== null) segment.push(mapping.source, mapping.originalLine - 1, mapping.originalColumn);
-    if (mapping.name !== null) segment.push(mapping.name);
-    read.push(segment.join(" "));
-  });
-  const want = segments.map(([line, column, source, sourceLine, sourceColumn, name]) => {
+  try {
+    const consumer = await new library.SourceMapConsumer(JSON.parse(text));
+    consumer.eachMapping(({ generatedLine, generatedColumn, source, originalLine, originalColumn, name }) => {
+      const segment = [generatedLine - 1, generatedColumn];
+      if (typeof originalLine === "number") segment.push(source, originalLine - 1, originalColumn);
+      if (typeof name === "string") segment.push(name);
+      read.push(segment.join(" "));
+    });
+    if (consumer.destroy) consumer.destroy();
+  } catch (error) {
+    return String(error);
+  }
+  return read.join("\n");
+}
+
+function named(segments) {
+  return segments.map(([line, column, source, sourceLine, sourceColumn, name]) => {
     const segment = [line, column];
     if (source !== undefined) segment.push(`s${source}.js`, sourceLine, sourceColumn);
     if (name !== undefined) segment.push(`n${name}`);
     return segment.join(" ");
-  });
-  check(read.join("\n") === want.join("\n"), `${what}: the package source-map differs`);
-  return true;
+  }).join("\n");
 }
 
+// how the readers that are there differ from the segments
+async function differences(text, segments) {
+  const wrong = nodeDiffers(text, segments);
+  const found = wrong === 0 ? [] : [`node's SourceMap differs at ${wrong} of ${segments.length} segments`];
+  if (library && await packageReads(text) !== named(segments)) found.push("the package source-map differs");
+  return found;
+}
+
+const listOf = (front, count) => Array.from({ length: count }, (_, k) => `${front}${k}`);
+
 async function compare(segments, sources, names, what) {
-  const sourceList = Array.from({ length: sources }, (_, k) => `s${k}.js`);
-  const nameList = Array.from({ length: names }, (_, k) => `n${k}`);
+  const sourceList = listOf("s", sources).map((name) => `${name}.js`);
+  const nameList = listOf("n", names);
   const characters = mappings(segments);
   const [text, ...lines] = run(document(sourceList, nameList, characters));
   check(text === JSON.stringify({ version: 3, sources: sourceList, names: nameList, mappings: characters }), `${what}: another text`);
   check(lines.join("\n") === segments.map((segment) => `${segment.join(" ")}\n`).join(""), `${what}: other segments`);
-  compareWithNode(text, segments, what);
-  return compareWithPackage(text, segments, what);
+  for (const difference of await differences(text, segments)) check(false, `${what}: ${difference}`);
+}
+
+// Maps with one field changed, or without one segment, in place of those that are due: each reader that is there has to differ. Names are the
+// package's alone.
+async function seeChanges() {
+  const [sources, names] = [5, 5];
+  const readers = library ? 2 : 1;
+  const segments = randomSegments(60, sources, names, 40);
+  const wrongly = async (changed, least, what) => {
+    const characters = mappings(changed);
+    const text = JSON.stringify({ version: 3, sources: listOf("s", sources + 1).map((name) => `${name}.js`), names: listOf("n", names + 1), mappings: characters });
+    const found = await differences(text, segments);
+    check(found.length >= least, `${what} isn't seen: ${found.join(", ")}`);
+  };
+  for (let at = 0; at < segments.length; at += 1) {
+    for (let field = 1; field < segments[at].length; field += 1) {
+      const changed = segments.map((segment) => segment.slice());
+      changed[at][field] += 1;
+      const next = changed[at + 1];
+      // two segments at one place are no map
+      if (field === 1 && next && next[0] === changed[at][0] && next[1] === changed[at][1]) continue;
+      await wrongly(changed, field < 5 ? readers : readers - 1, `field ${field} of segment ${at}`);
+    }
+    await wrongly(segments.filter((_, k) => k !== at), readers, `segment ${at} left out`);
+  }
 }
 
 // ---- what is refused, as docs/SOURCE_MAP.md says
@@ -171,20 +218,32 @@ function refuse() {
   check(run('{"version":2,"sources":[],"names":[],"mappings":""}')[0] === "BadVersion", "version 2 is read");
 }
 
+// The largest distance that the package reads: 0.6 takes a field of 32 bits for one below zero.
+async function mostOfPackage() {
+  const segments = [[0, MOST, 0, 0, 0]];
+  const text = JSON.stringify({ version: 3, sources: ["s0.js"], names: [], mappings: mappings(segments) });
+  return !library || await packageReads(text) === named(segments) ? MOST : (1 << 30) - 1;
+}
+
 async function main() {
-  let withPackage = false;
   for (let round = 0; round < 40; round += 1) {
     const wide = [3, 40, 1000, 200000][round % 4];
     const sources = 1 + below(20);
     const names = 1 + below(20);
-    const segments = randomSegments(200 + below(400), sources, names, wide);
-    withPackage = await compare(segments, sources, names, `round ${round}`);
+    await compare(randomSegments(200 + below(400), sources, names, wide), sources, names, `round ${round}`);
   }
   await compare(randomSegments(100000, 300, 2000, 30), 300, 2000, "100,000 segments");
-  await compare([[0, 0, 0, MOST, MOST], [0, MOST, 0, 0, 0], [3, 1, 0, MOST, 0, 0]], 1, 1, "the largest numbers");
+  const largest = (most) => [[0, 0, 0, most, most], [0, most, 0, 0, 0], [3, 1, 0, most, 0, 0]];
+  const most = await mostOfPackage();
+  await compare(largest(most), 1, 1, "the largest numbers of all readers");
+  if (most < MOST) {
+    const [text] = run(document(["s0.js"], ["n0"], mappings(largest(MOST))));
+    check(nodeDiffers(text, largest(MOST)) === 0, "the largest numbers: node's SourceMap differs");
+  }
+  await seeChanges();
   refuse();
   const verdict = failures === 0 ? "all maps agree" : `${failures} differences`;
-  console.log(`maps_compare: ${verdict}${withPackage ? ", with the package source-map" : ""}`);
+  console.log(`maps_compare: ${verdict}${library ? ", with the package source-map" : ""}`);
   process.exit(failures === 0 ? 0 : 1);
 }
 
