@@ -1,7 +1,6 @@
 pub mod Inside
 pub mod LastToken
-pub mod Reached
-pub mod Spelled
-pub mod Only
+pub mod Answered
+pub mod Laws
 pub mod StatementBegins
 pub mod Seen

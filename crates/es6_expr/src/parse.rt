@@ -6,9 +6,11 @@ ghost use Rattle.es6_reading.specs.Expressions.{sequence};
 ghost use Rattle.es6_reading.specs.Parser.{Reading as Seen};
 ghost use Rattle.es6_ast.specs.declared.settings.Stand.TheVariants.{Listed};
 ghost use Rattle.es6_reading.specs.Statements.{statement};
+ghost use Rattle.es6_viability.specs.TooDeep.{open_in_expression, open_in_statement};
 ghost use Rattle.es6_cursor.specs.Readers.{inner};
-ghost use Rattle.es6_expr.specs.Parsed.{Answers, IsExpressionIn, IsFaultIn, IsStatementIn, flags_in, input_at};
-ghost use Rattle.es6_expr.specs.Parsed.{BeginsExpression, BeginsStatement, IsTheOnly, IsWithout};
+ghost use Rattle.es6_expr.specs.Parsed.{Answers, IsExpressionBefore, IsExpressionFault, IsExpressionIn};
+ghost use Rattle.es6_expr.specs.Parsed.{IsShallow, IsStatementBefore, IsStatementFault, IsStatementIn};
+ghost use Rattle.es6_expr.specs.Parsed.{IsTheOnly, IsWithout, flags_in, input_at};
 
 use crate::fault::{ParseFault, fault_of, place_of};
 use crate::readers::{sequence, statement};
@@ -58,10 +60,25 @@ pub fn parse_expression(
     requires within { from < length tokens.now }
     requires depth { context.depth ≤ 256 }
     ensures read { Answers (λ (r : Seen). r.value) tokens.now (sequence (inner (256 - context.depth)) (flags_in context) (input_at tokens.now from)) result }
-    ensures spelled { IfOk result (λ r. IsExpressionIn (flags_in context) tokens.now from r) }
-    ensures only { IfOk result (IsTheOnly (BeginsExpression (flags_in context) (drop from tokens.now)) tokens.now) }
-    ensures fault { IfErr result (λ fault. IsFaultIn tokens.now from fault) }
-    ensures without { IfErr result (IsWithout (BeginsExpression (flags_in context) (drop from tokens.now))) }
+    ensures spelled { IfOk result (IsExpressionIn (flags_in context) tokens.now from) }
+    ensures shallow { IfOk result (IsShallow (256 - context.depth) open_in_expression tokens.now from) }
+    ensures only { IfOk result (IsTheOnly (IsExpressionBefore (flags_in context) (drop from tokens.now)) tokens.now) }
+    ensures fault { IfErr result (IsExpressionFault (256 - context.depth) (flags_in context) tokens.now from) }
+    ensures without { IfErr result (IsWithout (IsExpressionBefore (flags_in context) (drop from tokens.now))) }
+{
+    read_expression(alloc, tokens, from, context)
+}
+
+/// The same, as the model reads the tokens.
+fn read_expression(
+    alloc: Global,
+    tokens: &[Token],
+    from: usize,
+    context: Context,
+) -> Result<(Expression, usize), ParseFault>
+    requires within { from < length tokens.now }
+    requires depth { context.depth ≤ 256 }
+    ensures { Answers (λ (r : Seen). r.value) tokens.now (sequence (inner (256 - context.depth)) (flags_in context) (input_at tokens.now from)) result }
 {
     let mut cursor = Cursor::new(alloc, &tokens[from..]);
     match sequence(&mut cursor, context.room(), context.flags()) {
@@ -82,10 +99,25 @@ pub fn parse_statement(
     requires within { from < length tokens.now }
     requires depth { context.depth ≤ 256 }
     ensures read { Answers (λ s. s) tokens.now (statement (inner (256 - context.depth)) (flags_in context) Listed (input_at tokens.now from)) result }
-    ensures spelled { IfOk result (λ r. IsStatementIn (flags_in context) tokens.now from r) }
-    ensures only { IfOk result (IsTheOnly (BeginsStatement (flags_in context) (drop from tokens.now)) tokens.now) }
-    ensures fault { IfErr result (λ fault. IsFaultIn tokens.now from fault) }
-    ensures without { IfErr result (IsWithout (BeginsStatement (flags_in context) (drop from tokens.now))) }
+    ensures spelled { IfOk result (IsStatementIn (flags_in context) tokens.now from) }
+    ensures shallow { IfOk result (IsShallow (256 - context.depth) open_in_statement tokens.now from) }
+    ensures only { IfOk result (IsTheOnly (IsStatementBefore (flags_in context) (drop from tokens.now)) tokens.now) }
+    ensures fault { IfErr result (IsStatementFault (256 - context.depth) (flags_in context) tokens.now from) }
+    ensures without { IfErr result (IsWithout (IsStatementBefore (flags_in context) (drop from tokens.now))) }
+{
+    read_statement(alloc, tokens, from, context)
+}
+
+/// The same, as the model reads the tokens.
+fn read_statement(
+    alloc: Global,
+    tokens: &[Token],
+    from: usize,
+    context: Context,
+) -> Result<(Statement, usize), ParseFault>
+    requires within { from < length tokens.now }
+    requires depth { context.depth ≤ 256 }
+    ensures { Answers (λ s. s) tokens.now (statement (inner (256 - context.depth)) (flags_in context) Listed (input_at tokens.now from)) result }
 {
     let mut cursor = Cursor::new(alloc, &tokens[from..]);
     match statement(&mut cursor, context.room(), context.flags(), Stand::Listed) {

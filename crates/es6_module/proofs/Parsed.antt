@@ -1,26 +1,53 @@
 -- What the laws of the model say of an answer.
-use Rattle.std.proofs.Common.{◌≡◌, ℕ, ◌+◌, ◌≤◌, arith, true, List, [], ◌∷◌, ◌++◌, map, refl, sym, ap, subst, ◌∙◌}
+use Rattle.std.proofs.Common.{◌≡◌, ℕ, ◌+◌, ◌<◌, arith, true, List, [], ◌∷◌, ◌++◌, length, map, refl, sym, ap, subst, ◌∙◌, length-append}
 use Rattle.std.specs.Prelude.{Result, Ok, Err, IfOk, IfErr}
-use Rattle.std.proofs.lemmas.List.{append_cancel_right, map-append}
+use Rattle.std.proofs.lemmas.List.{append-nil, length-map, map-append}
 use Rattle.es6_lexer.specs.declared.token.Token.{Token}
 use Rattle.es6_ast.specs.declared.module.Module.{Module}
 use Rattle.es6_ast.specs.declared.settings.Stop.{Stop}
 use Rattle.es6_ast.specs.declared.settings.Stop.TheVariants as stops
-use Rattle.es6_ast.specs.Modules.{IsModule}
+use Rattle.es6_ast.specs.Dead.{IsDead}
+use Rattle.es6_ast.specs.Semicolons.{SpellsModule}
 use Rattle.es6_ast.specs.Tokens.{Filled, read}
 use Rattle.es6_reading.specs.Laws.{BeginAlike, IsFinal, Says}
 use Rattle.es6_reading.specs.Modules.{most_open, read_module, readers, whole_module}
 use Rattle.es6_reading.specs.Parser.{Input, Outcome, Took, Fault}
 use Rattle.es6_reading.proofs.Completeness.{what-is-derived-is-read}
-use Rattle.es6_reading.proofs.LocalReaders.{full-readings, local-faults, faults-stay}
-use Rattle.es6_reading.proofs.PlacesOfModules.{says}
+use Rattle.es6_reading.proofs.LocalReaders.{local-faults}
+use Rattle.es6_reading.proofs.OneModule.{one-module}
+use Rattle.es6_reading.proofs.PlacesOfModules.{places, says}
 use Rattle.es6_reading.proofs.ShallowModules.{depth}
 use Rattle.es6_reading.proofs.Spelled.{spelled}
-use Rattle.es6_reading_laws.proofs.AtBreaks.{read-at-breaks}
+use Rattle.es6_viability.specs.Alive.{NoDeadTokenIsPassed, TokensBeforeFaultsAreAlive}
+use Rattle.es6_viability.specs.Spelled.{FaultsAreDead, IsReadAs, LexicalFaultsAreReported, NoneIsSpelledPastFaults, SpelledModulesAreReadOrLimited}
+use Rattle.es6_viability.proofs.DeepLaws.{modules-are-too-deep}
+use Rattle.es6_viability.proofs.Passed.{faults-dead, lexical-reported, no-dead, read-or-limited, seam}
+use Rattle.es6_viability.proofs.Readers.{tokens-alive}
+use Rattle.es6_viability.proofs.ReadInserted.{none-past}
 use Rattle.es6_cursor.specs.Readers.{turns}
 use Rattle.es6_expr.specs.declared.fault.ParseFault.{ParseFault}
 use Rattle.es6_expr.specs.Faults.{fault_of, place_of}
-use Rattle.es6_module.specs.Parsed.{Answers, IsFault, IsParsed, IsStopped, NoneIsDerived, NoneIsRead, NoneIsSpelled, Refuses, out_of_memory, stopped}
+use Rattle.es6_module.specs.Parsed.{Accepts, Answers, IsFault, IsParsed, IsStopAt, IsStopped, Refuses, out_of_memory, stopped}
+
+-- ## The laws, of all that is derived
+
+alive : TokensBeforeFaultsAreAlive
+alive = tokens-alive what-is-derived-is-read
+
+passed : NoDeadTokenIsPassed
+passed = no-dead places alive
+
+none_past : NoneIsSpelledPastFaults
+none_past = none-past what-is-derived-is-read
+
+dead : FaultsAreDead
+dead = faults-dead places none_past
+
+reported : LexicalFaultsAreReported
+reported = lexical-reported places says dead
+
+limited : SpelledModulesAreReadOrLimited
+limited = read-or-limited places (one-module what-is-derived-is-read) (spelled what-is-derived-is-read) none_past
 
 -- ## Modules
 
@@ -33,6 +60,22 @@ is_parsed tokens tree after e = record {
 pub parsed : (tokens : List Token) (r : Result Module ParseFault) → Answers tokens (read_module turns (map read tokens)) r → IfOk r (λ tree. IsParsed tokens tree)
 parsed tokens (Ok tree) h = is_parsed tokens tree h.0 h.1
 parsed tokens (Err fault) h = tt
+
+-- what tokens spell is what is answered, where no limit is met
+refusing : (tokens : List Token) (stop : Stop) (at : ℕ) → (IsFinal stop → (tree : Module) → SpellsModule tokens tree → ⊥) → Accepts tokens (Err (fault_of stop at))
+refusing tokens stops.Syntax at h = h tt
+refusing tokens (stops.Lexical kind) at h = h tt
+refusing tokens (stops.Outside rule) at h = h tt
+refusing tokens stops.Depth at h = tt
+refusing tokens stops.Endless at h = tt
+
+refusals : (tokens : List Token) (fault : ParseFault) → Refuses tokens (read_module turns (map read tokens)) fault → Accepts tokens (Err fault)
+refusals tokens fault (out_of_memory e) = subst (λ f. Accepts tokens (Err f)) (sym e) tt
+refusals tokens fault (stopped stop rest e f) = subst (λ f. Accepts tokens (Err f)) (sym f) (refusing tokens stop (place_of (map read tokens) rest) (λ final tree spells. subst (λ o. IsReadAs tree o) e (limited turns tokens tree spells) final))
+
+pub accepts : (tokens : List Token) (r : Result Module ParseFault) → Answers tokens (read_module turns (map read tokens)) r → Accepts tokens r
+accepts tokens (Ok tree) h = λ other spells. one-module what-is-derived-is-read tokens other tree spells (spelled what-is-derived-is-read turns tokens tree h.0 h.1)
+accepts tokens (Err fault) h = refusals tokens fault h
 
 -- ## Faults
 
@@ -67,60 +110,68 @@ module-read tokens = refl
 joined : (before others : List Token) (front : List Filled) → map read before ≡ front → map read (before ++ others) ≡ front ++ map read others
 joined before others front e = map-append read before others ∙ ap (λ l. l ++ map read others) e
 
--- no outcome is both
-not-both : {m : Module} {c : Input} {stop : Stop} {ts : List Filled} (o : Outcome Module) → o ≡ Took m c → o ≡ Fault stop ts → ⊥
-not-both o e f = absurd (cc)
+lengths : (front rest : List Token) → length front + length (map read rest) ≡ length (front ++ rest)
+lengths front rest = omega (arith, length-map rest read, length-append front rest)
 
-unread : (tokens : List Token) (stop : Stop) (front rest : List Filled) (q : Parts tokens front rest) → map read tokens ≡ front ++ rest → read_module turns (map read tokens) ≡ Fault stop rest → IsFinal stop → NoneIsRead q.before q.behind
-unread tokens stop front rest q whole e final more others alike tree after read_so =
-    let l = faults-stay true turns most_open (map read tokens) 0 stop rest (sym (module-read (map read tokens)) ∙ e) final in
-    let same : front ≡ l.0 = append_cancel_right front l.0 rest (sym whole ∙ l.1) in
-    let row : map read (q.before ++ others) ≡ l.0 ++ map read others = joined q.before others front q.front_is ∙ ap (λ f. f ++ map read others) same in
-    let faults = l.2 more (map read others) (subst (λ r. BeginAlike r (map read others)) q.rest_is alike) in
-    not-both _ read_so (ap (λ ts. whole_module (readers true (turns + more) (most_open + more)) (record { tokens = ts; last = 0 })) row ∙ faults)
+-- the model stops behind the front
+abbrev Stops : List Token → List Token → Stop → Type 0
+Stops front rest stop = read_module turns (map read (front ++ rest)) ≡ Fault stop (map read rest)
 
-low : (n l : ℕ) → l ≤ n + l
-low n l = omega arith
+at-end : (front : List Token) (stop : Stop) → Stops front [] stop → IsFinal stop → (tree : Module) → SpellsModule front tree → ⊥
+at-end front stop e final tree spells = none_past turns (front ++ []) stop [] e final front [] refl refl [] refl tree (subst (λ ts. SpellsModule ts tree) (sym (append-nil front)) spells)
 
--- a module that is derived would be read
-underived : (front rest : List Token) → NoneIsRead front rest → NoneIsDerived front rest
-underived front rest none others alike tree derived =
-    let c = full-readings what-is-derived-is-read (map read (front ++ others)) tree derived in
-    let k = c.1 (turns + c.0) (most_open + c.0) 0 (low turns c.0) (low most_open c.0) in
-    none c.0 others alike tree k.0 k.1
+inside : (front rest : List Token) (t : Token) → length front < length (front ++ t ∷ rest)
+inside front rest t = omega (arith, length-append front (t ∷ rest))
 
-unspelled : (front rest : List Token) → NoneIsRead front rest → NoneIsSpelled front rest
-unspelled front rest none others alike tree spelled =
-    let c = read-at-breaks what-is-derived-is-read (front ++ others) tree spelled in
-    let k = c.1 (turns + c.0) (most_open + c.0) (low turns c.0) (low most_open c.0) in
-    none c.0 others alike tree k.0 k.1
+dead-there : (front ts : List Token) (t : Token) (stop : Stop) → Stops front (t ∷ ts) stop → IsFinal stop → IsDead (front ++ t ∷ ts) (length front)
+dead-there front ts t stop e final = dead turns (front ++ t ∷ ts) stop (map read (t ∷ ts)) e final (length front) (lengths front (t ∷ ts)) (inside front ts t)
 
-stands : (tokens : List Token) (stop : Stop) (rest : List Filled) → read_module turns (map read tokens) ≡ Fault stop rest → IsStopped tokens stop (place_of (map read tokens) rest)
-stands tokens stop rest e =
+stop-at : (front rest : List Token) (stop : Stop) → Stops front rest stop → IsStopAt front rest stop
+stop-at front rest stops.Endless e = tt
+stop-at front [] stops.Depth e = at-end front stops.Depth e
+stop-at front [] (stops.Lexical kind) e = at-end front (stops.Lexical kind) e
+stop-at front [] stops.Syntax e = at-end front stops.Syntax e
+stop-at front [] (stops.Outside rule) e = at-end front (stops.Outside rule) e
+stop-at front (t ∷ ts) stops.Depth e = modules-are-too-deep turns most_open front ts t (sym (module-read (map read (front ++ t ∷ ts))) ∙ e)
+stop-at front (t ∷ ts) (stops.Lexical kind) e = reported turns (front ++ t ∷ ts) kind (map read (t ∷ ts)) e (length front) t (lengths front (t ∷ ts)) (seam front t ts)
+stop-at front (t ∷ ts) stops.Syntax e = dead-there front ts t stops.Syntax e tt
+stop-at front (t ∷ ts) (stops.Outside rule) e = dead-there front ts t (stops.Outside rule) e tt
+
+-- what is before the tokens that are left
+before-rest : (p a b n : ℕ) → p < a → a + b ≡ n → p + b < n
+before-rest p a b n h e = omega arith
+
+stops-there : (tokens front rest : List Token) (stop : Stop) → tokens ≡ front ++ rest → read_module turns (map read tokens) ≡ Fault stop (map read rest) → Stops front rest stop
+stops-there tokens front rest stop whole e = ap (λ ts. read_module turns (map read ts)) (sym whole) ∙ e
+
+stands : (tokens : List Token) (stop : Stop) (rest : List Filled) → (stop ≡ stops.Endless → ⊥) → read_module turns (map read tokens) ≡ Fault stop rest → IsStopped tokens stop (place_of (map read tokens) rest)
+stands tokens stop rest ended e =
     let l = local-faults true turns most_open (map read tokens) 0 stop rest (sym (module-read (map read tokens)) ∙ e) in
     let q = parts tokens l.0 rest l.1 in
+    let there : read_module turns (map read tokens) ≡ Fault stop (map read q.behind) = e ∙ ap (λ us. Fault stop us) (sym q.rest_is) in
+    let split : Stops q.before q.behind stop = stops-there tokens q.before q.behind stop q.whole there in
     record {
       front = q.before;
       rest = q.behind;
       parts = q.whole;
       place = ap (place_of (map read tokens)) (sym q.rest_is);
+      alive = alive turns q.before q.behind stop split ended;
+      first = λ p h. passed turns tokens stop (map read q.behind) there ended p (before-rest p (length q.before) (length (map read q.behind)) (length tokens) h (lengths q.before q.behind ∙ ap length (sym q.whole)));
+      stops = stop-at q.before q.behind stop split;
       says = subst (λ r. Says stop r) (sym q.rest_is) (says turns (map read tokens) stop rest e);
       stays = λ others alike. ap (read_module turns) (joined q.before others l.0 q.front_is) ∙ module-read (l.0 ++ map read others) ∙ l.2 (map read others) (subst (λ r. BeginAlike r (map read others)) q.rest_is alike);
-      unread = unread tokens stop l.0 rest q l.1 e;
-      underived = λ final. underived q.before q.behind (unread tokens stop l.0 rest q l.1 e final);
-      unspelled = λ final. unspelled q.before q.behind (unread tokens stop l.0 rest q l.1 e final);
     }
 
-told : (tokens : List Token) (at : ℕ) (stop : Stop) → IsStopped tokens stop at → IsFault tokens (fault_of stop at)
-told tokens at stops.Syntax s = s
-told tokens at (stops.Lexical kind) s = s
-told tokens at (stops.Outside rule) s = s
-told tokens at stops.Depth s = s
+told : (tokens : List Token) (at : ℕ) (stop : Stop) → ((stop ≡ stops.Endless → ⊥) → IsStopped tokens stop at) → IsFault tokens (fault_of stop at)
+told tokens at stops.Syntax s = s (λ e. absurd (cc))
+told tokens at (stops.Lexical kind) s = s (λ e. absurd (cc))
+told tokens at (stops.Outside rule) s = s (λ e. absurd (cc))
+told tokens at stops.Depth s = s (λ e. absurd (cc))
 told tokens at stops.Endless s = tt
 
 refused : (tokens : List Token) (fault : ParseFault) → Refuses tokens (read_module turns (map read tokens)) fault → IsFault tokens fault
 refused tokens fault (out_of_memory e) = subst (λ f. IsFault tokens f) (sym e) tt
-refused tokens fault (stopped stop rest e f) = subst (λ f. IsFault tokens f) (sym f) (told tokens (place_of (map read tokens) rest) stop (stands tokens stop rest e))
+refused tokens fault (stopped stop rest e f) = subst (λ f. IsFault tokens f) (sym f) (told tokens (place_of (map read tokens) rest) stop (λ ended. stands tokens stop rest ended e))
 
 pub faults : (tokens : List Token) (r : Result Module ParseFault) → Answers tokens (read_module turns (map read tokens)) r → IfErr r (λ fault. IsFault tokens fault)
 faults tokens (Ok tree) h = tt

@@ -1,18 +1,17 @@
 -- What is answered for the tokens of a text.
-use Rattle.std.specs.Prelude.{◌≡◌, ℕ, ◌+◌, ◌<◌, ◌≤◌, true, List, ◌++◌, length, map, take, Result, Ok, Err}
+use Rattle.std.specs.Prelude.{◌≡◌, ℕ, ◌+◌, ◌<◌, ◌≤◌, true, List, [], ◌∷◌, ◌++◌, length, map, take, Result, Ok, Err}
 use Rattle.es6_lexer.specs.declared.token.Token.{Token}
 use Rattle.es6_ast.specs.declared.module.Module.{Module}
 use Rattle.es6_ast.specs.declared.settings.Stop.{Stop}
 use Rattle.es6_ast.specs.declared.settings.Stop.TheVariants as stops
-use Rattle.es6_ast.specs.Dead.{AreInOrder}
+use Rattle.es6_ast.specs.Dead.{AreInOrder, IsAlive, IsDead, IsReported}
 use Rattle.es6_ast.specs.Depth.{open_constructs}
-use Rattle.es6_ast.specs.Modules.{IsModule}
 use Rattle.es6_ast.specs.Semicolons.{SpellsModule}
 use Rattle.es6_ast.specs.Tokens.{Filled, read}
 use Rattle.es6_reading.specs.Laws.{BeginAlike, IsFinal, Says}
 use Rattle.es6_reading.specs.Modules.{most_open, read_module, readers, whole_module}
 use Rattle.es6_reading.specs.Parser.{Input, Outcome, Took, Fault}
-use Rattle.es6_reading_laws.specs.Breaks.{SpellsAtBreaks}
+use Rattle.es6_viability.specs.TooDeep.{TooManyOpen}
 use Rattle.es6_cursor.specs.Readers.{turns}
 use Rattle.es6_expr.specs.declared.fault.ParseFault.{ParseFault}
 use Rattle.es6_expr.specs.declared.fault.ParseFault.TheVariants.{OutOfMemory, Syntax, Lexical, Outside, Depth}
@@ -24,34 +23,28 @@ pub record IsParsed (tokens : List Token) (tree : Module) : Type 0 where
   pub spelled : SpellsModule tokens tree
   pub shallow : AreInOrder tokens → (p : ℕ) → p < length tokens → open_constructs (take (p + 1) tokens) tree ≤ 256
 
--- However many more constructs may be open, no module is read of tokens that begin with these, where the second ones begin with
--- the token at which the reader stopped.
-abbrev pub NoneIsRead : List Token → List Token → Type 0
-NoneIsRead front rest = (more : ℕ) (others : List Token) → BeginAlike (map read rest) (map read others)
-    → (tree : Module) (after : Input) → whole_module (readers true (turns + more) (most_open + more)) (record { tokens = map read (front ++ others); last = 0 }) ≡ Took tree after → ⊥
+-- What the stop says of the token at which it stands: for the depth that more than 256 constructs are open there, in whatever module is
+-- read of tokens of a text that begin so, and otherwise that no module begins with the tokens up to it. A lexical fault is the one that
+-- stands there. At the end no module is spelled.
+abbrev pub IsStopAt : List Token → List Token → Stop → Type 0
+IsStopAt front rest stops.Endless = Unit {0}
+IsStopAt front [] stop = IsFinal stop → (tree : Module) → SpellsModule front tree → ⊥
+IsStopAt front (t ∷ ts) stops.Depth = TooManyOpen most_open (λ (tree : Module) tokens. open_constructs tokens tree) (λ room. whole_module (readers true turns room)) front t
+IsStopAt front (t ∷ ts) (stops.Lexical kind) = IsReported (front ++ t ∷ ts) (length front) t (stops.Lexical kind)
+IsStopAt front (t ∷ ts) stop = IsDead (front ++ t ∷ ts) (length front)
 
--- The grammar derives no module of tokens that begin so, in which every semicolon stands among the tokens (15.2).
-abbrev pub NoneIsDerived : List Token → List Token → Type 0
-NoneIsDerived front rest = (others : List Token) → BeginAlike (map read rest) (map read others) → (tree : Module) → IsModule (map read (front ++ others)) tree → ⊥
-
--- No tokens that begin so spell a module, if semicolons are missing among them only at breaks: where a line ends, before `}` and at
--- the end, before a token that goes on with nothing.
-abbrev pub NoneIsSpelled : List Token → List Token → Type 0
-NoneIsSpelled front rest = (others : List Token) → BeginAlike (map read rest) (map read others) → (tree : Module) → SpellsAtBreaks (front ++ others) tree → ⊥
-
--- The reader stops at the first token of the rest, or at the end of the text. What it reports is what stands there, and rests on no
--- later token: it stops there whatever follows. Where it doesn't report that too many constructs are open, these tokens begin no
--- module.
+-- The reader stops at the first token of the rest, or at the end of the text. Some module begins with the tokens before it, none of
+-- which is dead. What it reports is what stands there, and rests on no later token: it stops there whatever follows.
 pub record IsStopped (tokens : List Token) (stop : Stop) (at : ℕ) : Type 0 where
   pub front : List Token
   pub rest : List Token
   pub parts : tokens ≡ front ++ rest
   pub place : at ≡ place_of (map read tokens) (map read rest)
+  pub alive : IsAlive front
+  pub first : (p : ℕ) → p < length front → IsDead tokens p → ⊥
+  pub stops : IsStopAt front rest stop
   pub says : Says stop (map read rest)
   pub stays : (others : List Token) → BeginAlike (map read rest) (map read others) → read_module turns (map read (front ++ others)) ≡ Fault stop (map read others)
-  pub unread : IsFinal stop → NoneIsRead front rest
-  pub underived : IsFinal stop → NoneIsDerived front rest
-  pub unspelled : IsFinal stop → NoneIsSpelled front rest
 
 -- Memory that runs out says nothing.
 abbrev pub IsFault : List Token → ParseFault → Type 0
@@ -60,6 +53,13 @@ IsFault tokens (Lexical at kind) = IsStopped tokens (stops.Lexical kind) at
 IsFault tokens (Outside rule at) = IsStopped tokens (stops.Outside rule) at
 IsFault tokens (Depth at) = IsStopped tokens stops.Depth at
 IsFault tokens OutOfMemory = Unit {0}
+
+-- A module that the tokens spell is the one that is answered, unless too many constructs are open in it or memory runs out.
+abbrev pub Accepts : List Token → Result Module ParseFault → Type 0
+Accepts tokens (Ok tree) = (other : Module) → SpellsModule tokens other → other ≡ tree
+Accepts tokens (Err (Depth at)) = Unit {0}
+Accepts tokens (Err OutOfMemory) = Unit {0}
+Accepts tokens (Err fault) = (tree : Module) → SpellsModule tokens tree → ⊥
 
 -- the fault of what the model doesn't read
 pub data Refuses (tokens : List Token) (outcome : Outcome Module) (fault : ParseFault) : Type 0 where

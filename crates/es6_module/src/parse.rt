@@ -6,7 +6,7 @@ ghost use Rattle.es6_reading.specs.Modules.{read_module};
 ghost use Rattle.es6_cursor.specs.Nested.{nested_of};
 ghost use Rattle.es6_cursor.specs.Readers.{inner, turns};
 ghost use Rattle.es6_cursor.specs.Reads.{Reads};
-ghost use Rattle.es6_module.specs.Parsed.{Answers, IsFault, IsParsed};
+ghost use Rattle.es6_module.specs.Parsed.{Accepts, Answers, IsFault, IsParsed};
 
 use es6_ast::{Module, Statement};
 use es6_cursor::{Cursor, Flags, Halt, Nested, Stand};
@@ -25,7 +25,9 @@ const MOST_OPEN: u16 = 256;
 pub fn parse_module(alloc: Global, tokens: &[Token]) -> Result<Module, ParseFault>
     // The tokens spell the module.
     ensures parsed { IfOk result (λ tree. IsParsed tokens.now tree) }
-    // A fault stands at one of the tokens or at the end of the text, and says what stands there.
+    // It is the only one that they spell, and none is refused but for its depth or for want of memory.
+    ensures accepted { Accepts tokens.now result }
+    // A fault stands at the first token with which no module goes on, or where too many constructs are open.
     ensures fault { IfErr result (λ fault. IsFault tokens.now fault) }
     // What is read, and which fault it is, is what the laws of `es6_reading` speak of.
     ensures read { Answers tokens.now (read_module turns (map read tokens.now)) result }

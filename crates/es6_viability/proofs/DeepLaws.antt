@@ -29,7 +29,7 @@ use Rattle.es6_reading.proofs.Ordered.{Behind}
 use Rattle.es6_reading.proofs.Shallow.{opens_of, closes_of, Sorted}
 use Rattle.es6_reading.proofs.ShallowItems.{in_item}
 use Rattle.es6_reading.proofs.SpanCounts.{around, around-append, around-is, sum_of, in_expression, in_statement}
-use Rattle.es6_viability.specs.TooDeep.{AreOfText, IsDeepAt, open_in, ExpressionsAreTooDeep, StatementsAreTooDeep, ModulesAreTooDeep}
+use Rattle.es6_viability.specs.TooDeep.{AreOfText, open_in_reading, open_in_statement, ExpressionsAreTooDeep, StatementsAreTooDeep, ModulesAreTooDeep}
 use Rattle.es6_viability.proofs.BesideStatements.{no-slack}
 use Rattle.es6_viability.proofs.Deep.{Stands, start, further, Limit, Mode, still, gone, Spot, Claim, Bound, At, Ready, Held, held, stops, Runs, alike, went, alone}
 use Rattle.es6_viability.proofs.DeepExpressions as expressions'
@@ -161,6 +161,12 @@ never-stops e = absurd (cc)
 depth-rest : {A : Type 0} {vs ws : List Filled} → ◌≡◌ {A = Outcome A} (Fault Depth vs) (Fault Depth ws) → vs ≡ ws
 depth-rest e = cc
 
+-- Of two readers, of which the first one stops for depth at the token behind the front: whatever the second one reads of tokens of a
+-- text that begin with these, more than `room` constructs are open at that token.
+abbrev IsDeepAt : {A : Type 0} → ℕ → (A → List Token → ℕ) → Parser A → Parser A → Type 0
+IsDeepAt {A = A} room count p q = (front behind : List Token) (t : Token) → p (record { tokens = map read (front ++ t ∷ behind); last = 0 }) ≡ Fault Depth (map read (t ∷ behind))
+    → (others : List Token) → AreOfText (front ++ t ∷ others) → (x : A) (after : Input) → q (record { tokens = map read (front ++ t ∷ others); last = 0 }) ≡ Took x after → room < count x (front ++ t ∷ [])
+
 -- what holds where the first reader stopped
 pub record AtLimit {all : List Filled} {A : Type 0} (Q : A → Spot all → Type 0) (x : A) (us : List Filled) : Type 0 where
   pub limit : Limit all
@@ -225,15 +231,15 @@ module _ (fuel room more : ℕ) where
   same-readers : {A : Type 0} (p : Inner → Parser A) (c : Input) → p (readers true (plus fuel zero) (plus room zero)) c ≡ p (readers true fuel room) c
   same-readers p c = ap (λ n. p (readers true n (plus room zero)) c) (plus-zero fuel) ∙ ap (λ n. p (readers true fuel n) c) (plus-zero room)
 
-  expressions : (f : Flags) → IsDeepAt room (λ (x : Reading) tokens. open_in tokens (expression_spans x.value)) (sequence (readers true fuel room) f) (sequence (readers true fuel (plus room more)) f)
-  expressions f = deep-at (λ x tokens. open_in tokens (expression_spans x.value)) (λ x. in_expression x.value) (λ x tokens. ap (λ n. open_groups 0 tokens + n) (around-is (expression_spans x.value) (begin_of_last tokens))) room
+  expressions : (f : Flags) → IsDeepAt room open_in_reading (sequence (readers true fuel room) f) (sequence (readers true fuel (plus room more)) f)
+  expressions f = deep-at open_in_reading (λ x. in_expression x.value) (λ x tokens. ap (λ n. open_groups 0 tokens + n) (around-is (expression_spans x.value) (begin_of_last tokens))) room
       (sequence (readers true fuel room) f) (sequence (readers true (plus fuel zero) (plus room zero)) f) (sequence (readers true fuel (plus room more)) f)
       (λ c. same-readers (λ i. sequence i f) c) (λ s. x'.sequence (readers true fuel room) (readers true (plus fuel zero) (plus room zero)) (grown false true true fuel room zero same_mode) f s)
       (λ all. expressions'.ExpressionAt room (begin-of all)) (λ all w. levels'.sequence (readers true fuel room) (readers true fuel (plus room more)) room (deeper true fuel room more) f (begin-of all) (ready-of all room w))
       (λ all x l n c a. (c.last, a.0.claim))
 
-  statements : (f : Flags) (stand : Stand) → IsDeepAt room (λ (x : Statement) tokens. open_in tokens (statement_spans x)) (statement (readers true fuel room) f stand) (statement (readers true fuel (plus room more)) f stand)
-  statements f stand = deep-at (λ x tokens. open_in tokens (statement_spans x)) in_statement (λ x tokens. ap (λ n. open_groups 0 tokens + n) (around-is (statement_spans x) (begin_of_last tokens))) room
+  statements : (f : Flags) (stand : Stand) → IsDeepAt room open_in_statement (statement (readers true fuel room) f stand) (statement (readers true fuel (plus room more)) f stand)
+  statements f stand = deep-at open_in_statement in_statement (λ x tokens. ap (λ n. open_groups 0 tokens + n) (around-is (statement_spans x) (begin_of_last tokens))) room
       (statement (readers true fuel room) f stand) (statement (readers true (plus fuel zero) (plus room zero)) f stand) (statement (readers true fuel (plus room more)) f stand)
       (λ c. same-readers (λ i. statement i f stand) c) (λ s. m'.statement (readers true fuel room) (readers true (plus fuel zero) (plus room zero)) (grown false true true fuel room zero same_mode) f stand s)
       (λ all. statements'.StatementAt room (begin-of all)) (λ all w. statements'.statement (readers true fuel room) (readers true fuel (plus room more)) room (deeper true fuel room more) f stand (begin-of all) (ready-of all room w))
@@ -247,10 +253,10 @@ module _ (fuel room more : ℕ) where
       (λ all m l n c a. (a.0.input.last, subst (λ k. Claim room (begin-of all) 0 still k a.0.input.last (sum_of in_item m.items)) (sym a.1) a.2.claim))
 
 pub expressions-are-too-deep : ExpressionsAreTooDeep
-expressions-are-too-deep fuel room more f = subst (λ n. IsDeepAt room (λ (x : Reading) tokens. open_in tokens (expression_spans x.value)) (sequence (readers true fuel room) f) (sequence (readers true fuel n) f)) (plus-is room more) (expressions fuel room more f)
+expressions-are-too-deep fuel room f front behind t h more = subst (λ n. IsDeepAt room open_in_reading (sequence (readers true fuel room) f) (sequence (readers true fuel n) f)) (plus-is room more) (expressions fuel room more f) front behind t h
 
 pub statements-are-too-deep : StatementsAreTooDeep
-statements-are-too-deep fuel room more f stand = subst (λ n. IsDeepAt room (λ (x : Statement) tokens. open_in tokens (statement_spans x)) (statement (readers true fuel room) f stand) (statement (readers true fuel n) f stand)) (plus-is room more) (statements fuel room more f stand)
+statements-are-too-deep fuel room f stand front behind t h more = subst (λ n. IsDeepAt room open_in_statement (statement (readers true fuel room) f stand) (statement (readers true fuel n) f stand)) (plus-is room more) (statements fuel room more f stand) front behind t h
 
 pub modules-are-too-deep : ModulesAreTooDeep
-modules-are-too-deep fuel room more = subst (λ n. IsDeepAt room (λ (m : Module) tokens. open_constructs tokens m) (whole_module (readers true fuel room)) (whole_module (readers true fuel n))) (plus-is room more) (modules fuel room more)
+modules-are-too-deep fuel room front behind t h more = subst (λ n. IsDeepAt room (λ (m : Module) tokens. open_constructs tokens m) (whole_module (readers true fuel room)) (whole_module (readers true fuel n))) (plus-is room more) (modules fuel room more) front behind t h

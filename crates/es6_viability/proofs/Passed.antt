@@ -27,7 +27,7 @@ pub record Split (tokens : List Token) (rest : List Filled) : Type 0 where
 tail-of : {t u : Filled} {ts us : List Filled} → t ∷ ts ≡ u ∷ us → ts ≡ us
 tail-of e = cc
 
-split : (tokens : List Token) (front rest : List Filled) → map read tokens ≡ front ++ rest → Split tokens rest
+pub split : (tokens : List Token) (front rest : List Filled) → map read tokens ≡ front ++ rest → Split tokens rest
 split tokens [] rest e = record { front = []; behind = tokens; whole = refl; left_ = e }
 split [] (t ∷ front) rest e = absurd (cc)
 split (u ∷ tokens) (t ∷ front) rest e =
@@ -112,7 +112,7 @@ read-or-limited inside unique spelled none fuel tokens m spells = by (read_modul
 below-seam : (a b : ℕ) → a < a + suc b
 below-seam a b = omega arith
 
-seam : (front : List Token) (t : Token) (ts : List Token) → slice_get (front ++ t ∷ ts) (length front) ≡ Some t
+pub seam : (front : List Token) (t : Token) (ts : List Token) → slice_get (front ++ t ∷ ts) (length front) ≡ Some t
 seam front t ts = slice_get_read (front ++ t ∷ ts) (length (front ++ t ∷ ts)) (length front) t refl (subst (λ n. length front < n) (sym (length-both front (t ∷ ts))) (below-seam (length front) (length ts))) (sym (get_or-append_seam front t ts t))
 
 some-is : {x y : Token} → ◌≡◌ {A = Option Token} (Some x) (Some y) → x ≡ y

@@ -17,7 +17,7 @@ use Rattle.es6_reading.proofs.ShallowLevels as levels'
 use Rattle.es6_reading.proofs.ShallowStatements as statements'
 use Rattle.es6_reading.proofs.ShallowStatements.{StatementAt}
 use Rattle.es6_reading.proofs.SpanCounts.{around-is, in_expression, in_statement}
-use Rattle.es6_viability.specs.TooDeep.{IsShallowIn, open_in, ExpressionsAreShallow, StatementsAreShallow}
+use Rattle.es6_viability.specs.TooDeep.{IsShallowIn, open_in_reading, open_in_statement, ExpressionsAreShallow, StatementsAreShallow}
 use Rattle.es6_viability.proofs.DeepLaws.{begin-last, head-of, length-more, sorted, tail-of}
 
 module _ {room low high : ℕ} {D : ℕ → ℕ} where
@@ -63,9 +63,9 @@ module _ {A : Type 0} (count : A → List Token → ℕ) (D : A → ℕ → ℕ)
       length-read (t ∷ ts) = ap (λ n. suc n) (length-read ts)
 
 pub expressions-are-shallow : ExpressionsAreShallow
-expressions-are-shallow fuel room f = shallow-in (λ x tokens. open_in tokens (expression_spans x.value)) (λ x. in_expression x.value) (λ x tokens. ap (λ n. open_groups 0 tokens + n) (around-is (expression_spans x.value) (begin_of_last tokens))) room (sequence (readers true fuel room) f)
+expressions-are-shallow fuel room f = shallow-in open_in_reading (λ x. in_expression x.value) (λ x tokens. ap (λ n. open_groups 0 tokens + n) (around-is (expression_spans x.value) (begin_of_last tokens))) room (sequence (readers true fuel room) f)
     (λ tokens w. weaken (levels'.sequence (readers true fuel room) room (shallow true fuel room) f (begin-of tokens) (ready-of tokens room w)) (λ x c a. (0, c.last, 0, a.0.walk)))
 
 pub statements-are-shallow : StatementsAreShallow
-statements-are-shallow fuel room f stand = shallow-in (λ x tokens. open_in tokens (statement_spans x)) in_statement (λ x tokens. ap (λ n. open_groups 0 tokens + n) (around-is (statement_spans x) (begin_of_last tokens))) room (statement (readers true fuel room) f stand)
+statements-are-shallow fuel room f stand = shallow-in open_in_statement in_statement (λ x tokens. ap (λ n. open_groups 0 tokens + n) (around-is (statement_spans x) (begin_of_last tokens))) room (statement (readers true fuel room) f stand)
     (λ tokens w. weaken (statements'.statement (readers true fuel room) room (shallow true fuel room) f stand (begin-of tokens) (ready-of tokens room w)) (λ x c a. (0, c.last, 0, a.0.walk)))

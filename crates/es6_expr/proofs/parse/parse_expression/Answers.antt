@@ -1,104 +1,19 @@
-use Rattle.std.proofs.Common.{◌≡◌, ◌-◌, ◌≤◌, length, map, sym, ap, subst, ◌∙◌, arith, refl}
-use Rattle.es6_ast.specs.Tokens.{read}
-use Rattle.es6_ast.specs.Grammar.{level_sequence}
-use Rattle.es6_ast.specs.Semicolons.{SpellsExpression}
-use Rattle.es6_reading.specs.Expressions.{sequence}
-use Rattle.std.proofs.Common.{drop}
-use Rattle.es6_reading.specs.Parser.{Took, Fault}
-use Rattle.es6_cursor.specs.Readers.{inner}
-use Rattle.es6_expr.specs.Faults.{fault_of, place_of}
-use Rattle.es6_expr.specs.Parsed.{BeginsExpression, IsFaultIn, IsTheOnly, IsWithout, flags_in, input_at, took, stopped}
-use Rattle.es6_expr.proofs.LastToken.{to_the_end}
-use Rattle.es6_expr.proofs.Only.{expression-only, expression-without}
-use Rattle.es6_expr.proofs.Reached.{expression-stopped}
-use Rattle.es6_expr.proofs.Spelled.{expression-spelled}
+use Rattle.std.specs.Prelude.{◌-◌}
+use Rattle.es6_expr.specs.Parsed.{flags_in}
+use Rattle.es6_expr.proofs.Laws.{expression-faults, expression-only, expression-shallow, expression-spelled, expression-without}
 use Rattle.es6_expr.proofs.parse.parse_expression.Goals as goal
 
-pub returns-in-Ok-clause-read : goal.returns-in-Ok-clause-read
-returns-in-Ok-clause-read c =
-    let all = c.args.tokens.now in
-    let room = 256 - c.args.context.depth in
-    let flags = flags_in c.args.context in
-    let whole = to_the_end all c.args.from in
-    let start : c.new-cursor.result ≡ input_at all c.args.from = cc in
-    let e : sequence (inner room) flags (input_at all c.args.from) ≡ Took c.in-Ok.reading c.sequence.new.cursor =
-    ap (λ r. sequence (inner r) flags (input_at all c.args.from)) (sym c.room.ensures)
-    ∙ ap (λ f. sequence (inner c.room.result) f (input_at all c.args.from)) (sym c.flags.ensures)
-    ∙ ap (λ s. sequence (inner c.room.result) c.flags.result s) (sym start)
-    ∙ c.in-Ok.ensures in
-    let at : c.taken.result ≡ length all - length c.sequence.new.cursor.tokens = c.taken.ensures ∙ ap (λ l. length all - length l) c.rest.ensures in
-    took c.in-Ok.reading c.sequence.new.cursor e c.into_value.ensures at
+pub returns-clause-spelled : goal.returns-clause-spelled
+returns-clause-spelled c = expression-spelled (256 - c.args.context.depth) (flags_in c.args.context) c.args.tokens.now c.args.from _ c.read_expression.ensures
 
-pub returns-in-Ok-clause-spelled : goal.returns-in-Ok-clause-spelled
-returns-in-Ok-clause-spelled c =
-    let all = c.args.tokens.now in
-    let room = 256 - c.args.context.depth in
-    let flags = flags_in c.args.context in
-    let whole = to_the_end all c.args.from in
-    let start : c.new-cursor.result ≡ input_at all c.args.from = cc in
-    let e : sequence (inner room) flags (input_at all c.args.from) ≡ Took c.in-Ok.reading c.sequence.new.cursor =
-    ap (λ r. sequence (inner r) flags (input_at all c.args.from)) (sym c.room.ensures)
-    ∙ ap (λ f. sequence (inner c.room.result) f (input_at all c.args.from)) (sym c.flags.ensures)
-    ∙ ap (λ s. sequence (inner c.room.result) c.flags.result s) (sym start)
-    ∙ c.in-Ok.ensures in
-    let at : c.taken.result ≡ length all - length c.sequence.new.cursor.tokens = c.taken.ensures ∙ ap (λ l. length all - length l) c.rest.ensures in
-    (omega (arith, at), subst (λ x. SpellsExpression flags level_sequence (drop c.args.from all) x (drop c.taken.result all)) (sym c.into_value.ensures) (expression-spelled room flags all c.args.from c.taken.result c.in-Ok.reading c.sequence.new.cursor e at))
+pub returns-clause-shallow : goal.returns-clause-shallow
+returns-clause-shallow c = expression-shallow (256 - c.args.context.depth) (flags_in c.args.context) c.args.tokens.now c.args.from _ c.read_expression.ensures
 
-pub returns-in-Err-Stopped-clause-read : goal.returns-in-Err-Stopped-clause-read
-returns-in-Err-Stopped-clause-read c =
-    let all = c.args.tokens.now in
-    let room = 256 - c.args.context.depth in
-    let flags = flags_in c.args.context in
-    let whole = to_the_end all c.args.from in
-    let start : c.new-cursor.result ≡ input_at all c.args.from = cc in
-    let e : sequence (inner room) flags (input_at all c.args.from) ≡ Fault (c.in-Err-Stopped.stop) c.sequence.new.cursor.tokens =
-    ap (λ r. sequence (inner r) flags (input_at all c.args.from)) (sym c.room.ensures)
-    ∙ ap (λ f. sequence (inner c.room.result) f (input_at all c.args.from)) (sym c.flags.ensures)
-    ∙ ap (λ s. sequence (inner c.room.result) c.flags.result s) (sym start)
-    ∙ (rw c.in-Err-Stopped.field-0-is at c.in-Err-Stopped.ensures) in
-    let place : c.place_of.result ≡ place_of (map read all) c.sequence.new.cursor.tokens = c.place_of.ensures ∙ ap (λ l. place_of (map read all) l) c.rest-in-Err-Stopped.ensures in
-    stopped (c.in-Err-Stopped.stop) c.sequence.new.cursor.tokens e (c.fault_of.ensures ∙ ap (λ at. fault_of (c.in-Err-Stopped.stop) at) place)
+pub returns-clause-only : goal.returns-clause-only
+returns-clause-only c = expression-only (256 - c.args.context.depth) (flags_in c.args.context) c.args.tokens.now c.args.from _ c.read_expression.ensures
 
-pub returns-in-Err-Stopped-clause-fault : goal.returns-in-Err-Stopped-clause-fault
-returns-in-Err-Stopped-clause-fault c =
-    let all = c.args.tokens.now in
-    let room = 256 - c.args.context.depth in
-    let flags = flags_in c.args.context in
-    let whole = to_the_end all c.args.from in
-    let start : c.new-cursor.result ≡ input_at all c.args.from = cc in
-    let e : sequence (inner room) flags (input_at all c.args.from) ≡ Fault (c.in-Err-Stopped.stop) c.sequence.new.cursor.tokens =
-    ap (λ r. sequence (inner r) flags (input_at all c.args.from)) (sym c.room.ensures)
-    ∙ ap (λ f. sequence (inner c.room.result) f (input_at all c.args.from)) (sym c.flags.ensures)
-    ∙ ap (λ s. sequence (inner c.room.result) c.flags.result s) (sym start)
-    ∙ (rw c.in-Err-Stopped.field-0-is at c.in-Err-Stopped.ensures) in
-    let place : c.place_of.result ≡ place_of (map read all) c.sequence.new.cursor.tokens = c.place_of.ensures ∙ ap (λ l. place_of (map read all) l) c.rest-in-Err-Stopped.ensures in
-    subst (IsFaultIn all c.args.from) (sym c.fault_of.ensures) (expression-stopped room flags all c.args.from c.place_of.result (c.in-Err-Stopped.stop) c.sequence.new.cursor.tokens e place)
+pub returns-clause-fault : goal.returns-clause-fault
+returns-clause-fault c = expression-faults (256 - c.args.context.depth) (flags_in c.args.context) c.args.tokens.now c.args.from _ c.read_expression.ensures
 
-pub returns-in-Ok-clause-only : goal.returns-in-Ok-clause-only
-returns-in-Ok-clause-only c =
-    let all = c.args.tokens.now in
-    let room = 256 - c.args.context.depth in
-    let flags = flags_in c.args.context in
-    let whole = to_the_end all c.args.from in
-    let start : c.new-cursor.result ≡ input_at all c.args.from = cc in
-    let e : sequence (inner room) flags (input_at all c.args.from) ≡ Took c.in-Ok.reading c.sequence.new.cursor =
-    ap (λ r. sequence (inner r) flags (input_at all c.args.from)) (sym c.room.ensures)
-    ∙ ap (λ f. sequence (inner c.room.result) f (input_at all c.args.from)) (sym c.flags.ensures)
-    ∙ ap (λ s. sequence (inner c.room.result) c.flags.result s) (sym start)
-    ∙ c.in-Ok.ensures in
-    let at : c.taken.result ≡ length all - length c.sequence.new.cursor.tokens = c.taken.ensures ∙ ap (λ l. length all - length l) c.rest.ensures in
-    subst (λ x. IsTheOnly (BeginsExpression flags (drop c.args.from all)) all (x, c.taken.result)) (sym c.into_value.ensures) (expression-only room flags all c.args.from c.taken.result c.in-Ok.reading c.sequence.new.cursor e at)
-
-pub returns-in-Err-Stopped-clause-without : goal.returns-in-Err-Stopped-clause-without
-returns-in-Err-Stopped-clause-without c =
-    let all = c.args.tokens.now in
-    let room = 256 - c.args.context.depth in
-    let flags = flags_in c.args.context in
-    let whole = to_the_end all c.args.from in
-    let start : c.new-cursor.result ≡ input_at all c.args.from = cc in
-    let e : sequence (inner room) flags (input_at all c.args.from) ≡ Fault (c.in-Err-Stopped.stop) c.sequence.new.cursor.tokens =
-    ap (λ r. sequence (inner r) flags (input_at all c.args.from)) (sym c.room.ensures)
-    ∙ ap (λ f. sequence (inner c.room.result) f (input_at all c.args.from)) (sym c.flags.ensures)
-    ∙ ap (λ s. sequence (inner c.room.result) c.flags.result s) (sym start)
-    ∙ (rw c.in-Err-Stopped.field-0-is at c.in-Err-Stopped.ensures) in
-    subst (IsWithout (BeginsExpression flags (drop c.args.from all))) (sym c.fault_of.ensures) (expression-without room flags all c.args.from c.place_of.result (c.in-Err-Stopped.stop) c.sequence.new.cursor.tokens e)
+pub returns-clause-without : goal.returns-clause-without
+returns-clause-without c = expression-without (256 - c.args.context.depth) (flags_in c.args.context) c.args.tokens.now c.args.from _ c.read_expression.ensures

@@ -1,102 +1,19 @@
-use Rattle.std.proofs.Common.{◌≡◌, ◌-◌, ◌≤◌, drop, length, map, sym, ap, subst, ◌∙◌, arith, refl}
-use Rattle.es6_ast.specs.declared.settings.Stand.TheVariants.{Listed}
-use Rattle.es6_ast.specs.Tokens.{read}
-use Rattle.es6_reading.specs.Statements.{statement}
-use Rattle.es6_reading.specs.Parser.{Took, Fault}
-use Rattle.es6_cursor.specs.Readers.{inner}
-use Rattle.es6_expr.specs.Faults.{fault_of, place_of}
-use Rattle.es6_expr.specs.Parsed.{BeginsStatement, IsFaultIn, IsWithout, flags_in, input_at, took, stopped}
-use Rattle.es6_expr.proofs.LastToken.{to_the_end}
-use Rattle.es6_expr.proofs.Only.{statement-only, statement-without}
-use Rattle.es6_expr.proofs.Reached.{statement-stopped}
-use Rattle.es6_expr.proofs.Spelled.{statement-spelled}
+use Rattle.std.specs.Prelude.{◌-◌}
+use Rattle.es6_expr.specs.Parsed.{flags_in}
+use Rattle.es6_expr.proofs.Laws.{statement-faults, statement-only, statement-shallow, statement-spelled, statement-without}
 use Rattle.es6_expr.proofs.parse.parse_statement.Goals as goal
 
-pub returns-in-Ok-clause-read : goal.returns-in-Ok-clause-read
-returns-in-Ok-clause-read c =
-    let all = c.args.tokens.now in
-    let room = 256 - c.args.context.depth in
-    let flags = flags_in c.args.context in
-    let whole = to_the_end all c.args.from in
-    let start : c.new-cursor.result ≡ input_at all c.args.from = cc in
-    let e : statement (inner room) flags Listed (input_at all c.args.from) ≡ Took c.in-Ok.statement c.statement.new.cursor =
-    ap (λ r. statement (inner r) flags Listed (input_at all c.args.from)) (sym c.room.ensures)
-    ∙ ap (λ f. statement (inner c.room.result) f Listed (input_at all c.args.from)) (sym c.flags.ensures)
-    ∙ ap (λ s. statement (inner c.room.result) c.flags.result Listed s) (sym start)
-    ∙ c.in-Ok.ensures in
-    let at : c.taken.result ≡ length all - length c.statement.new.cursor.tokens = c.taken.ensures ∙ ap (λ l. length all - length l) c.rest.ensures in
-    took c.in-Ok.statement c.statement.new.cursor e refl at
+pub returns-clause-spelled : goal.returns-clause-spelled
+returns-clause-spelled c = statement-spelled (256 - c.args.context.depth) (flags_in c.args.context) c.args.tokens.now c.args.from _ c.read_statement.ensures
 
-pub returns-in-Ok-clause-spelled : goal.returns-in-Ok-clause-spelled
-returns-in-Ok-clause-spelled c =
-    let all = c.args.tokens.now in
-    let room = 256 - c.args.context.depth in
-    let flags = flags_in c.args.context in
-    let whole = to_the_end all c.args.from in
-    let start : c.new-cursor.result ≡ input_at all c.args.from = cc in
-    let e : statement (inner room) flags Listed (input_at all c.args.from) ≡ Took c.in-Ok.statement c.statement.new.cursor =
-    ap (λ r. statement (inner r) flags Listed (input_at all c.args.from)) (sym c.room.ensures)
-    ∙ ap (λ f. statement (inner c.room.result) f Listed (input_at all c.args.from)) (sym c.flags.ensures)
-    ∙ ap (λ s. statement (inner c.room.result) c.flags.result Listed s) (sym start)
-    ∙ c.in-Ok.ensures in
-    let at : c.taken.result ≡ length all - length c.statement.new.cursor.tokens = c.taken.ensures ∙ ap (λ l. length all - length l) c.rest.ensures in
-    (omega (arith, at), statement-spelled room flags all c.args.from c.taken.result c.in-Ok.statement c.statement.new.cursor e at)
+pub returns-clause-shallow : goal.returns-clause-shallow
+returns-clause-shallow c = statement-shallow (256 - c.args.context.depth) (flags_in c.args.context) c.args.tokens.now c.args.from _ c.read_statement.ensures
 
-pub returns-in-Err-Stopped-clause-read : goal.returns-in-Err-Stopped-clause-read
-returns-in-Err-Stopped-clause-read c =
-    let all = c.args.tokens.now in
-    let room = 256 - c.args.context.depth in
-    let flags = flags_in c.args.context in
-    let whole = to_the_end all c.args.from in
-    let start : c.new-cursor.result ≡ input_at all c.args.from = cc in
-    let e : statement (inner room) flags Listed (input_at all c.args.from) ≡ Fault (c.in-Err-Stopped.stop) c.statement.new.cursor.tokens =
-    ap (λ r. statement (inner r) flags Listed (input_at all c.args.from)) (sym c.room.ensures)
-    ∙ ap (λ f. statement (inner c.room.result) f Listed (input_at all c.args.from)) (sym c.flags.ensures)
-    ∙ ap (λ s. statement (inner c.room.result) c.flags.result Listed s) (sym start)
-    ∙ (rw c.in-Err-Stopped.field-0-is at c.in-Err-Stopped.ensures) in
-    let place : c.place_of.result ≡ place_of (map read all) c.statement.new.cursor.tokens = c.place_of.ensures ∙ ap (λ l. place_of (map read all) l) c.rest-in-Err-Stopped.ensures in
-    stopped (c.in-Err-Stopped.stop) c.statement.new.cursor.tokens e (c.fault_of.ensures ∙ ap (λ at. fault_of (c.in-Err-Stopped.stop) at) place)
+pub returns-clause-only : goal.returns-clause-only
+returns-clause-only c = statement-only (256 - c.args.context.depth) (flags_in c.args.context) c.args.tokens.now c.args.from _ c.read_statement.ensures
 
-pub returns-in-Err-Stopped-clause-fault : goal.returns-in-Err-Stopped-clause-fault
-returns-in-Err-Stopped-clause-fault c =
-    let all = c.args.tokens.now in
-    let room = 256 - c.args.context.depth in
-    let flags = flags_in c.args.context in
-    let whole = to_the_end all c.args.from in
-    let start : c.new-cursor.result ≡ input_at all c.args.from = cc in
-    let e : statement (inner room) flags Listed (input_at all c.args.from) ≡ Fault (c.in-Err-Stopped.stop) c.statement.new.cursor.tokens =
-    ap (λ r. statement (inner r) flags Listed (input_at all c.args.from)) (sym c.room.ensures)
-    ∙ ap (λ f. statement (inner c.room.result) f Listed (input_at all c.args.from)) (sym c.flags.ensures)
-    ∙ ap (λ s. statement (inner c.room.result) c.flags.result Listed s) (sym start)
-    ∙ (rw c.in-Err-Stopped.field-0-is at c.in-Err-Stopped.ensures) in
-    let place : c.place_of.result ≡ place_of (map read all) c.statement.new.cursor.tokens = c.place_of.ensures ∙ ap (λ l. place_of (map read all) l) c.rest-in-Err-Stopped.ensures in
-    subst (IsFaultIn all c.args.from) (sym c.fault_of.ensures) (statement-stopped room flags all c.args.from c.place_of.result (c.in-Err-Stopped.stop) c.statement.new.cursor.tokens e place)
+pub returns-clause-fault : goal.returns-clause-fault
+returns-clause-fault c = statement-faults (256 - c.args.context.depth) (flags_in c.args.context) c.args.tokens.now c.args.from _ c.read_statement.ensures
 
-pub returns-in-Ok-clause-only : goal.returns-in-Ok-clause-only
-returns-in-Ok-clause-only c =
-    let all = c.args.tokens.now in
-    let room = 256 - c.args.context.depth in
-    let flags = flags_in c.args.context in
-    let whole = to_the_end all c.args.from in
-    let start : c.new-cursor.result ≡ input_at all c.args.from = cc in
-    let e : statement (inner room) flags Listed (input_at all c.args.from) ≡ Took c.in-Ok.statement c.statement.new.cursor =
-    ap (λ r. statement (inner r) flags Listed (input_at all c.args.from)) (sym c.room.ensures)
-    ∙ ap (λ f. statement (inner c.room.result) f Listed (input_at all c.args.from)) (sym c.flags.ensures)
-    ∙ ap (λ s. statement (inner c.room.result) c.flags.result Listed s) (sym start)
-    ∙ c.in-Ok.ensures in
-    let at : c.taken.result ≡ length all - length c.statement.new.cursor.tokens = c.taken.ensures ∙ ap (λ l. length all - length l) c.rest.ensures in
-    statement-only room flags all c.args.from c.taken.result c.in-Ok.statement c.statement.new.cursor e at
-
-pub returns-in-Err-Stopped-clause-without : goal.returns-in-Err-Stopped-clause-without
-returns-in-Err-Stopped-clause-without c =
-    let all = c.args.tokens.now in
-    let room = 256 - c.args.context.depth in
-    let flags = flags_in c.args.context in
-    let whole = to_the_end all c.args.from in
-    let start : c.new-cursor.result ≡ input_at all c.args.from = cc in
-    let e : statement (inner room) flags Listed (input_at all c.args.from) ≡ Fault (c.in-Err-Stopped.stop) c.statement.new.cursor.tokens =
-    ap (λ r. statement (inner r) flags Listed (input_at all c.args.from)) (sym c.room.ensures)
-    ∙ ap (λ f. statement (inner c.room.result) f Listed (input_at all c.args.from)) (sym c.flags.ensures)
-    ∙ ap (λ s. statement (inner c.room.result) c.flags.result Listed s) (sym start)
-    ∙ (rw c.in-Err-Stopped.field-0-is at c.in-Err-Stopped.ensures) in
-    subst (IsWithout (BeginsStatement flags (drop c.args.from all))) (sym c.fault_of.ensures) (statement-without room flags all c.args.from c.place_of.result (c.in-Err-Stopped.stop) c.statement.new.cursor.tokens e)
+pub returns-clause-without : goal.returns-clause-without
+returns-clause-without c = statement-without (256 - c.args.context.depth) (flags_in c.args.context) c.args.tokens.now c.args.from _ c.read_statement.ensures
