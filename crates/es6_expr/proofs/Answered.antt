@@ -21,11 +21,11 @@ use Rattle.es6_expr.specs.Parsed.{Answers, Gives, Refuses, IsDeepThere, IsFaultI
 -- ## What is taken
 
 -- The tokens behind what is read are those from the number on that is answered.
-rest-at : (all front rest : List Token) (from at : ℕ) → drop from all ≡ front ++ rest → at ≡ length all - length rest → drop at all ≡ rest
-rest-at all front rest from at e h =
-    let parts : all ≡ (take from all ++ front) ++ rest = sym (take-append-drop from all) ∙ ap (λ l. take from all ++ l) e ∙ sym (append_assoc (take from all) front rest) in
-    let n : at ≡ length (take from all ++ front) = omega (arith, ap length parts, length-append (take from all ++ front) rest, h) in
-    ap (λ k. drop k all) n ∙ ap (λ l. drop (length (take from all ++ front)) l) parts ∙ drop-append_seam (take from all ++ front) rest
+rest-at : (whole front rest : List Token) (from at : ℕ) → drop from whole ≡ front ++ rest → at ≡ length whole - length rest → drop at whole ≡ rest
+rest-at whole front rest from at e h =
+    let parts : whole ≡ (take from whole ++ front) ++ rest = sym (take-append-drop from whole) ∙ ap (λ l. take from whole ++ l) e ∙ sym (append_assoc (take from whole) front rest) in
+    let n : at ≡ length (take from whole ++ front) = omega (arith, ap length parts, length-append (take from whole ++ front) rest, h) in
+    ap (λ k. drop k whole) n ∙ ap (λ l. drop (length (take from whole ++ front)) l) parts ∙ drop-append_seam (take from whole ++ front) rest
 
 within : (n k at : ℕ) → at ≡ n - k → at ≤ n
 within n k at e = omega arith
@@ -118,12 +118,11 @@ parts-of (less {t = t} h) = let f = parts-of h in (t ∷ f.0, ap (λ vs. t ∷ v
 of-fault : {A : Type 0} {ts us : List Filled} {stop : Stop} → Leaves {A = A} ts (Fault stop us) → Says stop us × Rest ts us
 of-fault (fault_rest k r) = (k, r)
 
-module _ {A B : Type 0} (made : A → B) (Begins : List Token → Type 0) (Deep : List Token → Token → Type 0) (p : Parser A) (leaves : (s : Input) → Leaves s.tokens (p s))
+module _ {A B : Type 0} (made : A → B) (Begins : List Token → Type 0) (Deep : List Token → List Token → Type 0) (p : Parser A) (leaves : (s : Input) → Leaves s.tokens (p s))
     (begins : (front behind : List Token) (stop : Stop) → p (record { tokens = map read (front ++ behind); last = 0 }) ≡ Fault stop (map read behind) → (stop ≡ stops.Endless → ⊥) → Begins front)
-    (deep : (front behind : List Token) (t : Token) → p (record { tokens = map read (front ++ t ∷ behind); last = 0 }) ≡ Fault stops.Depth (map read (t ∷ behind)) → Deep front t) (tokens : List Token) (from : ℕ) where
+    (deep : (front rest : List Token) → p (record { tokens = map read (front ++ rest); last = 0 }) ≡ Fault stops.Depth (map read rest) → Deep front rest) (tokens : List Token) (from : ℕ) where
   deep-there : (front rest : List Token) (stop : Stop) → p (record { tokens = map read (front ++ rest); last = 0 }) ≡ Fault stop (map read rest) → IsDeepThere Deep stop front rest
-  deep-there front (t ∷ ts) stops.Depth e = deep front ts t e
-  deep-there front [] stops.Depth e = tt
+  deep-there front rest stops.Depth e = deep front rest e
   deep-there front rest stops.Syntax e = tt
   deep-there front rest (stops.Lexical kind) e = tt
   deep-there front rest (stops.Outside rule) e = tt

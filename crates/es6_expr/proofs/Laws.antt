@@ -15,15 +15,16 @@ use Rattle.es6_reading.specs.Modules.{readers}
 use Rattle.es6_reading.proofs.Places.{Leaves}
 use Rattle.es6_reading.proofs.PlacesOfModules.{placed}
 use Rattle.es6_viability.specs.Alive.{BeginsExpression, BeginsStatement}
-use Rattle.es6_viability.specs.TooDeep.{TooManyOpen, open_in_expression, open_in_reading, open_in_statement}
+use Rattle.es6_viability.specs.Fronts.{BeginWithExpression, BeginWithStatement, IsExpressionBefore, IsStatementBefore}
+use Rattle.es6_viability.specs.TooDeep.{TooManyOpen, open_in_expression, open_in_statement}
 use Rattle.es6_viability.proofs.AliveAlone.{expressions-begin, statements-begin}
-use Rattle.es6_viability.proofs.DeepLaws.{expressions-are-too-deep, statements-are-too-deep}
+use Rattle.es6_viability.proofs.TooDeep.{expressions-are-too-deep, statements-are-too-deep}
 use Rattle.es6_viability.proofs.Fronts.{spelled-expressions, spelled-statements}
 use Rattle.es6_viability.proofs.ShallowLaws.{expressions-are-shallow, statements-are-shallow}
 use Rattle.es6_viability.proofs.SpelledAlone.{expression-spelled as expression-spelled-by, statement-spelled as statement-spelled-by}
 use Rattle.es6_cursor.specs.Readers.{inner, turns}
 use Rattle.es6_expr.specs.declared.fault.ParseFault.{ParseFault}
-use Rattle.es6_expr.specs.Parsed.{Answers, IsExpressionBefore, IsExpressionFault, IsExpressionIn, IsShallow, IsStatementBefore, IsStatementFault, IsStatementIn, IsTheOnly, IsWithout, input_at}
+use Rattle.es6_expr.specs.Parsed.{Answers, IsExpressionFault, IsExpressionIn, IsShallow, IsStatementFault, IsStatementIn, IsTheOnly, IsWithout, input_at}
 use Rattle.es6_expr.proofs.Answered.{faults-in, only-in, shallow-in, spelled-in, without-in}
 
 -- ## Expressions
@@ -38,17 +39,17 @@ pub expression-shallow : (room : ℕ) (f : Flags) (tokens : List Token) (from : 
 expression-shallow room f tokens from = shallow-in (λ (r : Reading). r.value) tokens from (sequence (inner room) f) room open_in_expression (expressions-are-shallow turns room f)
 
 pub expression-only : (room : ℕ) (f : Flags) (tokens : List Token) (from : ℕ) (r : Result (Expression × ℕ) ParseFault) → ExpressionAnswer room f tokens from r → IfOk r (IsTheOnly (IsExpressionBefore f (drop from tokens)) tokens)
-expression-only room f tokens from = only-in (λ (r : Reading). r.value) tokens from (sequence (inner room) f) (IsExpressionBefore f (drop from tokens)) (λ x rest b. spelled-expressions turns room f (drop from tokens) rest x b.0 b.1)
+expression-only room f tokens from = only-in (λ (r : Reading). r.value) tokens from (sequence (inner room) f) (IsExpressionBefore f (drop from tokens)) (λ x rest b. spelled-expressions turns room f (drop from tokens) rest x b)
 
 pub expression-without : (room : ℕ) (f : Flags) (tokens : List Token) (from : ℕ) (r : Result (Expression × ℕ) ParseFault) → ExpressionAnswer room f tokens from r → IfErr r (IsWithout (IsExpressionBefore f (drop from tokens)))
-expression-without room f tokens from = without-in (λ (r : Reading). r.value) tokens from (sequence (inner room) f) (IsExpressionBefore f (drop from tokens)) (λ x rest b. spelled-expressions turns room f (drop from tokens) rest x b.0 b.1)
+expression-without room f tokens from = without-in (λ (r : Reading). r.value) tokens from (sequence (inner room) f) (IsExpressionBefore f (drop from tokens)) (λ x rest b. spelled-expressions turns room f (drop from tokens) rest x b)
 
 sequence-leaves : (room : ℕ) (f : Flags) (s : Input) → Leaves s.tokens (sequence (inner room) f s)
 unfolding readers
 sequence-leaves room f s = (placed true turns (suc room)).sequence f s
 
 pub expression-faults : (room : ℕ) (f : Flags) (tokens : List Token) (from : ℕ) (r : Result (Expression × ℕ) ParseFault) → ExpressionAnswer room f tokens from r → IfErr r (IsExpressionFault room f tokens from)
-expression-faults room f tokens from = faults-in (λ (r : Reading). r.value) (BeginsExpression f) (TooManyOpen room open_in_reading (λ n. sequence (inner n) f)) (sequence (inner room) f) (sequence-leaves room f)
+expression-faults room f tokens from = faults-in (λ (r : Reading). r.value) (BeginsExpression f) (TooManyOpen room open_in_expression (BeginWithExpression f)) (sequence (inner room) f) (sequence-leaves room f)
     (expressions-begin turns room f) (expressions-are-too-deep turns room f) tokens from
 
 -- ## Statements
@@ -63,15 +64,15 @@ pub statement-shallow : (room : ℕ) (f : Flags) (tokens : List Token) (from : �
 statement-shallow room f tokens from = shallow-in (λ (s : Statement). s) tokens from (statement (inner room) f Listed) room open_in_statement (statements-are-shallow turns room f Listed)
 
 pub statement-only : (room : ℕ) (f : Flags) (tokens : List Token) (from : ℕ) (r : Result (Statement × ℕ) ParseFault) → StatementAnswer room f tokens from r → IfOk r (IsTheOnly (IsStatementBefore f (drop from tokens)) tokens)
-statement-only room f tokens from = only-in (λ (s : Statement). s) tokens from (statement (inner room) f Listed) (IsStatementBefore f (drop from tokens)) (λ x rest b. spelled-statements turns room f (drop from tokens) rest x b.0 b.1)
+statement-only room f tokens from = only-in (λ (s : Statement). s) tokens from (statement (inner room) f Listed) (IsStatementBefore f (drop from tokens)) (λ x rest b. spelled-statements turns room f (drop from tokens) rest x b)
 
 pub statement-without : (room : ℕ) (f : Flags) (tokens : List Token) (from : ℕ) (r : Result (Statement × ℕ) ParseFault) → StatementAnswer room f tokens from r → IfErr r (IsWithout (IsStatementBefore f (drop from tokens)))
-statement-without room f tokens from = without-in (λ (s : Statement). s) tokens from (statement (inner room) f Listed) (IsStatementBefore f (drop from tokens)) (λ x rest b. spelled-statements turns room f (drop from tokens) rest x b.0 b.1)
+statement-without room f tokens from = without-in (λ (s : Statement). s) tokens from (statement (inner room) f Listed) (IsStatementBefore f (drop from tokens)) (λ x rest b. spelled-statements turns room f (drop from tokens) rest x b)
 
 statement-leaves : (room : ℕ) (f : Flags) (s : Input) → Leaves s.tokens (statement (inner room) f Listed s)
 unfolding readers
 statement-leaves room f s = (placed true turns (suc room)).statement f Listed s
 
 pub statement-faults : (room : ℕ) (f : Flags) (tokens : List Token) (from : ℕ) (r : Result (Statement × ℕ) ParseFault) → StatementAnswer room f tokens from r → IfErr r (IsStatementFault room f tokens from)
-statement-faults room f tokens from = faults-in (λ (s : Statement). s) (BeginsStatement f) (TooManyOpen room open_in_statement (λ n. statement (inner n) f Listed)) (statement (inner room) f Listed) (statement-leaves room f)
-    (statements-begin turns room f) (statements-are-too-deep turns room f Listed) tokens from
+statement-faults room f tokens from = faults-in (λ (s : Statement). s) (BeginsStatement f) (TooManyOpen room open_in_statement (BeginWithStatement f)) (statement (inner room) f Listed) (statement-leaves room f)
+    (statements-begin turns room f) (statements-are-too-deep turns room f) tokens from

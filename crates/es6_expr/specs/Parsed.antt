@@ -1,24 +1,19 @@
 -- What is answered for tokens, by what the model reads of them.
-use Rattle.std.specs.Prelude.{◌≡◌, ℕ, ◌+◌, ◌-◌, ◌<◌, ◌≤◌, not, List, [], ◌∷◌, ◌++◌, drop, length, map, codes, Result, Ok, Err}
+use Rattle.std.specs.Prelude.{◌≡◌, ℕ, ◌+◌, ◌-◌, ◌<◌, ◌≤◌, not, List, [], ◌∷◌, ◌++◌, drop, length, map, Result, Ok, Err}
 use Rattle.es6_lexer.specs.declared.token.Token.{Token}
-use Rattle.es6_lexer.specs.declared.token.TokenKind.TheVariants.{Word}
 use Rattle.es6_ast.specs.declared.tree.Expression.{Expression}
 use Rattle.es6_ast.specs.declared.tree.Statement.{Statement}
 use Rattle.es6_ast.specs.declared.settings.Flags.{Flags}
-use Rattle.es6_ast.specs.declared.settings.Stand.TheVariants.{Listed}
 use Rattle.es6_ast.specs.declared.settings.Stop.{Stop}
 use Rattle.es6_ast.specs.declared.settings.Stop.TheVariants as stops
-use Rattle.es6_ast.specs.Tokens.{Filled, Read, read}
+use Rattle.es6_ast.specs.Tokens.{Filled, read}
 use Rattle.es6_ast.specs.Grammar.{level_sequence}
 use Rattle.es6_ast.specs.Semicolons.{SpellsExpression, SpellsStatement}
-use Rattle.es6_reading.specs.Expressions.{sequence}
 use Rattle.es6_reading.specs.Parser.{Input, Outcome, Took, Fault}
-use Rattle.es6_reading.specs.Laws.{BeginWith, Says}
-use Rattle.es6_reading.specs.Statements.{statement}
-use Rattle.es6_reading_laws.specs.Fronts.{EndsThere}
+use Rattle.es6_reading.specs.Laws.{Says}
 use Rattle.es6_viability.specs.Alive.{BeginsExpression, BeginsStatement}
-use Rattle.es6_viability.specs.TooDeep.{AreOfText, TooManyOpen, open_in_reading, open_in_statement}
-use Rattle.es6_cursor.specs.Readers.{inner}
+use Rattle.es6_viability.specs.Fronts.{BeginWithExpression, BeginWithStatement}
+use Rattle.es6_viability.specs.TooDeep.{AreOfText, TooManyOpen, open_in_expression, open_in_statement}
 use Rattle.es6_expr.specs.declared.fault.ParseFault.{ParseFault}
 use Rattle.es6_expr.specs.declared.fault.ParseFault.TheVariants.{Syntax, Lexical, Outside, Depth, OutOfMemory}
 use Rattle.es6_expr.specs.declared.parse.Context.{Context}
@@ -55,14 +50,6 @@ IsStatementIn f tokens from r = (r.1 ≤ length tokens) × SpellsStatement f (dr
 abbrev pub IsShallow : {A : Type 0} → ℕ → (A → List Token → ℕ) → List Token → ℕ → A × ℕ → Type 0
 IsShallow room count tokens from r = AreOfText (drop from tokens) → (front behind : List Token) (t : Token) → drop from tokens ≡ front ++ t ∷ behind → from + length front < r.1 → count r.0 (front ++ t ∷ []) ≤ room
 
--- The tokens before the rest spell the expression, or the statement or declaration, by the standard's rule for semicolons (11.9), and
--- with the rest no expression goes on, and no `try`.
-abbrev pub IsExpressionBefore : Flags → List Token → Expression → List Token → Type 0
-IsExpressionBefore f tokens x rest = SpellsExpression f level_sequence tokens x rest × EndsThere (map read rest)
-
-abbrev pub IsStatementBefore : Flags → List Token → Statement → List Token → Type 0
-IsStatementBefore f tokens s rest = SpellsStatement f tokens s rest × (BeginWith (Read (Word (codes "finally"))) (map read rest) → ⊥)
-
 -- That one alone is answered, with the number of the token behind it: neither a shorter front of the tokens nor a longer one.
 abbrev pub IsTheOnly : {A : Type 0} → (A → List Token → Type 0) → List Token → A × ℕ → Type 0
 IsTheOnly {A = A} Begins tokens r = (x : A) (rest : List Token) → Begins x rest → (r.0 ≡ x) × (r.1 ≡ length tokens - length rest)
@@ -73,14 +60,14 @@ IsWithout Begins (Depth at) = Unit {0}
 IsWithout Begins OutOfMemory = Unit {0}
 IsWithout {A = A} Begins _ = (x : A) (rest : List Token) → Begins x rest → ⊥
 
--- A stop for the depth stands only where it is so with the tokens up to the one at which it stands.
-abbrev pub IsDeepThere : (List Token → Token → Type 0) → Stop → List Token → List Token → Type 0
-IsDeepThere Deep stops.Depth front (t ∷ ts) = Deep front t
+-- what is said of a stop for the depth
+abbrev pub IsDeepThere : (List Token → List Token → Type 0) → Stop → List Token → List Token → Type 0
+IsDeepThere Deep stops.Depth front rest = Deep front rest
 IsDeepThere Deep stop front rest = Unit {0}
 
 -- The place is the begin of a token from the number on, or the end of all. Something begins with the tokens up to there, and what is
 -- said of those from there on is so.
-pub record Stands (Begins : List Token → Type 0) (Deep : List Token → Token → Type 0) (tokens : List Token) (from : ℕ) (stop : Stop) (at : ℕ) : Type 0 where
+pub record Stands (Begins : List Token → Type 0) (Deep : List Token → List Token → Type 0) (tokens : List Token) (from : ℕ) (stop : Stop) (at : ℕ) : Type 0 where
   pub front : List Token
   pub rest : List Token
   pub parts : drop from tokens ≡ front ++ rest
@@ -89,17 +76,18 @@ pub record Stands (Begins : List Token → Type 0) (Deep : List Token → Token 
   pub deep : IsDeepThere Deep stop front rest
   pub says : Says stop (map read rest)
 
-abbrev pub IsFaultIn : (List Token → Type 0) → (List Token → Token → Type 0) → List Token → ℕ → ParseFault → Type 0
+abbrev pub IsFaultIn : (List Token → Type 0) → (List Token → List Token → Type 0) → List Token → ℕ → ParseFault → Type 0
 IsFaultIn Begins Deep tokens from (Syntax at) = Stands Begins Deep tokens from stops.Syntax at
 IsFaultIn Begins Deep tokens from (Lexical at kind) = Stands Begins Deep tokens from (stops.Lexical kind) at
 IsFaultIn Begins Deep tokens from (Outside rule at) = Stands Begins Deep tokens from (stops.Outside rule) at
 IsFaultIn Begins Deep tokens from (Depth at) = Stands Begins Deep tokens from stops.Depth at
 IsFaultIn Begins Deep tokens from OutOfMemory = Unit {0}
 
--- Some expression begins with the tokens before the fault, and one for the depth stands where more than `room` constructs are open.
+-- Some expression begins with the tokens before the fault, and at one for the depth more than `room` constructs are open in whatever
+-- expression begins so.
 abbrev pub IsExpressionFault : ℕ → Flags → List Token → ℕ → ParseFault → Type 0
-IsExpressionFault room f = IsFaultIn (BeginsExpression f) (TooManyOpen room open_in_reading (λ n. sequence (inner n) f))
+IsExpressionFault room f = IsFaultIn (BeginsExpression f) (TooManyOpen room open_in_expression (BeginWithExpression f))
 
 -- The same of a statement or declaration.
 abbrev pub IsStatementFault : ℕ → Flags → List Token → ℕ → ParseFault → Type 0
-IsStatementFault room f = IsFaultIn (BeginsStatement f) (TooManyOpen room open_in_statement (λ n. statement (inner n) f Listed))
+IsStatementFault room f = IsFaultIn (BeginsStatement f) (TooManyOpen room open_in_statement (BeginWithStatement f))

@@ -6,10 +6,11 @@ ghost use Rattle.es6_reading.specs.Expressions.{sequence};
 ghost use Rattle.es6_reading.specs.Parser.{Reading as Seen};
 ghost use Rattle.es6_ast.specs.declared.settings.Stand.TheVariants.{Listed};
 ghost use Rattle.es6_reading.specs.Statements.{statement};
+ghost use Rattle.es6_viability.specs.Fronts.{IsExpressionBefore, IsStatementBefore};
 ghost use Rattle.es6_viability.specs.TooDeep.{open_in_expression, open_in_statement};
 ghost use Rattle.es6_cursor.specs.Readers.{inner};
-ghost use Rattle.es6_expr.specs.Parsed.{Answers, IsExpressionBefore, IsExpressionFault, IsExpressionIn};
-ghost use Rattle.es6_expr.specs.Parsed.{IsShallow, IsStatementBefore, IsStatementFault, IsStatementIn};
+ghost use Rattle.es6_expr.specs.Parsed.{Answers, IsExpressionFault, IsExpressionIn};
+ghost use Rattle.es6_expr.specs.Parsed.{IsShallow, IsStatementFault, IsStatementIn};
 ghost use Rattle.es6_expr.specs.Parsed.{IsTheOnly, IsWithout, flags_in, input_at};
 
 use crate::fault::{ParseFault, fault_of, place_of};

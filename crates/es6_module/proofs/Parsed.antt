@@ -1,5 +1,5 @@
 -- What the laws of the model say of an answer.
-use Rattle.std.proofs.Common.{◌≡◌, ℕ, ◌+◌, ◌<◌, arith, true, List, [], ◌∷◌, ◌++◌, length, map, refl, sym, ap, subst, ◌∙◌, length-append}
+use Rattle.std.proofs.Common.{◌≡◌, ℕ, suc, ◌+◌, ◌<◌, arith, true, List, [], ◌∷◌, ◌++◌, length, map, take, refl, sym, ap, subst, ◌∙◌, length-append}
 use Rattle.std.specs.Prelude.{Result, Ok, Err, IfOk, IfErr}
 use Rattle.std.proofs.lemmas.List.{append-nil, length-map, map-append}
 use Rattle.es6_lexer.specs.declared.token.Token.{Token}
@@ -7,6 +7,7 @@ use Rattle.es6_ast.specs.declared.module.Module.{Module}
 use Rattle.es6_ast.specs.declared.settings.Stop.{Stop}
 use Rattle.es6_ast.specs.declared.settings.Stop.TheVariants as stops
 use Rattle.es6_ast.specs.Dead.{IsDead}
+use Rattle.es6_ast.specs.Depth.{open_constructs}
 use Rattle.es6_ast.specs.Semicolons.{SpellsModule}
 use Rattle.es6_ast.specs.Tokens.{Filled, read}
 use Rattle.es6_reading.specs.Laws.{BeginAlike, IsFinal, Says}
@@ -20,14 +21,15 @@ use Rattle.es6_reading.proofs.ShallowModules.{depth}
 use Rattle.es6_reading.proofs.Spelled.{spelled}
 use Rattle.es6_viability.specs.Alive.{NoDeadTokenIsPassed, TokensBeforeFaultsAreAlive}
 use Rattle.es6_viability.specs.Spelled.{FaultsAreDead, IsReadAs, LexicalFaultsAreReported, NoneIsSpelledPastFaults, SpelledModulesAreReadOrLimited}
-use Rattle.es6_viability.proofs.DeepLaws.{modules-are-too-deep}
-use Rattle.es6_viability.proofs.Passed.{faults-dead, lexical-reported, no-dead, read-or-limited, seam}
+use Rattle.es6_viability.specs.TooDeep.{AreOfText, TooManyOpen, open_in_module}
+use Rattle.es6_viability.proofs.TooDeep.{modules-are-too-deep}
+use Rattle.es6_viability.proofs.Passed.{faults-dead, lexical-reported, no-dead, read-or-limited, seam, take-next}
 use Rattle.es6_viability.proofs.Readers.{tokens-alive}
 use Rattle.es6_viability.proofs.ReadInserted.{none-past}
 use Rattle.es6_cursor.specs.Readers.{turns}
 use Rattle.es6_expr.specs.declared.fault.ParseFault.{ParseFault}
 use Rattle.es6_expr.specs.Faults.{fault_of, place_of}
-use Rattle.es6_module.specs.Parsed.{Accepts, Answers, IsFault, IsParsed, IsStopAt, IsStopped, Refuses, out_of_memory, stopped}
+use Rattle.es6_module.specs.Parsed.{Accepts, Answers, IsDeep, IsFault, IsParsed, IsStopAt, IsStopped, Refuses, out_of_memory, stopped}
 
 -- ## The laws, of all that is derived
 
@@ -60,22 +62,6 @@ is_parsed tokens tree after e = record {
 pub parsed : (tokens : List Token) (r : Result Module ParseFault) → Answers tokens (read_module turns (map read tokens)) r → IfOk r (λ tree. IsParsed tokens tree)
 parsed tokens (Ok tree) h = is_parsed tokens tree h.0 h.1
 parsed tokens (Err fault) h = tt
-
--- what tokens spell is what is answered, where no limit is met
-refusing : (tokens : List Token) (stop : Stop) (at : ℕ) → (IsFinal stop → (tree : Module) → SpellsModule tokens tree → ⊥) → Accepts tokens (Err (fault_of stop at))
-refusing tokens stops.Syntax at h = h tt
-refusing tokens (stops.Lexical kind) at h = h tt
-refusing tokens (stops.Outside rule) at h = h tt
-refusing tokens stops.Depth at h = tt
-refusing tokens stops.Endless at h = tt
-
-refusals : (tokens : List Token) (fault : ParseFault) → Refuses tokens (read_module turns (map read tokens)) fault → Accepts tokens (Err fault)
-refusals tokens fault (out_of_memory e) = subst (λ f. Accepts tokens (Err f)) (sym e) tt
-refusals tokens fault (stopped stop rest e f) = subst (λ f. Accepts tokens (Err f)) (sym f) (refusing tokens stop (place_of (map read tokens) rest) (λ final tree spells. subst (λ o. IsReadAs tree o) e (limited turns tokens tree spells) final))
-
-pub accepts : (tokens : List Token) (r : Result Module ParseFault) → Answers tokens (read_module turns (map read tokens)) r → Accepts tokens r
-accepts tokens (Ok tree) h = λ other spells. one-module what-is-derived-is-read tokens other tree spells (spelled what-is-derived-is-read turns tokens tree h.0 h.1)
-accepts tokens (Err fault) h = refusals tokens fault h
 
 -- ## Faults
 
@@ -126,13 +112,15 @@ inside front rest t = omega (arith, length-append front (t ∷ rest))
 dead-there : (front ts : List Token) (t : Token) (stop : Stop) → Stops front (t ∷ ts) stop → IsFinal stop → IsDead (front ++ t ∷ ts) (length front)
 dead-there front ts t stop e final = dead turns (front ++ t ∷ ts) stop (map read (t ∷ ts)) e final (length front) (lengths front (t ∷ ts)) (inside front ts t)
 
+deep-there : (front rest : List Token) → Stops front rest stops.Depth → TooManyOpen most_open open_in_module SpellsModule front rest
+deep-there front rest e = modules-are-too-deep turns most_open front rest (sym (module-read (map read (front ++ rest))) ∙ e)
+
 stop-at : (front rest : List Token) (stop : Stop) → Stops front rest stop → IsStopAt front rest stop
 stop-at front rest stops.Endless e = tt
-stop-at front [] stops.Depth e = at-end front stops.Depth e
-stop-at front [] (stops.Lexical kind) e = at-end front (stops.Lexical kind) e
-stop-at front [] stops.Syntax e = at-end front stops.Syntax e
-stop-at front [] (stops.Outside rule) e = at-end front (stops.Outside rule) e
-stop-at front (t ∷ ts) stops.Depth e = modules-are-too-deep turns most_open front ts t (sym (module-read (map read (front ++ t ∷ ts))) ∙ e)
+stop-at front rest stops.Depth e = deep-there front rest e
+stop-at front [] (stops.Lexical kind) e = at-end front (stops.Lexical kind) e tt
+stop-at front [] stops.Syntax e = at-end front stops.Syntax e tt
+stop-at front [] (stops.Outside rule) e = at-end front (stops.Outside rule) e tt
 stop-at front (t ∷ ts) (stops.Lexical kind) e = reported turns (front ++ t ∷ ts) kind (map read (t ∷ ts)) e (length front) t (lengths front (t ∷ ts)) (seam front t ts)
 stop-at front (t ∷ ts) stops.Syntax e = dead-there front ts t stops.Syntax e tt
 stop-at front (t ∷ ts) (stops.Outside rule) e = dead-there front ts t (stops.Outside rule) e tt
@@ -176,3 +164,35 @@ refused tokens fault (stopped stop rest e f) = subst (λ f. IsFault tokens f) (s
 pub faults : (tokens : List Token) (r : Result Module ParseFault) → Answers tokens (read_module turns (map read tokens)) r → IfErr r (λ fault. IsFault tokens fault)
 faults tokens (Ok tree) h = tt
 faults tokens (Err fault) h = refused tokens fault h
+
+-- ## What is refused
+
+one-more : (n : ℕ) → n + 1 ≡ suc n
+one-more n = omega arith
+
+-- a module of which too many constructs are open at the first token of the rest
+deep-at : (front rest : List Token) → TooManyOpen most_open open_in_module SpellsModule front rest → AreOfText (front ++ rest) → (tree : Module) → SpellsModule (front ++ rest) tree → IsDeep (front ++ rest) tree
+deep-at front [] deep text tree spells = absurd (deep (subst AreOfText (append-nil front) text) tree (subst (λ ts. SpellsModule ts tree) (append-nil front) spells))
+deep-at front (t ∷ ts) deep text tree spells = (
+  length front,
+  inside front ts t,
+  subst (λ us. most_open < open_constructs us tree) (sym (ap (λ n. take n (front ++ t ∷ ts)) (one-more (length front)) ∙ take-next front t ts)) (deep ts text tree spells),
+)
+
+refusing : (tokens : List Token) (stop : Stop) (at : ℕ) → (IsFinal stop → (tree : Module) → SpellsModule tokens tree → ⊥) → ((stop ≡ stops.Endless → ⊥) → IsStopped tokens stop at) → Accepts tokens (Err (fault_of stop at))
+refusing tokens stops.Syntax at h s = h tt
+refusing tokens (stops.Lexical kind) at h s = h tt
+refusing tokens (stops.Outside rule) at h s = h tt
+refusing tokens stops.Depth at h s = λ text tree spells.
+    let r = s (λ e. absurd (cc)) in
+    subst (λ ts. IsDeep ts tree) (sym r.parts) (deep-at r.front r.rest r.stops (subst AreOfText r.parts text) tree (subst (λ ts. SpellsModule ts tree) r.parts spells))
+refusing tokens stops.Endless at h s = tt
+
+refusals : (tokens : List Token) (fault : ParseFault) → Refuses tokens (read_module turns (map read tokens)) fault → Accepts tokens (Err fault)
+refusals tokens fault (out_of_memory e) = subst (λ f. Accepts tokens (Err f)) (sym e) tt
+refusals tokens fault (stopped stop rest e f) =
+    subst (λ f. Accepts tokens (Err f)) (sym f) (refusing tokens stop (place_of (map read tokens) rest) (λ final tree spells. subst (λ o. IsReadAs tree o) e (limited turns tokens tree spells) final) (λ ended. stands tokens stop rest ended e))
+
+pub accepts : (tokens : List Token) (r : Result Module ParseFault) → Answers tokens (read_module turns (map read tokens)) r → Accepts tokens r
+accepts tokens (Ok tree) h = λ other spells. one-module what-is-derived-is-read tokens other tree spells (spelled what-is-derived-is-read turns tokens tree h.0 h.1)
+accepts tokens (Err fault) h = refusals tokens fault h

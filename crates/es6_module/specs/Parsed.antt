@@ -1,5 +1,5 @@
 -- What is answered for the tokens of a text.
-use Rattle.std.specs.Prelude.{◌≡◌, ℕ, ◌+◌, ◌<◌, ◌≤◌, true, List, [], ◌∷◌, ◌++◌, length, map, take, Result, Ok, Err}
+use Rattle.std.specs.Prelude.{◌≡◌, ℕ, ◌+◌, ◌<◌, ◌≤◌, List, [], ◌∷◌, ◌++◌, length, map, take, Result, Ok, Err}
 use Rattle.es6_lexer.specs.declared.token.Token.{Token}
 use Rattle.es6_ast.specs.declared.module.Module.{Module}
 use Rattle.es6_ast.specs.declared.settings.Stop.{Stop}
@@ -8,10 +8,10 @@ use Rattle.es6_ast.specs.Dead.{AreInOrder, IsAlive, IsDead, IsReported}
 use Rattle.es6_ast.specs.Depth.{open_constructs}
 use Rattle.es6_ast.specs.Semicolons.{SpellsModule}
 use Rattle.es6_ast.specs.Tokens.{Filled, read}
-use Rattle.es6_reading.specs.Laws.{BeginAlike, IsFinal, Says}
-use Rattle.es6_reading.specs.Modules.{most_open, read_module, readers, whole_module}
+use Rattle.es6_reading.specs.Laws.{BeginAlike, Says}
+use Rattle.es6_reading.specs.Modules.{most_open, read_module}
 use Rattle.es6_reading.specs.Parser.{Input, Outcome, Took, Fault}
-use Rattle.es6_viability.specs.TooDeep.{TooManyOpen}
+use Rattle.es6_viability.specs.TooDeep.{AreOfText, TooManyOpen, open_in_module}
 use Rattle.es6_cursor.specs.Readers.{turns}
 use Rattle.es6_expr.specs.declared.fault.ParseFault.{ParseFault}
 use Rattle.es6_expr.specs.declared.fault.ParseFault.TheVariants.{OutOfMemory, Syntax, Lexical, Outside, Depth}
@@ -23,13 +23,13 @@ pub record IsParsed (tokens : List Token) (tree : Module) : Type 0 where
   pub spelled : SpellsModule tokens tree
   pub shallow : AreInOrder tokens → (p : ℕ) → p < length tokens → open_constructs (take (p + 1) tokens) tree ≤ 256
 
--- What the stop says of the token at which it stands: for the depth that more than 256 constructs are open there, in whatever module is
--- read of tokens of a text that begin so, and otherwise that no module begins with the tokens up to it. A lexical fault is the one that
+-- What the stop says of the token at which it stands: for the depth that more than 256 constructs are open there, in whatever module
+-- tokens of a text spell that begin so, and otherwise that no module begins with the tokens up to it. A lexical fault is the one that
 -- stands there. At the end no module is spelled.
 abbrev pub IsStopAt : List Token → List Token → Stop → Type 0
 IsStopAt front rest stops.Endless = Unit {0}
-IsStopAt front [] stop = IsFinal stop → (tree : Module) → SpellsModule front tree → ⊥
-IsStopAt front (t ∷ ts) stops.Depth = TooManyOpen most_open (λ (tree : Module) tokens. open_constructs tokens tree) (λ room. whole_module (readers true turns room)) front t
+IsStopAt front rest stops.Depth = TooManyOpen most_open open_in_module SpellsModule front rest
+IsStopAt front [] stop = (tree : Module) → SpellsModule front tree → ⊥
 IsStopAt front (t ∷ ts) (stops.Lexical kind) = IsReported (front ++ t ∷ ts) (length front) t (stops.Lexical kind)
 IsStopAt front (t ∷ ts) stop = IsDead (front ++ t ∷ ts) (length front)
 
@@ -54,11 +54,15 @@ IsFault tokens (Outside rule at) = IsStopped tokens (stops.Outside rule) at
 IsFault tokens (Depth at) = IsStopped tokens stops.Depth at
 IsFault tokens OutOfMemory = Unit {0}
 
--- A module that the tokens spell is the one that is answered, unless too many constructs are open in it or memory runs out.
+-- There is a token at which more than 256 constructs are open.
+abbrev pub IsDeep : List Token → Module → Type 0
+IsDeep tokens tree = (p : ℕ) × (p < length tokens) × (most_open < open_constructs (take (p + 1) tokens) tree)
+
+-- A module that the tokens spell is the one that is answered, unless memory runs out, or it is too deep and the tokens are of a text.
 abbrev pub Accepts : List Token → Result Module ParseFault → Type 0
 Accepts tokens (Ok tree) = (other : Module) → SpellsModule tokens other → other ≡ tree
-Accepts tokens (Err (Depth at)) = Unit {0}
 Accepts tokens (Err OutOfMemory) = Unit {0}
+Accepts tokens (Err (Depth at)) = AreOfText tokens → (tree : Module) → SpellsModule tokens tree → IsDeep tokens tree
 Accepts tokens (Err fault) = (tree : Module) → SpellsModule tokens tree → ⊥
 
 -- the fault of what the model doesn't read

@@ -1,12 +1,11 @@
 -- Some expression, or some statement or declaration, begins with the tokens before a fault.
-use Rattle.std.proofs.Common.{◌≡◌, ◌∙◌, ℕ, suc, Bool, true, false, List, [], ◌∷◌, ◌++◌, map, refl, sym, ap, subst, append_assoc}
-use Rattle.std.proofs.lemmas.List.{append-nil, append_cancel_right, map-append}
+use Rattle.std.proofs.Common.{◌≡◌, ◌∙◌, ℕ, suc, true, false, List, [], ◌∷◌, ◌++◌, map, refl, sym, ap, subst, append_assoc}
+use Rattle.std.proofs.lemmas.List.{append_cancel_right, map-append}
 use Rattle.es6_lexer.specs.declared.token.Token.{Token}
 use Rattle.es6_lexer.specs.declared.token.TokenKind.{TokenKind}
 use Rattle.es6_lexer.specs.declared.token.TokenKind.TheVariants as kinds
 use Rattle.es6_lexer.specs.declared.token.Punctuator.TheVariants as marks
 use Rattle.es6_ast.specs.declared.tree.Statement.{Statement}
-use Rattle.es6_ast.specs.declared.settings.Flags.{Flags}
 use Rattle.es6_ast.specs.declared.settings.Stand.TheVariants.{Listed}
 use Rattle.es6_ast.specs.declared.settings.Stop.{Stop}
 use Rattle.es6_ast.specs.declared.settings.Stop.TheVariants.{Endless}
@@ -18,13 +17,13 @@ use Rattle.es6_reading.specs.Modules.{readers}
 use Rattle.es6_reading.specs.Parser.{Outcome, Took, Fault, Reading}
 use Rattle.es6_reading.specs.Statements.{statement}
 use Rattle.es6_reading.proofs.Follows.{plus}
-use Rattle.es6_viability.specs.Alive.{BeginsExpression, BeginsStatement, IsBegun, TokensBeforeFaultsBeginExpressions, TokensBeforeFaultsBeginStatements}
-use Rattle.es6_viability.proofs.Completions.{x_, Closer, parenthesis, Behind, behind_end}
+use Rattle.es6_viability.specs.Alive.{IsBegun, TokensBeforeFaultsBeginExpressions, TokensBeforeFaultsBeginStatements}
+use Rattle.es6_viability.proofs.Completions.{Closer, parenthesis, Behind, behind_end}
 use Rattle.es6_viability.proofs.Expressions as expressions'
 use Rattle.es6_viability.proofs.Readers.{better, lasting}
 use Rattle.es6_viability.proofs.SpelledAlone.{Spelled, expression-spelled, statement-spelled}
 use Rattle.es6_viability.proofs.Statements as statements'
-use Rattle.es6_viability.proofs.Viable.{fill, fills, left, Any, Fresh, Half, Head, stands, some, gives_up}
+use Rattle.es6_viability.proofs.Viable.{fill, fills, left, Any, Fresh, Half, stands, some, gives_up}
 
 -- a token that is put in
 abbrev token_of : TokenKind → Token

@@ -1,5 +1,5 @@
 -- How many constructs are open where a reader of primary and left-hand-side expressions stops.
-use Rattle.std.proofs.Common.{◌≡◌, ℕ, zero, suc, ◌+◌, ◌≤◌, Bool, true, false, List, [], ◌∷◌, Option, Some, None, sym, refl, subst, arith}
+use Rattle.std.proofs.Common.{◌≡◌, ℕ, ◌+◌, ◌≤◌, Bool, true, false, List, [], ◌∷◌, Option, Some, None, refl, subst, arith}
 use Rattle.std.specs.Prelude.{codes}
 use Rattle.es_text.specs.declared.Span.{Span}
 use Rattle.es6_lexer.specs.declared.token.Punctuator.TheVariants as marks
@@ -20,7 +20,7 @@ use Rattle.es6_reading.proofs.SpanCounts.{sum_of, in_some, spans_expression, in_
 use Rattle.es6_reading.proofs.SpanSums.{in-single, in-spread, in-hole, in-present, in-this, in-name, in-literal, in-template_value, in-array_list, in-object_list, in-function_value, in-class_value, in-chain, in-super_member, in-super_index, in-super_call, in-new_target, in-new, in-sequence, in-group, in-cover, in-member, in-index, in-call, in-tagged, span-this, span-name, span-literal, span-template_value, span-array_list, span-object_list, span-function_value, span-class_value, span-chain, span-super_member, span-super_index, span-super_call, span-new_target, span-new, span-group, span-cover}
 use Rattle.es6_reading.proofs.ShallowTokens.{a-word, comma, ellipsis, dot, right-parenthesis, right-bracket, right-brace, free-name, literal}
 use Rattle.es6_viability.proofs.Beside.{Both, over, turn, both-same}
-use Rattle.es6_viability.proofs.Deep.{Spot, At, Ready, ready, begin, and, less, finish, first, forget, no_spans, Within, within, same-span, Opened, Deep, took, fault, bind, refused-holds, no-number-holds, no-expression-holds, next, ends, take, close, either, looks, group}
+use Rattle.es6_viability.proofs.Deep.{Spot, At, Ready, ready, begin, and, less, finish, first, forget, no_spans, Within, within, same-span, Deep, took, fault, bind, refused-holds, no-number-holds, no-expression-holds, next, ends, take, close, either, looks, group}
 use Rattle.es6_viability.proofs.DeepParts.{Deeper, identifier, name, function, class, on_template}
 
 -- an expression, from its first token to its last one

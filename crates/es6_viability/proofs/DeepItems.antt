@@ -1,5 +1,5 @@
 -- How many constructs are open where a reader of imports, exports and items stops.
-use Rattle.std.proofs.Common.{◌≡◌, ℕ, zero, suc, Bool, true, false, List, Option, refl, arith}
+use Rattle.std.proofs.Common.{◌≡◌, ℕ, true, false, List, Option, refl, arith}
 use Rattle.std.specs.Prelude.{codes}
 use Rattle.es_text.specs.declared.Span.{Span}
 use Rattle.es6_lexer.specs.declared.token.Punctuator.TheVariants as marks

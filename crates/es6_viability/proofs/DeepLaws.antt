@@ -1,20 +1,17 @@
 -- Where a reader stops for depth at a token, more constructs than may be open are open there, in whatever a reader reads of tokens that
 -- begin so of which more may be open.
-use Rattle.std.proofs.Common.{◌≡◌, ◌∙◌, ℕ, zero, suc, ◌+◌, ◌-◌, ◌<◌, ◌≤◌, Bool, true, false, List, [], ◌∷◌, ◌++◌, length, map, ap, sym, refl, subst, append_assoc, arith}
+use Rattle.std.proofs.Common.{◌≡◌, ◌∙◌, ℕ, zero, suc, ◌+◌, ◌-◌, ◌<◌, ◌≤◌, true, false, List, [], ◌∷◌, ◌++◌, length, map, ap, sym, refl, subst, arith}
 use Rattle.std.proofs.lemmas.Bool.{true≢false, false≢true}
 use Rattle.std.proofs.lemmas.List.{append_cancel_right, map-append}
 use Rattle.es6_lexer.specs.declared.token.Token.{Token}
-use Rattle.es6_lexer.specs.declared.token.TokenKind.{TokenKind}
 use Rattle.es6_lexer.specs.declared.token.TokenKind.TheVariants.{End}
-use Rattle.es6_ast.specs.declared.module.Module.{Module}
 use Rattle.es6_ast.specs.declared.module.Item.{Item}
 use Rattle.es6_ast.specs.declared.settings.Flags.{Flags}
 use Rattle.es6_ast.specs.declared.settings.Stand.{Stand}
 use Rattle.es6_ast.specs.declared.settings.Stop.{Stop}
 use Rattle.es6_ast.specs.declared.settings.Stop.TheVariants.{Depth}
-use Rattle.es6_ast.specs.declared.tree.Statement.{Statement}
 use Rattle.es6_ast.specs.Dead.{AreInOrder}
-use Rattle.es6_ast.specs.Depth.{begin_of_last, closes_group, expression_spans, item_spans, joined, module_spans, open_constructs, open_groups, opens_group, statement_spans}
+use Rattle.es6_ast.specs.Depth.{begin_of_last, closes_group, expression_spans, item_spans, joined, module_spans, open_groups, opens_group, statement_spans}
 use Rattle.es6_ast.specs.Tokens.{Filled, Read, read}
 use Rattle.es6_reading.specs.Expressions.{sequence}
 use Rattle.es6_reading.specs.Modules.{is_end, is_end_kind, readers, whole_module}
@@ -24,14 +21,14 @@ use Rattle.es6_reading.proofs.Follows.{plus, SameHead, same}
 use Rattle.es6_reading.proofs.LocalExpressions as x'
 use Rattle.es6_reading.proofs.LocalModules as m'
 use Rattle.es6_reading.proofs.LocalReaders.{gain, grown}
-use Rattle.es6_reading.proofs.Locality.{Local, LocalOf, took_so, stops_so, too_deep, too_long, not_inserted, Slack, same_mode}
+use Rattle.es6_reading.proofs.Locality.{Local, LocalOf, took_so, stops_so, too_deep, too_long, not_inserted, same_mode}
 use Rattle.es6_reading.proofs.Ordered.{Behind}
 use Rattle.es6_reading.proofs.Shallow.{opens_of, closes_of, Sorted}
 use Rattle.es6_reading.proofs.ShallowItems.{in_item}
 use Rattle.es6_reading.proofs.SpanCounts.{around, around-append, around-is, sum_of, in_expression, in_statement}
-use Rattle.es6_viability.specs.TooDeep.{AreOfText, open_in_reading, open_in_statement, ExpressionsAreTooDeep, StatementsAreTooDeep, ModulesAreTooDeep}
+use Rattle.es6_viability.specs.TooDeep.{AreOfText, open_in_expression, open_in_module, open_in_statement}
 use Rattle.es6_viability.proofs.BesideStatements.{no-slack}
-use Rattle.es6_viability.proofs.Deep.{Stands, start, further, Limit, Mode, still, gone, Spot, Claim, Bound, At, Ready, Held, held, stops, Runs, alike, went, alone}
+use Rattle.es6_viability.proofs.Deep.{Stands, start, further, Limit, Mode, still, gone, Spot, Claim, Bound, At, Ready, held, stops, Runs, alike, went, alone}
 use Rattle.es6_viability.proofs.DeepExpressions as expressions'
 use Rattle.es6_viability.proofs.DeepItems as items'
 use Rattle.es6_viability.proofs.DeepLevels as levels'
@@ -163,9 +160,17 @@ depth-rest e = cc
 
 -- Of two readers, of which the first one stops for depth at the token behind the front: whatever the second one reads of tokens of a
 -- text that begin with these, more than `room` constructs are open at that token.
-abbrev IsDeepAt : {A : Type 0} → ℕ → (A → List Token → ℕ) → Parser A → Parser A → Type 0
+abbrev pub IsDeepAt : {A : Type 0} → ℕ → (A → List Token → ℕ) → Parser A → Parser A → Type 0
 IsDeepAt {A = A} room count p q = (front behind : List Token) (t : Token) → p (record { tokens = map read (front ++ t ∷ behind); last = 0 }) ≡ Fault Depth (map read (t ∷ behind))
     → (others : List Token) → AreOfText (front ++ t ∷ others) → (x : A) (after : Input) → q (record { tokens = map read (front ++ t ∷ others); last = 0 }) ≡ Took x after → room < count x (front ++ t ∷ [])
+
+-- Where the first one stops for depth at the end, the second one takes nothing.
+abbrev pub StopsInside : {A : Type 0} → Parser A → Parser A → Type 0
+StopsInside {A = A} p q = (tokens : List Token) → AreOfText tokens → p (record { tokens = map read tokens; last = 0 }) ≡ Fault Depth [] → (x : A) (after : Input) → q (record { tokens = map read tokens; last = 0 }) ≡ Took x after → ⊥
+
+pub record IsDeep {A : Type 0} (room : ℕ) (count : A → List Token → ℕ) (p q : Parser A) : Type 0 where
+  pub inside : StopsInside p q
+  pub deep : IsDeepAt room count p q
 
 -- what holds where the first reader stopped
 pub record AtLimit {all : List Filled} {A : Type 0} (Q : A → Spot all → Type 0) (x : A) (us : List Filled) : Type 0 where
@@ -213,6 +218,12 @@ plus-zero n = plus-is n zero ∙ none n
 module _ {A : Type 0} (count : A → List Token → ℕ) (D : A → ℕ → ℕ) (counts : (x : A) (tokens : List Token) → open_groups 0 tokens + D x (begin_of_last tokens) ≡ count x tokens) (room : ℕ) (p p0 q : Parser A) (same-run : (c : Input) → p0 c ≡ p c) (local : (s : Input) → Local (gain zero false) p p0 s)
     (Q : (all : List Filled) → A → Spot all → Type 0) (runs : (all : List Filled) → Sorted 0 all → Runs (Q all) still (p (record { tokens = all; last = 0 })) (q (record { tokens = all; last = 0 })))
     (bound : (all : List Filled) (x : A) (l : Limit all) (n : ℕ) (c : Input) → Q all x (record { mode = gone l; groups = n; input = c }) → (last : ℕ) × Bound room (begin-of all) 0 last l (D x)) where
+  inside-them : StopsInside p q
+  inside-them tokens a h x after k = (let l = limit-of x after [] (runs (map read tokens) (sorted tokens a)) refl h k in none l.limit.token l.limit.behind l.there)
+    where
+      none : (t : Filled) (ts : List Filled) → t ∷ ts ≡ [] → ⊥
+      none t ts e = absurd (cc)
+
   deep-at : IsDeepAt room count p q
   deep-at front behind t h others a x after k =
       let all : List Filled = map read (front ++ t ∷ others) in
@@ -223,6 +234,9 @@ module _ {A : Type 0} (count : A → List Token → ℕ) (D : A → ℕ → ℕ)
       let b = bound all x l.limit l.groups l.input l.holds in
       subst (λ n. room < n) (counts x (front ++ t ∷ [])) (open-at all room (begin-of all) (D x) b.0 l.limit front t (map read others) whole l.there b.1)
 
+  is-deep : IsDeep room count p q
+  is-deep = record { inside = inside-them; deep = deep-at }
+
 spans-are : (xs : List Item) (at : ℕ) → around (joined item_spans xs) at ≡ sum_of in_item xs at
 spans-are [] at = refl
 spans-are (x ∷ xs) at = omega (arith, around-append (item_spans x) (joined item_spans xs) at, spans-are xs at)
@@ -231,32 +245,23 @@ module _ (fuel room more : ℕ) where
   same-readers : {A : Type 0} (p : Inner → Parser A) (c : Input) → p (readers true (plus fuel zero) (plus room zero)) c ≡ p (readers true fuel room) c
   same-readers p c = ap (λ n. p (readers true n (plus room zero)) c) (plus-zero fuel) ∙ ap (λ n. p (readers true fuel n) c) (plus-zero room)
 
-  expressions : (f : Flags) → IsDeepAt room open_in_reading (sequence (readers true fuel room) f) (sequence (readers true fuel (plus room more)) f)
-  expressions f = deep-at open_in_reading (λ x. in_expression x.value) (λ x tokens. ap (λ n. open_groups 0 tokens + n) (around-is (expression_spans x.value) (begin_of_last tokens))) room
+  pub expressions : (f : Flags) → IsDeep room (λ (x : Reading). open_in_expression x.value) (sequence (readers true fuel room) f) (sequence (readers true fuel (plus room more)) f)
+  expressions f = is-deep (λ (x : Reading). open_in_expression x.value) (λ x. in_expression x.value) (λ x tokens. ap (λ n. open_groups 0 tokens + n) (around-is (expression_spans x.value) (begin_of_last tokens))) room
       (sequence (readers true fuel room) f) (sequence (readers true (plus fuel zero) (plus room zero)) f) (sequence (readers true fuel (plus room more)) f)
       (λ c. same-readers (λ i. sequence i f) c) (λ s. x'.sequence (readers true fuel room) (readers true (plus fuel zero) (plus room zero)) (grown false true true fuel room zero same_mode) f s)
       (λ all. expressions'.ExpressionAt room (begin-of all)) (λ all w. levels'.sequence (readers true fuel room) (readers true fuel (plus room more)) room (deeper true fuel room more) f (begin-of all) (ready-of all room w))
       (λ all x l n c a. (c.last, a.0.claim))
 
-  statements : (f : Flags) (stand : Stand) → IsDeepAt room open_in_statement (statement (readers true fuel room) f stand) (statement (readers true fuel (plus room more)) f stand)
-  statements f stand = deep-at open_in_statement in_statement (λ x tokens. ap (λ n. open_groups 0 tokens + n) (around-is (statement_spans x) (begin_of_last tokens))) room
+  pub statements : (f : Flags) (stand : Stand) → IsDeep room open_in_statement (statement (readers true fuel room) f stand) (statement (readers true fuel (plus room more)) f stand)
+  statements f stand = is-deep open_in_statement in_statement (λ x tokens. ap (λ n. open_groups 0 tokens + n) (around-is (statement_spans x) (begin_of_last tokens))) room
       (statement (readers true fuel room) f stand) (statement (readers true (plus fuel zero) (plus room zero)) f stand) (statement (readers true fuel (plus room more)) f stand)
       (λ c. same-readers (λ i. statement i f stand) c) (λ s. m'.statement (readers true fuel room) (readers true (plus fuel zero) (plus room zero)) (grown false true true fuel room zero same_mode) f stand s)
       (λ all. statements'.StatementAt room (begin-of all)) (λ all w. statements'.statement (readers true fuel room) (readers true fuel (plus room more)) room (deeper true fuel room more) f stand (begin-of all) (ready-of all room w))
       (λ all x l n c a. (c.last, a.0.claim))
 
-  modules : IsDeepAt room (λ (m : Module) tokens. open_constructs tokens m) (whole_module (readers true fuel room)) (whole_module (readers true fuel (plus room more)))
-  modules = deep-at (λ m tokens. open_constructs tokens m) (λ m. sum_of in_item m.items) (λ m tokens. ap (λ n. open_groups 0 tokens + n) (sym (spans-are m.items (begin_of_last tokens)) ∙ around-is (module_spans m) (begin_of_last tokens))) room
+  pub modules : IsDeep room open_in_module (whole_module (readers true fuel room)) (whole_module (readers true fuel (plus room more)))
+  modules = is-deep open_in_module (λ m. sum_of in_item m.items) (λ m tokens. ap (λ n. open_groups 0 tokens + n) (sym (spans-are m.items (begin_of_last tokens)) ∙ around-is (module_spans m) (begin_of_last tokens))) room
       (whole_module (readers true fuel room)) (whole_module (readers true (plus fuel zero) (plus room zero))) (whole_module (readers true fuel (plus room more)))
       (λ c. same-readers (λ i. whole_module i) c) (λ s. m'.whole_module (readers true fuel room) (readers true (plus fuel zero) (plus room zero)) (grown false true true fuel room zero same_mode) s)
       (λ all m d. (c : Spot all) × (d.mode ≡ c.mode) × At false room (begin-of all) 0 0 c (sum_of in_item m.items)) (λ all w. items'.whole (readers true fuel room) (readers true fuel (plus room more)) room (deeper true fuel room more) (begin-of all) (ready-of all room w))
       (λ all m l n c a. (a.0.input.last, subst (λ k. Claim room (begin-of all) 0 still k a.0.input.last (sum_of in_item m.items)) (sym a.1) a.2.claim))
-
-pub expressions-are-too-deep : ExpressionsAreTooDeep
-expressions-are-too-deep fuel room f front behind t h more = subst (λ n. IsDeepAt room open_in_reading (sequence (readers true fuel room) f) (sequence (readers true fuel n) f)) (plus-is room more) (expressions fuel room more f) front behind t h
-
-pub statements-are-too-deep : StatementsAreTooDeep
-statements-are-too-deep fuel room f stand front behind t h more = subst (λ n. IsDeepAt room open_in_statement (statement (readers true fuel room) f stand) (statement (readers true fuel n) f stand)) (plus-is room more) (statements fuel room more f stand) front behind t h
-
-pub modules-are-too-deep : ModulesAreTooDeep
-modules-are-too-deep fuel room front behind t h more = subst (λ n. IsDeepAt room (λ (m : Module) tokens. open_constructs tokens m) (whole_module (readers true fuel room)) (whole_module (readers true fuel n))) (plus-is room more) (modules fuel room more) front behind t h

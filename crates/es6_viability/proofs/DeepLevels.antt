@@ -1,5 +1,5 @@
 -- How many constructs are open where a reader of operators, assignments, arrows and properties stops.
-use Rattle.std.proofs.Common.{◌≡◌, ◌∙◌, ℕ, zero, suc, ◌+◌, ◌≤◌, Bool, true, false, List, [], ◌∷◌, Some, None, ap, sym, refl, subst, arith}
+use Rattle.std.proofs.Common.{◌≡◌, ◌∙◌, ℕ, zero, suc, ◌+◌, ◌≤◌, true, false, List, [], ◌∷◌, Some, None, ap, sym, refl, subst, arith}
 use Rattle.std.specs.Prelude.{codes}
 use Rattle.es_text.specs.declared.Span.{Span}
 use Rattle.es6_ast.specs.declared.operators.AssignOperator.{AssignOperator}
@@ -7,7 +7,7 @@ use Rattle.es6_ast.specs.declared.operators.UnaryOperator.{UnaryOperator}
 use Rattle.es6_ast.specs.declared.operators.UpdateOperator.{UpdateOperator}
 use Rattle.es6_ast.specs.declared.operators.UpdateOperator.TheVariants.{IncrementBefore, DecrementBefore, IncrementAfter, DecrementAfter}
 use Rattle.es6_ast.specs.declared.tree.Argument.TheOpen as layer
-use Rattle.es6_ast.specs.Depth.{spanned, updated}
+use Rattle.es6_ast.specs.Depth.{updated}
 use Rattle.es6_ast.specs.declared.tree.Arrow.{roll-Arrow}
 use Rattle.es6_ast.specs.declared.tree.ArrowBody.{ArrowBody}
 use Rattle.es6_ast.specs.declared.tree.ArrowBody.TheVariants.{ValueBody, BlockBody}
@@ -32,7 +32,7 @@ use Rattle.es6_reading.proofs.Meanings.{before-means, after-means}
 use Rattle.es6_reading.proofs.Posts.{Taken, taken}
 use Rattle.es6_reading.proofs.SpanCounts.{around, sum_of, one, spans_block, spans_expression, in_arrow_body, in_expression, in_operand, in_parameter, in_pattern, in_property, in_key, with_block, with_expression}
 use Rattle.es6_reading.proofs.SpanSums.{in-value_body, span-value_body, in-block_body, span-block_body, in-arrow_value, span-arrow_value, in-arrow, span-arrow, in-unary, in-power, in-binary, in-conditional, in-assign, in-sequence, in-yield, in-delegate, in-plain, in-shorthand, in-initialized, in-defined, in-operand, in-update-after, in-word_key, span-unary, span-power, span-binary, span-conditional, span-assign, span-sequence, span-yield, span-delegate, span-update}
-use Rattle.es6_viability.proofs.Deep.{Spot, At, Ready, ready, begin, and, less, finish, first, forget, no_spans, within, Opened, Deep, took, fault, bind, refused-holds, next, take, either, looks, looks-yes}
+use Rattle.es6_viability.proofs.Deep.{Spot, At, Ready, ready, begin, and, less, finish, first, forget, no_spans, within, Deep, took, fault, bind, refused-holds, next, take, either, looks, looks-yes}
 use Rattle.es6_reading.proofs.ShallowTokens.{a-word, comma, colon, equals, a-star, power-mark, question, arrow, line-star, unary-operator, update-before, update-after, assign-operator, binary-operator, accessor-word, free-name}
 use Rattle.es6_viability.proofs.Beside.{Both, over, turn, both-same}
 use Rattle.es6_viability.proofs.DeepParts.{Deeper, method_after_key, accessor, generator_method, key}

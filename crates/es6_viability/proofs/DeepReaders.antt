@@ -1,8 +1,7 @@
 -- The readers tied into one another, and those where more constructs may open.
-use Rattle.std.proofs.Common.{◌≡◌, ◌∙◌, ℕ, zero, suc, ◌+◌, ◌<◌, ◌≤◌, Bool, true, false, ◌&&◌, ◌||◌, List, [], ◌∷◌, Option, ap, sym, refl, subst, arith}
+use Rattle.std.proofs.Common.{◌≡◌, ◌∙◌, ℕ, zero, suc, ◌+◌, ◌<◌, ◌≤◌, Bool, true, false, ◌&&◌, ◌||◌, List, [], ◌∷◌, sym, refl, subst, arith}
 use Rattle.std.proofs.lemmas.Bool.{true≢false, false≢true}
 use Rattle.es_text.specs.declared.Span.{Span}
-use Rattle.es_outside.specs.HostNames.{reserved_words}
 use Rattle.es6_lexer.specs.declared.token.Punctuator.TheVariants as marks
 use Rattle.es6_lexer.specs.declared.token.TokenKind.TheVariants as kinds
 use Rattle.es6_ast.specs.declared.settings.Flags.{Flags}
@@ -11,9 +10,9 @@ use Rattle.es6_ast.specs.declared.settings.Stand.{Stand}
 use Rattle.es6_ast.specs.declared.settings.Stand.TheVariants.{Listed, Under, Labelled}
 use Rattle.es6_ast.specs.declared.settings.Stop.TheVariants.{Depth}
 use Rattle.es6_ast.specs.declared.tree.Statement.{Statement}
-use Rattle.es6_ast.specs.Tokens.{Filling, Read, Filled, begin_of}
-use Rattle.es6_reading.specs.Parser.{Input, Outcome, Fault, Parser, Reading, fails, choose, next_is, if_next, next_mark, no_expression, no_number, Inner}
-use Rattle.es6_reading.specs.Words.{begins_operand, begins_unary, begins_expression, operand_words, unary_operators}
+use Rattle.es6_ast.specs.Tokens.{Filling, Read, Filled}
+use Rattle.es6_reading.specs.Parser.{Outcome, Fault, Parser, Reading, fails, choose, next_is, if_next, next_mark, no_expression, no_number, Inner}
+use Rattle.es6_reading.specs.Words.{begins_operand, begins_unary, begins_expression, unary_operators}
 use Rattle.es6_reading.specs.Parts as t6
 use Rattle.es6_reading.specs.Expressions as e
 use Rattle.es6_reading.specs.Statements as s6
@@ -22,10 +21,9 @@ use Rattle.es6_reading.specs.Modules as m6
 use Rattle.es6_reading.specs.Modules.{is_end, is_end_kind}
 use Rattle.es6_reading.proofs.Follows.{plus}
 use Rattle.es6_reading.proofs.LocalLimits.{no_statement, operand-limit, heritage-limit, unary-limit, power-limit, assignment-limit, statement-limit}
-use Rattle.es6_reading.proofs.Shallow.{opens_of}
 use Rattle.es6_reading.proofs.SpanCounts.{one, spans_block, spans_expression, spans_statement, in_block, in_expression, in_statement}
 use Rattle.es6_viability.proofs.Beside.{both}
-use Rattle.es6_viability.proofs.Deep.{Stands, Limit, Mode, still, gone, Spot, Claim, Bound, At, Ready, Within, Opened, Deep, Runs, fault, weaken, no-number-holds, no-expression-holds, looks, inside, surround, one-around, went-on, by-itself}
+use Rattle.es6_viability.proofs.Deep.{Limit, Mode, still, gone, Spot, Claim, At, Ready, Within, Opened, Deep, Runs, fault, weaken, no-number-holds, no-expression-holds, looks, inside, surround, one-around, went-on, by-itself}
 use Rattle.es6_viability.proofs.DeepParts.{Deeper, binding, initialized, one_part, object_part, block, member}
 use Rattle.es6_viability.proofs.DeepExpressions.{chain}
 use Rattle.es6_viability.proofs.DeepLevels.{unary, power, assignment, sequence, property}

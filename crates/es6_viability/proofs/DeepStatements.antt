@@ -1,5 +1,5 @@
 -- How many constructs are open where a reader of statements stops.
-use Rattle.std.proofs.Common.{◌≡◌, ◌∙◌, ℕ, zero, suc, ◌+◌, ◌≤◌, Bool, true, false, List, [], Option, Some, None, ap, sym, refl, subst, arith}
+use Rattle.std.proofs.Common.{◌≡◌, ◌∙◌, ℕ, ◌+◌, ◌≤◌, Bool, true, false, List, Option, Some, None, ap, sym, refl, subst, arith}
 use Rattle.std.specs.Prelude.{codes, is_some}
 use Rattle.es_text.specs.declared.Span.{Span}
 use Rattle.es6_lexer.specs.declared.token.Punctuator.TheVariants as marks
@@ -25,16 +25,15 @@ use Rattle.es6_ast.specs.declared.settings.Stand.{Stand}
 use Rattle.es6_ast.specs.declared.settings.Stand.TheVariants.{Listed, Under, Labelled}
 use Rattle.es6_ast.specs.Tokens.{Filled, begin_of}
 use Rattle.es6_ast.specs.Grammar.{with_in, without_in}
-use Rattle.es6_reading.specs.Parser.{Input, Parser, is_left, mark, Inner}
+use Rattle.es6_reading.specs.Parser.{Parser, is_left, mark, Inner}
 use Rattle.es6_reading.specs.Refine.{target_before}
-use Rattle.es6_reading.specs.Parts as t6
 use Rattle.es6_reading.specs.Expressions as e
 use Rattle.es6_reading.specs.Statements as s6
 use Rattle.es6_reading.specs.Statements.{Header, ForHeader, OfHeader}
 use Rattle.es6_reading.proofs.SpanCounts.{sum_of, in_some, spans_statement, in_block, in_case, in_catch, in_condition, in_expression, in_for_first, in_for_target, in_part, in_pattern, in_statement, with_statement, with_expression}
 use Rattle.es6_reading.proofs.SpanSums.{in-name, in-part}
 use Rattle.es6_reading.proofs.SpanSumsOfStatements as laws
-use Rattle.es6_viability.proofs.Deep.{Spot, At, Ready, ready, begin, and, less, finish, first, forget, no_spans, Within, within, same-span, Opened, Deep, took, fault, bind, weaken, refused-holds, next, ends, take, close, either, either-by, looks, group}
+use Rattle.es6_viability.proofs.Deep.{Spot, At, Ready, ready, begin, and, less, finish, first, forget, no_spans, Within, within, same-span, Deep, took, fault, bind, weaken, refused-holds, next, ends, take, close, either, either-by, looks, group}
 use Rattle.es6_reading.proofs.ShallowTokens.{a-word, comma, colon, semicolon-mark, right-parenthesis, right-brace, label, kind-word, lexical-word}
 use Rattle.es6_viability.proofs.Beside.{Both, over, turn, both-same}
 use Rattle.es6_viability.proofs.DeepParts.{Deeper, semicolon_, do_while_end, block, initialized, function, named_function, class}

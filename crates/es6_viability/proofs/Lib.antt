@@ -23,5 +23,10 @@ pub mod DeepReaders
 pub mod DeepItems
 pub mod DeepLaws
 pub mod ShallowLaws
+pub mod Longer
+pub mod LongerExpressions
+pub mod LongerModules
+pub mod LongerReaders
+pub mod TooDeep
 pub mod SpelledAlone
 pub mod AliveAlone

@@ -69,7 +69,7 @@ no-dead inside alive fuel tokens stop rest k final q h dead =
     let r = prefix (q + 1) s.front s.behind a.0 le in
     dead (r.0, a.1, subst (λ ts. SpellsModule ts a.1) (sym r.1 ∙ ap (λ ts. take (q + 1) ts ++ r.0) (sym s.whole)) a.2)
 
-take-next : (front : List Token) (t : Token) (ts : List Token) → take (suc (length front)) (front ++ t ∷ ts) ≡ front ++ t ∷ []
+pub take-next : (front : List Token) (t : Token) (ts : List Token) → take (suc (length front)) (front ++ t ∷ ts) ≡ front ++ t ∷ []
 take-next [] t ts = refl
 take-next (u ∷ front) t ts = ap (λ us. u ∷ us) (take-next front t ts)
 

@@ -2,22 +2,20 @@
 use Rattle.std.proofs.Common.{◌≡◌, ◌∙◌, ℕ, suc, ◌+◌, ◌-◌, ◌≤◌, true, List, [], ◌∷◌, ◌++◌, length, map, ap, sym, refl, subst, arith}
 use Rattle.std.proofs.lemmas.List.{map-append}
 use Rattle.es6_lexer.specs.declared.token.Token.{Token}
-use Rattle.es6_ast.specs.declared.tree.Statement.{Statement}
 use Rattle.es6_ast.specs.Depth.{begin_of_last, closes_group, expression_spans, open_groups, opens_group, statement_spans}
 use Rattle.es6_ast.specs.Tokens.{Filled, read}
 use Rattle.es6_reading.specs.Expressions.{sequence}
 use Rattle.es6_reading.specs.Modules.{readers}
-use Rattle.es6_reading.specs.Parser.{Input, Outcome, Took, Parser, Reading}
+use Rattle.es6_reading.specs.Parser.{Input, Parser, Reading}
 use Rattle.es6_reading.specs.Statements.{statement}
 use Rattle.es6_reading.proofs.Posts.{Holds, of_took, weaken}
 use Rattle.es6_reading.proofs.Shallow.{opens_of, closes_of, Sorted, Walk, stay, step, Ready}
-use Rattle.es6_reading.proofs.ShallowExpressions.{ExpressionAt}
 use Rattle.es6_reading.proofs.ShallowItems.{shallow}
 use Rattle.es6_reading.proofs.ShallowLevels as levels'
 use Rattle.es6_reading.proofs.ShallowStatements as statements'
 use Rattle.es6_reading.proofs.ShallowStatements.{StatementAt}
 use Rattle.es6_reading.proofs.SpanCounts.{around-is, in_expression, in_statement}
-use Rattle.es6_viability.specs.TooDeep.{IsShallowIn, open_in_reading, open_in_statement, ExpressionsAreShallow, StatementsAreShallow}
+use Rattle.es6_viability.specs.TooDeep.{IsShallowIn, open_in_expression, open_in_statement, ExpressionsAreShallow, StatementsAreShallow}
 use Rattle.es6_viability.proofs.DeepLaws.{begin-last, head-of, length-more, sorted, tail-of}
 
 module _ {room low high : ℕ} {D : ℕ → ℕ} where
@@ -63,7 +61,7 @@ module _ {A : Type 0} (count : A → List Token → ℕ) (D : A → ℕ → ℕ)
       length-read (t ∷ ts) = ap (λ n. suc n) (length-read ts)
 
 pub expressions-are-shallow : ExpressionsAreShallow
-expressions-are-shallow fuel room f = shallow-in open_in_reading (λ x. in_expression x.value) (λ x tokens. ap (λ n. open_groups 0 tokens + n) (around-is (expression_spans x.value) (begin_of_last tokens))) room (sequence (readers true fuel room) f)
+expressions-are-shallow fuel room f = shallow-in (λ (x : Reading). open_in_expression x.value) (λ x. in_expression x.value) (λ x tokens. ap (λ n. open_groups 0 tokens + n) (around-is (expression_spans x.value) (begin_of_last tokens))) room (sequence (readers true fuel room) f)
     (λ tokens w. weaken (levels'.sequence (readers true fuel room) room (shallow true fuel room) f (begin-of tokens) (ready-of tokens room w)) (λ x c a. (0, c.last, 0, a.0.walk)))
 
 pub statements-are-shallow : StatementsAreShallow

@@ -17,13 +17,27 @@ use Rattle.es6_reading.specs.Parser.{Reading}
 use Rattle.es6_reading.specs.Statements.{statement}
 use Rattle.es6_reading_laws.specs.Fronts.{EndsThere, Settles}
 
--- An expression that tokens begin with, before what goes on with none, is what is read of them, and exactly its tokens are taken, or
--- a limit stops the reader.
+-- The tokens before the rest spell the expression, or the statement or declaration, and with the rest no expression goes on, and no
+-- `try`, which goes on with a `finally` (13.15).
+abbrev pub IsExpressionBefore : Flags → List Token → Expression → List Token → Type 0
+IsExpressionBefore f tokens x rest = SpellsExpression f level_sequence tokens x rest × EndsThere (map read rest)
+
+abbrev pub IsStatementBefore : Flags → List Token → Statement → List Token → Type 0
+IsStatementBefore f tokens s rest = SpellsStatement f tokens s rest × (BeginWith (Read (Word (codes "finally"))) (map read rest) → ⊥)
+
+-- the tokens begin so with it
+abbrev pub BeginWithExpression : Flags → List Token → Expression → Type 0
+BeginWithExpression f tokens x = (rest : List Token) × IsExpressionBefore f tokens x rest
+
+abbrev pub BeginWithStatement : Flags → List Token → Statement → Type 0
+BeginWithStatement f tokens s = (rest : List Token) × IsStatementBefore f tokens s rest
+
+-- An expression that tokens begin with so is what is read of them, and exactly its tokens are taken, or a limit stops the reader.
 abbrev pub SpelledExpressionsAreRead : Type 0
-SpelledExpressionsAreRead = (fuel room : ℕ) (f : Flags) (tokens rest : List Token) (x : Expression) → SpellsExpression f level_sequence tokens x rest → EndsThere (map read rest)
+SpelledExpressionsAreRead = (fuel room : ℕ) (f : Flags) (tokens rest : List Token) (x : Expression) → IsExpressionBefore f tokens x rest
     → Settles (λ (r : Reading). r.value) x (map read rest) (sequence (readers true fuel room) f (record { tokens = map read tokens; last = 0 }))
 
--- The same of a statement or declaration, behind which no `finally` stands, with which a `try` would go on (13.15).
+-- So is a statement or declaration.
 abbrev pub SpelledStatementsAreRead : Type 0
-SpelledStatementsAreRead = (fuel room : ℕ) (f : Flags) (tokens rest : List Token) (s : Statement) → SpellsStatement f tokens s rest → (BeginWith (Read (Word (codes "finally"))) (map read rest) → ⊥)
+SpelledStatementsAreRead = (fuel room : ℕ) (f : Flags) (tokens rest : List Token) (s : Statement) → IsStatementBefore f tokens s rest
     → Settles (λ (y : Statement). y) s (map read rest) (statement (readers true fuel room) f Listed (record { tokens = map read tokens; last = 0 }))

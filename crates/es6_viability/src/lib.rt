@@ -62,8 +62,8 @@ pub fn spelled_statements_are_read()
     ensures { SpelledStatementsAreRead }
 {}
 
-/// A reader of an expression stops for depth only at a token at which more constructs are open than may be, in whatever expression is
-/// read of tokens that begin with those up to it.
+/// A reader of an expression stops for depth only at a token at which more constructs are open than may be, in whatever expression tokens
+/// of a text spell that begin with those up to it.
 pub fn depth_faults_of_expressions_stand_where_too_many_are_open()
     ensures { ExpressionsAreTooDeep }
 {}

@@ -1,4 +1,4 @@
-use Rattle.es6_viability.proofs.DeepLaws.{expressions-are-too-deep}
+use Rattle.es6_viability.proofs.TooDeep.{expressions-are-too-deep}
 use Rattle.es6_viability.proofs.depth_faults_of_expressions_stand_where_too_many_are_open.Goals as goal
 
 pub returns : goal.returns
