@@ -1,6 +1,9 @@
 -- Small nodes of scripts (ECMA-262, 5.1 edition, 11 to 13). Nothing that is made has a place in a text.
-use Rattle.std.specs.Prelude.{ℕ, cond, nat_eq, codes, List, [], ◌∷◌, ◌++◌, Option, None}
+use Rattle.std.specs.Prelude.{ℕ, Bool, cond, nat_eq, nat_lt, codes, List, [], ◌∷◌, ◌++◌, Option, None}
+use Rattle.std.specs.List.{list_all}
+use Rattle.std.specs.Str.{chars}
 use Rattle.es_text.specs.declared.Span.{Span}
+use Rattle.es_text.specs.Units.{units}
 use Rattle.es_outside.specs.declared.events.Site.{Site}
 use Rattle.core_ast.specs.declared.parts.Key.{Key}
 use Rattle.core_ast.specs.declared.parts.Key.TheVariants as key
@@ -91,20 +94,27 @@ abbrev pub called_by : List ℕ → List Expr5 → Option Site → Expr5
 called_by text arguments site =
     from_name text (link.Member nowhere (codes "call") ∷ link.Call nowhere arguments site ∷ [])
 
--- ---- keys
+-- ---- keys: a word beyond ASCII is no identifier of scripts, so its text stands for it
+
+abbrev pub is_ascii : List ℕ → Bool
+is_ascii word = list_all (λ byte. nat_lt byte 128) word
+
+-- the units of a word, which is UTF-8
+abbrev pub word_units : List ℕ → List ℕ
+word_units word = units (chars word)
 
 unfoldable pub keyed : Key → Link5
-keyed (key.WordKey word) = link.Member nowhere word
+keyed (key.WordKey word) = cond (is_ascii word) (link.Member nowhere word) (link.Index nowhere (text (word_units word)))
 keyed (key.TextKey units) = link.Index nowhere (text units)
 keyed (key.IntegerKey n) = link.Index nowhere (integer n)
 
 unfoldable pub key_value : Key → Expr5
-key_value (key.WordKey word) = text word
+key_value (key.WordKey word) = text (cond (is_ascii word) word (word_units word))
 key_value (key.TextKey units) = text units
 key_value (key.IntegerKey n) = integer n
 
 unfoldable pub key_name : Key → Key5
-key_name (key.WordKey word) = key5.WordKey word
+key_name (key.WordKey word) = cond (is_ascii word) (key5.WordKey word) (key5.TextKey (word_units word))
 key_name (key.TextKey units) = key5.TextKey units
 key_name (key.IntegerKey n) = key5.IntegerKey n
 

@@ -324,9 +324,9 @@ function method_put(o, key, v, is_method) {
   return o;
 }
 
-// an accessor keeps its other half, unless that is one of a recorded key
+// an accessor keeps its other half, unless that is one of a recorded key; mujs gives descriptors of inherited properties too
 function accessor_put(o, key, f, is_setter) {
-  var d = Object.getOwnPropertyDescriptor(o, key), getter, setter;
+  var d = has_own.call(o, key) ? Object.getOwnPropertyDescriptor(o, key) : void 0, getter, setter;
   if (d !== void 0 && !has_own.call(d, 'value')) {
     if (d.get === void 0 || !has_own.call(d.get, '@@recorded')) {
       getter = d.get;
