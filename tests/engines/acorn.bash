@@ -1,4 +1,4 @@
-# Sourced by the checks that hold a program to acorn, the parser that node brings along.
+# Sourced by the checks that use acorn, the parser that node brings along, or the built program.
 cd "$(dirname "${BASH_SOURCE[0]}")/../.." || exit 1
 
 # skip_without_acorn NAME ends the check where node or its acorn is missing.
@@ -18,4 +18,18 @@ hold_to_acorn() {
     (cd "crates/$program" && rt run <stdin >/dev/null 2>&1) || exit 1
   fi
   node --no-deprecation --expose-internals "tests/engines/$name.js" "$PWD/crates/$program/out/$program"
+}
+
+# our_es5c [ES5C] sets es5c to the program that is named, or to ours, which is built first where it is missing or older than its sources.
+our_es5c() {
+  if [ -n "${1:-}" ]; then
+    es5c=$1
+  else
+    # these words are no command
+    ./es5c >/dev/null 2>&1
+    es5c=$PWD/crates/es5c/out/es5c
+  fi
+  [ -x "$es5c" ] || exit 1
+  # where Debian has the package source-map
+  export NODE_PATH=/usr/share/nodejs:/usr/lib/nodejs
 }

@@ -1,9 +1,11 @@
 #!/usr/bin/env bash
 # Builds each module of first/, runs the script in each engine that is there, and compares the events with the expected
-# ones. node runs the module itself too, so that the expected events are those of an engine for ES2015.
+# ones. node runs the module itself too, so that the expected events are those of an engine for ES2015. Usage: first_path.sh [ES5C], where ES5C is a
+# program in place of ours, by its whole path.
 set -u
 here=$(cd "$(dirname "$0")" && pwd)
 root=$(cd "$here/../.." && pwd)
+es5c=${1:-$root/es5c}
 work=$(mktemp -d) || exit 1
 trap 'rm -rf "$work"' EXIT
 passed=0
@@ -46,7 +48,7 @@ for module in "$here"/first/*.js; do
   expected="$here/first/$name.expected"
   answers="$here/first/$name.answers"
   cp "$module" "$work/$name.js"
-  if ! (cd "$work" && "$root/es5c" build "$name.js" >"$name.script"); then
+  if ! (cd "$work" && "$es5c" build "$name.js" >"$name.script"); then
     failed=$((failed + 1))
     echo "engines: $name isn't built" >&2
     continue

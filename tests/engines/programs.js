@@ -2,14 +2,14 @@
 // the hosts' answers and the expected lines; or random programs, whose lines are those of node's own modules.
 // Usage: node --expose-internals --experimental-vm-modules programs.js ES5C folders [NAME ..] | random SEED COUNT
 //
-// Of a folder, `expected` is held to node's own modules too. Where these differ from the rules, the file `why` says so, and that they do
-// differ is seen; `without` has a line `ENGINE: reason` for each small engine that is at fault itself.
+// Of a folder, `expected` is held to node's own modules too. Where these differ from the rules, the file `why` says so; `without` has a line
+// `ENGINE: reason` for each small engine that is at fault itself. That they do differ is seen in both cases.
 'use strict';
 const { spawnSync } = require('child_process');
 const fs = require('fs');
 const os = require('os');
 const path = require('path');
-const { runModules, runScript, runEngine, mappedPlaces, ownPlaces } = require('./programs_run.js');
+const { runModules, runScript, runEngine, mappedPlaces, ownPlaces, hasPackage } = require('./programs_run.js');
 const { randomProgram } = require('./random_programs.js');
 
 const [command, kind, ...rest] = process.argv.slice(2);
@@ -25,29 +25,30 @@ function difference(wanted, got) {
   return null;
 }
 
-// What `build` answers: a script, that the graph isn't built yet, or a fault.
+// What `build` answers: a script or a fault.
 function built(folder) {
   const { status, stdout, stderr, error } = spawnSync(command, ['build', 'main.js'], { cwd: folder, encoding: 'utf8', maxBuffer: 1 << 28 });
   if (error) return { fault: String(error) };
   if (status === 0 && stderr === '') return { script: stdout };
-  if (status === 1 && stdout === '' && /^[^\n]+:\d+:\d+: not built\n$/.test(stderr)) return {};
   return { fault: `status ${status}, ${stderr.trimEnd()}` };
 }
 
 // The faults of a script against the lines that it has to give and the modules' own run.
-function scriptFaults(program, script, modules) {
+async function scriptFaults(program, script, modules) {
   const faults = [];
   const fault = (engine, text) => { if (text) faults.push(`in ${engine} ${text}`); };
   const run = runScript(script, program.answers);
   fault('node', difference(program.expected, run.lines));
   if (run.left.length > 0) fault('node', `the script looks up or changes ${run.left[0]}`);
-  const mapped = mappedPlaces(script, run);
+  const mapped = await mappedPlaces(script, run);
   const own = ownPlaces(program.files, modules);
   if (program.why === undefined) fault('the map', difference(own.places, mapped));
   // the modules' own run is another one, so any call of the host will do
   else mapped.forEach((place, i) => { if (!own.hostCalls.get(run.lines[i].replace(/\(.*/, '')).includes(place)) fault('the map', `event ${i + 1} is at ${place}`); });
   for (const engine of engines) {
-    if (!program.without.includes(engine)) fault(engine, difference(program.expected, runEngine(engine, work, script, program.answers)));
+    if (kind === 'random' && program.without.includes(engine)) continue;
+    const differs = difference(program.expected, runEngine(engine, work, script, program.answers));
+    fault(engine, program.without.includes(engine) ? differs ? null : 'nothing differs, so `without` is needless' : differs);
   }
   return faults;
 }
@@ -85,7 +86,7 @@ function expectedFault(program, modules) {
 }
 
 (async () => {
-  const told = { failed: 0, 'by hand': 0, 'refused by node': 0, 'outside the profile': 0, 'still running': 0, 'not built': 0, alike: 0 };
+  const told = { failed: 0, 'by hand': 0, 'refused by node': 0, 'outside the profile': 0, 'still running': 0, alike: 0 };
   let events = 0;
   const fail = (name, text) => {
     told.failed++;
@@ -106,8 +107,7 @@ function expectedFault(program, modules) {
     events += program.expected.length - 1;
     const { script, fault } = built(program.folder);
     if (fault) { fail(program.name, fault); return; }
-    if (script === undefined) { told['not built']++; return; }
-    const faults = scriptFaults(program, script, modules);
+    const faults = await scriptFaults(program, script, modules);
     if (faults.length > 0) fail(program.name, faults.join('; '));
     else told.alike++;
   };
@@ -123,6 +123,6 @@ function expectedFault(program, modules) {
   }
   const out = `${told['refused by node']} refused by node, ${told['outside the profile']} outside the profile and ${told['still running']} still running left out`;
   console.log(`programs: ${programs} ${kind === 'random' ? `random, ${out}` : `folders, ${told['by hand']} expected by hand`}, ${events} events; ` +
-    `${told['not built']} not built, ${told.alike} alike in ${['node', ...engines].join(', ')}, ${told.failed} failed`);
+    `${told.alike} alike in ${['node', ...engines].join(', ')}, places ${hasPackage ? 'also by the package source-map' : 'by node alone'}, ${told.failed} failed`);
   process.exitCode = told.failed === 0 ? 0 : 1;
 })();

@@ -125,19 +125,40 @@ function runScript(text, answers) {
   return run;
 }
 
-// The places of the script's events in the modules, by its inline map and node's own reader of maps.
-function mappedPlaces(text, run) {
+const library = (() => {
+  try { return require('source-map'); } catch (error) { return null; }
+})();
+
+// The targets of a map's segments by their places, as the package source-map reads them; nothing where it isn't there.
+async function packageTargets(map) {
+  if (!library) return null;
+  const targets = new Map();
+  const consumer = await new library.SourceMapConsumer(map);
+  consumer.eachMapping(({ generatedLine, generatedColumn, source, originalLine, originalColumn }) => {
+    targets.set(`${generatedLine}:${generatedColumn}`, `${source}:${originalLine}:${originalColumn}`);
+  });
+  if (consumer.destroy) consumer.destroy();
+  return targets;
+}
+
+// The places of the script's events in the modules, by its inline map, node's own reader of maps and the package source-map.
+async function mappedPlaces(text, run) {
   const line = text.trimEnd().split('\n').pop();
   const front = '//# sourceMappingURL=data:application/json;base64,';
   if (!line.startsWith(front)) return run.places.map(() => 'no map');
-  const map = new SourceMap(JSON.parse(Buffer.from(line.slice(front.length), 'base64').toString('utf8')));
+  const read = JSON.parse(Buffer.from(line.slice(front.length), 'base64').toString('utf8'));
+  const map = new SourceMap(read);
+  const targets = await packageTargets(read);
   const { calls } = callsOf(text, 'script');
   return run.places.map(([, place]) => {
     if (!calls.has(place)) return `no call at ${place} of the script`;
-    const [line, column] = calls.get(place).start.split(':').map(Number);
+    const start = calls.get(place).start;
+    const [line, column] = start.split(':').map(Number);
     const entry = map.findEntry(line - 1, column);
-    if (entry.generatedLine !== line - 1 || entry.generatedColumn !== column) return `no segment at ${line}:${column} of the script`;
-    return `${entry.originalSource}:${entry.originalLine + 1}:${entry.originalColumn}`;
+    if (entry.generatedLine !== line - 1 || entry.generatedColumn !== column) return `no segment at ${start} of the script`;
+    const target = `${entry.originalSource}:${entry.originalLine + 1}:${entry.originalColumn}`;
+    if (targets && targets.get(start) !== target) return `${target} by node and ${targets.get(start)} by the package source-map`;
+    return target;
   });
 }
 
@@ -178,4 +199,4 @@ say(ending);
   return stderr ? [...lines, ...stderr.trimEnd().split('\n')] : lines;
 }
 
-module.exports = { runModules, runScript, runEngine, mappedPlaces, ownPlaces };
+module.exports = { runModules, runScript, runEngine, mappedPlaces, ownPlaces, hasPackage: library !== null };

@@ -1,0 +1,13 @@
+import { print } from "host";
+let a = [1, 2, 3]; a.length = 1; a[3] = 4; print(a.length, 1 in a, a.join("-"), a.indexOf(undefined), a.includes(undefined));
+let seen = ""; a.forEach((v, i, all) => { seen += i + ":" + v + ","; if (i === 0) { all.push(9); all[1] = "new"; } }); print(seen, a.length);
+for (const v of a) { if (a.length < 8) a.push(v + "x"); } print(a.join());
+a[Symbol.iterator] = function* () { yield "own"; yield this.length; };
+print([...a].join(), ((...r) => r.length)(...a), (([x]) => x)(a)); for (const v of a) print(v); function* g() { yield* a; } print([...g()].length);
+delete a[Symbol.iterator]; print([...a].length, a.pop(), a.pop(), [].pop(), a.push(), a.push(1, 2));
+let h = [, 1, , 2, ,]; print(h.length, 0 in h, 1 in h, [...h].length, 0 in [...h], h.join("|")); let n = 0; h.forEach(() => n++); print(n, h.indexOf(undefined), h.includes(undefined));
+let [p, , q = "d", ...r] = h; print(p, q, r.length, r[0]);
+print([[1, 2], [3]].toString(), [null, [undefined]].join("."), [].join(), [1].join("x"), Array.isArray(a), Array.isArray({}), Array.isArray("a"));
+print([1, 2, 3].indexOf(2, -1), [1, 2, 3].indexOf(1, -3), [1, 2, 3].includes(3, -1), "abcabc".indexOf("c", 3), "abc".substring(2, 0), "abc".substring(1), "abc".charAt(5), "abc".charCodeAt(1));
+let args = []; [5].forEach(function (v) { args.push(this.t, v); }, { t: "this" }); print(args.join());
+let nested = [1, ...[2, ...[3, ...["x"]]], ...""]; print(nested.join());

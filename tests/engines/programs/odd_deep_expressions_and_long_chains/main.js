@@ -1,0 +1,10 @@
+import { print } from "host";
+let o = { n: 0, add(v) { this.n += v; return this; }, get self() { return this; } };
+print(o.add(1).add(2).self.add(3).self.self.add(4).add(5).add(6).add(7).add(8).add(9).self.n);
+let v = 3; print(v === 0 ? "a" : v === 1 ? "b" : v === 2 ? "c" : v === 3 ? "d" : v === 4 ? "e" : "f", ((((((((((v)))))))))));
+print(1 + 2 - 3 * 4 % 5 + (6 - (7 - (8 - (9 - 10)))) + - + - 11 + ~~12 + !13 + !!14, 2 ** 2 ** 3, (2 ** 3) ** 2, (-2) ** 3);
+let a, b, c; a = b = c = [1]; print(a === c); a = (b, c = 2, b = 3, a); print(a === 1, b, c); let { x = a, y = x } = { y: undefined }; print(x === y);
+const f = (a) => (b) => (c) => (d) => a + b + c + d; print(f(1)(2)(3)(4)); print((() => ({}))() !== undefined, (() => { })() === undefined, (a => a)(5), ((a, b) => { return a + b; })(1, 2));
+print([[[[[1]]]]][0][0][0][0][0], { a: { b: { c: { d: [() => ({ e: 5 })] } } } }.a.b.c.d[0]().e, ((x) => x ? [x] : 0)(1)[0]);
+var i = 0; print(i++ + i++ * ++i - i-- - --i, i, i += i++ + ++i, i -= -(-i), i);
+print(1 < 2 === true, !1 == 0, typeof typeof 1, - -1, +-+1, void 0 === undefined, "a" in { a: 1 } && !("b" in {}), 5 & 6 | 1 ^ 2, 1 << 2 + 1, 8 >> 1 >>> 1);

@@ -1,0 +1,1 @@
+export default class extends (class { constructor() { this.a = "anonymous"; } }) { }

@@ -1,0 +1,1 @@
+export default class Named { static name2() { return typeof Named; } }

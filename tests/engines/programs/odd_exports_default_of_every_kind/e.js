@@ -1,0 +1,3 @@
+let e = 1;
+export default e + 1;
+e = 5;

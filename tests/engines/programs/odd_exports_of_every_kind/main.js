@@ -1,0 +1,11 @@
+import { print } from "host";
+import d, { v, l, k, f, g as gen, C, x as y, default as again, s } from "./kinds.js";
+import * as all from "./kinds.js";
+import * as through from "./through.js";
+import { kinds, default as own } from "./through.js";
+print(v, l, k, f(), gen().next().value, new C().m(), y, d(), again === d, s);
+print(all.v, all.x, all.f(), all.default(), all === through.kinds, all === kinds);
+print(own, through.own2, through.star, through.v, through.renamed, typeof through.C, through.named, "default" in through);
+print(through.p, through.q.r, through.each.join(), through.fn(), through.fn === through.alias);
+import { a1, b1 } from "./patterns.js";
+print(a1, b1);

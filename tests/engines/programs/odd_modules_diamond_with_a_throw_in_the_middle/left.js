@@ -1,0 +1,3 @@
+import { print } from "host";
+import { n, up } from "./base.js";
+up(); print("left", n);

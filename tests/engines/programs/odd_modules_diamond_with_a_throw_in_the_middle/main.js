@@ -1,0 +1,4 @@
+import { print } from "host";
+import "./left.js";
+import "./right.js";
+print("never");
