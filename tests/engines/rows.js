@@ -71,9 +71,10 @@ async function faultOf(row) {
   const differs = difference(row, events.lines) || !row.leaves && events.left.length > 0 && `it leaves at ${events.left[0]}`;
   if (differs) return `in node ${differs}`;
   for (const engine of engines) {
-    if ((row.without || []).includes(engine)) continue;
+    const reason = (row.without || {})[engine];
     const differs = difference(row, runEngine(engine, work, script, row.answers || {}));
-    if (differs) return `in ${engine} ${differs}`;
+    if (differs && !reason) return `in ${engine} ${differs}`;
+    if (!differs && reason) return `in ${engine} nothing differs, so \`without\` is needless`;
   }
   return mapFault(row, folder, script, events);
 }
