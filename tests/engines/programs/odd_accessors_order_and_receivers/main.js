@@ -7,7 +7,6 @@ let p = { get [log("k1", "x")]() { return "x1"; }, set [log("k2", "x")](v) { pri
 p.x = 1; print(p.x, p.y, p.z);
 let q = { a: 1, get a() { return 2; }, b: 1, set b(v) { }, get c() { return 1; }, c: 3 }; print(q.a, q.b, q.c);
 try { q.a = 1; } catch (e) { print(e instanceof TypeError); }
-try { "use strict"; (5).x = 1; } catch (e) { print(e instanceof TypeError); }
 try { "abc".length = 1; } catch (e) { print(e instanceof TypeError); }
 try { "abc"[0] = "x"; } catch (e) { print(e instanceof TypeError); }
 try { delete [].length; } catch (e) { print(e instanceof TypeError); }
