@@ -29,7 +29,7 @@ use Rattle.core_meaning.specs.Names.{initialized}
 use Rattle.core_meaning.specs.Rows.{Entered, Given, Next, Rows, calls, controls, leaves, operates, or_else, place_of, pushed, raises, unlawful, with_control, with_heap, with_option, with_record}
 use Rattle.core_meaning.specs.State.{After, Binding, Call, Closure, Completion, CoreValue, Current, Environment, Gives, Hand, Has, Hosted, Made, Making, Method, Sorts, State, Strict, Throws, Turn, User}
 
--- ---- hosts (M25): an object among the arguments is a TypeError, and no event
+-- ---- hosts: an object among the arguments is a TypeError, and no event
 
 abbrev pub reply_of : {s : Sorts} → Reply → Completion s
 reply_of (reply.Give p) = Gives (User (of_prim p))

@@ -85,7 +85,7 @@ abbrev pub with_record : {s : Sorts} {S : Type 0} → List (Binding s) → State
 with_record bindings st =
     within (length st.records ∷ st.context.environment) (record st { records = st.records ++ bindings ∷ [] })
 
--- ---- where a step stands: the innermost call under way has a site (M26), or the context was made by one
+-- ---- where a step stands: the innermost call under way has a site, or the context was made by one
 
 abbrev pub site_in : {s : Sorts} → Frame s → Option Site
 site_in (Part p) = p.site
