@@ -86,7 +86,7 @@ abbrev pub is_taken : List (List ℕ) → List ℕ → Bool
 is_taken taken name = not (nat_eq (number_of_name taken name) (number_of_name taken []))
 
 abbrev pub is_free : List (List ℕ) → List ℕ → Bool
-is_free taken hint = ((is_ascii_identifier hint && not (has_dollar hint)) && not (is_word hint)) && not (is_taken taken hint)
+is_free taken hint = ((is_ascii_identifier hint && not (has_dollar hint)) && not (is_taken taken hint)) && not (is_word hint)
 
 abbrev pub hint_name : List ℕ → List (List ℕ) → ℕ → List ℕ → List ℕ
 hint_name sign taken n hint = cond (is_free taken hint) hint (numbered sign hint n)

@@ -342,7 +342,7 @@ fn numbered(alloc: Global, sign: &[u8], hint: &[u8], number: usize) -> Result<Na
 fn is_free<'a>(taken: &NumberedNames<'a>, hint: &'a [u8]) -> bool
     ensures { result ≡ is_free taken.now hint.now }
 {
-    is_identifier(hint) & !has_dollar(hint) & !is_word(hint) & !is_taken(taken, hint)
+    is_identifier(hint) && !has_dollar(hint) && !is_taken(taken, hint) && !is_word(hint)
 }
 
 fn hint_text(hint: &Option<Name>) -> &[u8]

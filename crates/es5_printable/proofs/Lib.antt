@@ -7,4 +7,5 @@ pub mod Every
 pub mod Trees
 pub mod Converse
 pub mod Printed
+pub mod Reserved
 pub mod Split

@@ -2,6 +2,7 @@
 
 ghost use Rattle.std.specs.Prelude.{◌≡◌, nat_lt};
 ghost use Rattle.std.specs.List.{list_all};
+ghost use Rattle.std.specs.Char.{is_ascii_lowercase};
 ghost use Rattle.es5_ast.specs.Grammar.{is_identifier};
 ghost use Rattle.es5_ast.specs.Lexical.{is_identifier_name, is_identifier_part, is_identifier_start, is_one_of, reserved_words};
 ghost use Rattle.es5_printable.specs.Printable.{are_units, is_integer, is_key, is_literal, is_name, is_strict_text, label_fits, names_fit};
@@ -45,10 +46,17 @@ pub(crate) fn is_identifier_name(name: &Name) -> bool
     }
 }
 
+/// Whether all are small letters, as those of each reserved word are: most names are told from these by that.
+fn are_small(bytes: &[u8]) -> bool
+    ensures { result ≡ list_all is_ascii_lowercase bytes.now }
+{
+    bytes.iter().all(|byte| byte.is_ascii_lowercase())
+}
+
 fn is_reserved(name: &[u8]) -> bool
     ensures { result ≡ is_one_of name.now reserved_words }
 {
-    is_one_of(name, &RESERVED_WORDS)
+    are_small(name) && is_one_of(name, &RESERVED_WORDS)
 }
 
 /// An identifier: a name that is no reserved word (7.6).
