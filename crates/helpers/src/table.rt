@@ -22,26 +22,21 @@ pub const TEMPLATES: [Row; 8] = [
 ];
 
 pub const GENERATORS: [Row; 9] = [
-    &[
-        b"generator_make",
-        b"is_object",
-        b"generator_prototype",
-        b"hidden_put",
-    ],
+    &[b"generator_make", b"is_object", b"generator_prototype"],
     &[b"generator_function", b"generator_prototype"],
     &[b"generator_prototype", b"generator_resume", b"return_self"],
     &[b"generator_resume", b"is_object", b"has_own"],
     &[b"super_get", b"get_from", b"super_base"],
     &[b"super_base", b"has_own"],
-    &[b"accessor_put", b"has_own", b"hidden_put", b"note_key"],
-    &[b"method_put", b"plain_put", b"hidden_put", b"note_key"],
+    &[b"accessor_put", b"has_own", b"note_key"],
+    &[b"method_put", b"plain_put", b"note_key"],
     &[b"note_key", b"has_own"],
 ];
 
 pub const CLASSES: [Row; 9] = [
-    &[b"class_make", b"is_object", b"hidden_put", b"record_keys"],
+    &[b"class_make", b"is_object", b"record_keys"],
     &[b"record_keys", b"has_own", b"record_key"],
-    &[b"record_key", b"get_from", b"set_from", b"hidden_put"],
+    &[b"record_key", b"get_from", b"set_from"],
     &[b"set_from", b"has_own", b"plain_put"],
     &[b"get_from", b"has_own", b"array_values", b"string_values"],
     &[b"this_bind"],
@@ -60,7 +55,7 @@ pub const LISTS: [Row; 8] = [
         b"check_ready",
     ],
     &[b"pending"],
-    &[b"arguments_put", b"hidden_put", b"array_values"],
+    &[b"arguments_put", b"array_values"],
     &[b"spread_list", b"iter_start", b"iter_step", b"iter_value"],
     &[b"rest_list"],
     &[b"iter_close", b"method_of", b"is_object"],
@@ -77,18 +72,8 @@ pub const ITERATORS: [Row; 8] = [
         b"is_object",
         b"array_values",
     ],
-    &[
-        b"string_values",
-        b"is_nothing",
-        b"string_iterator_prototype",
-        b"hidden_put",
-    ],
-    &[
-        b"array_values",
-        b"is_nothing",
-        b"array_iterator_prototype",
-        b"hidden_put",
-    ],
+    &[b"string_values", b"is_nothing", b"string_iterator_prototype"],
+    &[b"array_values", b"is_nothing", b"array_iterator_prototype"],
     &[
         b"string_iterator_prototype",
         b"is_object",
@@ -104,13 +89,12 @@ pub const ITERATORS: [Row; 8] = [
     &[b"return_self"],
 ];
 
-pub const VALUES: [Row; 10] = [
+pub const VALUES: [Row; 9] = [
     &[b"to_text"],
     &[b"cell_make"],
     &[b"refuse_const"],
     &[b"check_ready"],
     &[b"method_of", b"is_nothing"],
-    &[b"hidden_put"],
     &[b"plain_put", b"has_own"],
     &[b"is_nothing"],
     &[b"is_object"],

@@ -8,7 +8,7 @@ ghost use Rattle.helpers.specs.Text.{text_bytes};
 ///
 /// A script that takes some of these defines besides `empty`, the mark of an uninitialized name, and `call` and `apply`, those of
 /// Function.prototype. It has no other names in common with the text, but for the globals of both editions. Properties that helpers
-/// alone know have keys that begin with `@@`.
+/// alone know have keys that begin with `@@`; they are put as any other, which is fast, since no module can tell what is enumerable.
 const TEXT: &[u8] = b"'use strict';
 
 // ---- objects
@@ -25,10 +25,6 @@ function is_nothing(v) { return v === void 0 || v === null; }
 function plain_put(o, key, v) {
   if (has_own.call(o, key)) delete o[key];
   Object.defineProperty(o, key, {value: v, writable: true, enumerable: true, configurable: true});
-}
-
-function hidden_put(o, key, v) {
-  Object.defineProperty(o, key, {value: v, writable: true, configurable: true});
 }
 
 // GetMethod (7.3.9)
@@ -100,7 +96,7 @@ function array_values() {
   var iterator;
   if (is_nothing(this)) throw new TypeError();
   iterator = Object.create(array_iterator_prototype);
-  hidden_put(iterator, '@@array', {of: this, next: 0, done: false});
+  iterator['@@array'] = {of: this, next: 0, done: false};
   return iterator;
 }
 
@@ -110,7 +106,7 @@ function string_values() {
   if (is_nothing(this)) throw new TypeError();
   text = String(this);
   iterator = Object.create(string_iterator_prototype);
-  hidden_put(iterator, '@@string', {of: text, next: 0});
+  iterator['@@string'] = {of: text, next: 0};
   return iterator;
 }
 
@@ -180,7 +176,7 @@ function spread_list(list, v, mark) {
 }
 
 function arguments_put(passed) {
-  hidden_put(passed, '@@iterator', array_values);
+  passed['@@iterator'] = array_values;
   return passed;
 }
 
@@ -273,7 +269,7 @@ function set_from(o, key, receiver, v) {
 // a static member of the parent is read and written there, with the present receiver
 function record_key(f, parent, key) {
   var getter = function () { return get_from(parent, key, this); };
-  hidden_put(getter, '@@recorded', true);
+  getter['@@recorded'] = true;
   f['@@keys'].push(key);
   Object.defineProperty(f, key, {
     get: getter,
@@ -298,13 +294,13 @@ function class_make(derived, parent, f) {
     if (typeof parent !== 'function') throw new TypeError();
     above = parent.prototype;
     if (!is_object(above) && above !== null) throw new TypeError();
-    hidden_put(f, '@@parent', parent);
+    f['@@parent'] = parent;
   }
   prototype = Object.create(above);
-  hidden_put(prototype, 'constructor', f);
+  Object.defineProperty(prototype, 'constructor', {value: f, writable: true, configurable: true});
   Object.defineProperty(f, 'prototype', {value: prototype, writable: false});
-  hidden_put(f, '@@home', prototype);
-  hidden_put(f, '@@keys', []);
+  f['@@home'] = prototype;
+  f['@@keys'] = [];
   if (derived) record_keys(f, parent);
   return f;
 }
@@ -318,7 +314,7 @@ function note_key(o, key) {
 function method_put(o, key, v, is_method) {
   plain_put(o, key, v);
   if (is_method) {
-    hidden_put(v, '@@home', o);
+    v['@@home'] = o;
     note_key(o, key);
   }
   return o;
@@ -337,7 +333,7 @@ function accessor_put(o, key, f, is_setter) {
   else getter = f;
   if (d !== void 0) delete o[key];
   Object.defineProperty(o, key, {get: getter, set: setter, enumerable: true, configurable: true});
-  hidden_put(f, '@@home', o);
+  f['@@home'] = o;
   note_key(o, key);
   return o;
 }
@@ -395,7 +391,7 @@ function generator_function(f) {
 
 function generator_make(f, step) {
   var prototype = f.prototype, g = Object.create(is_object(prototype) ? prototype : generator_prototype);
-  hidden_put(g, '@@generator', {step: step, at: 0});
+  g['@@generator'] = {step: step, at: 0};
   return g;
 }
 
