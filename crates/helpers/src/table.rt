@@ -18,7 +18,13 @@ pub const TEMPLATES: [Row; 8] = [
     &[b"includes_put"],
     &[b"power"],
     &[b"namespace_make"],
-    &[b"delegate_step", b"method_of", b"iter_close", b"is_object"],
+    &[
+        b"delegate_step",
+        b"iter_step",
+        b"method_of",
+        b"iter_close",
+        b"is_object",
+    ],
 ];
 
 pub const GENERATORS: [Row; 9] = [
@@ -64,7 +70,7 @@ pub const LISTS: [Row; 8] = [
 
 pub const ITERATORS: [Row; 8] = [
     &[b"iter_step", b"is_object"],
-    &[b"iter_start", b"iter_read", b"is_object"],
+    &[b"iter_start", b"iter_read", b"is_object", b"array_values"],
     &[
         b"iter_read",
         b"is_nothing",

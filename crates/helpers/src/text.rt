@@ -124,19 +124,33 @@ function iter_read(v) {
   return void 0;
 }
 
-// GetIterator (7.4.1); in mode 1 the method alone
+// GetIterator (7.4.1); in mode 1 the method alone. A cursor stands for an array's iterator, which nothing but iter_step, iter_close and
+// delegate_step meets here: no module can change what its prototype has
 function iter_start(v, mode) {
   var method = iter_read(v), iterator;
   if (mode === 1) return method;
+  if (method === array_values) return {'@@at': 0, of: v, value: void 0};
   if (typeof method !== 'function') throw new TypeError();
   iterator = call.call(method, v);
   if (!is_object(iterator)) throw new TypeError();
   return iterator;
 }
 
-// IteratorStep (7.4.5): the result object, or false
+// IteratorStep (7.4.5): an object that has the value, or false
 function iter_step(iterator) {
-  var result = iterator.next();
+  var at = iterator['@@at'], of, result;
+  if (at !== void 0) {
+    of = iterator.of;
+    if (of === null) return false;
+    if (at >= +of.length) {
+      iterator.of = null;
+      return false;
+    }
+    iterator['@@at'] = at + 1;
+    iterator.value = of[at];
+    return iterator;
+  }
+  result = iterator.next();
   if (!is_object(result)) throw new TypeError();
   return result.done ? false : result;
 }
@@ -145,7 +159,9 @@ function iter_value(result) { return result.value; }
 
 // IteratorClose (7.4.6); whether a throw is under way, which then stands
 function iter_close(iterator, throws) {
-  var method = method_of(iterator, 'return'), result;
+  var method, result;
+  if (iterator['@@at'] !== void 0) return;
+  method = method_of(iterator, 'return');
   if (method === void 0) return;
   if (throws) {
     try { call.call(method, iterator); } catch (ignored) { }
@@ -398,6 +414,11 @@ function generator_make(f, step) {
 // the result object of one step of `yield*` (14.4.14), or undefined where the iterator has no `return`
 function delegate_step(iterator, kind, value) {
   var method, result;
+  if (iterator['@@at'] !== void 0) {
+    if (kind === 2) return void 0;
+    if (kind === 1) throw new TypeError();
+    return iter_step(iterator) ? {value: iterator.value, done: false} : {value: void 0, done: true};
+  }
   if (kind === 0) result = iterator.next(value);
   else {
     method = method_of(iterator, kind === 1 ? 'throw' : 'return');
