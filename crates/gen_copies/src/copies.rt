@@ -26,7 +26,7 @@ pub fn copied_expr(alloc: Global, source: &CoreExpr) -> Result<CoreExpr, AllocEr
 fn links(alloc: Global, source: &[CoreLink]) -> Result<Items<CoreLink>, AllocError>
     ensures { IfOk result (λ xs. xs ≡ map link_whole source.now) }
 {
-    let mut made = Items::new(alloc);
+    let mut made = Items::from_vec(Vec::with_capacity(alloc, source.len())?);
     for one in source {
         made.push(link(alloc, one)?)?;
     }
@@ -90,7 +90,7 @@ fn choice(
 fn exprs(alloc: Global, source: &[CoreExpr]) -> Result<Items<CoreExpr>, AllocError>
     ensures { IfOk result (λ xs. xs ≡ map expr_whole source.now) }
 {
-    let mut made = Items::new(alloc);
+    let mut made = Items::from_vec(Vec::with_capacity(alloc, source.len())?);
     for one in source {
         made.push(copied_expr(alloc, one)?)?;
     }
@@ -113,7 +113,7 @@ fn case(alloc: Global, source: &CoreCase) -> Result<CoreCase, AllocError>
 fn cases(alloc: Global, source: &[CoreCase]) -> Result<Items<CoreCase>, AllocError>
     ensures { IfOk result (λ xs. xs ≡ whole_cases (map branch source.now)) }
 {
-    let mut made = Items::new(alloc);
+    let mut made = Items::from_vec(Vec::with_capacity(alloc, source.len())?);
     for one in source {
         made.push(case(alloc, one)?)?;
     }
@@ -124,7 +124,7 @@ fn cases(alloc: Global, source: &[CoreCase]) -> Result<Items<CoreCase>, AllocErr
 fn stats(alloc: Global, source: &[CoreStat]) -> Result<Items<CoreStat>, AllocError>
     ensures { IfOk result (λ xs. xs ≡ wholes (map part source.now)) }
 {
-    let mut made = Items::new(alloc);
+    let mut made = Items::from_vec(Vec::with_capacity(alloc, source.len())?);
     for one in source {
         made.push(copied_stat(alloc, one)?)?;
     }

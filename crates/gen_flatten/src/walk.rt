@@ -27,14 +27,19 @@ fn say(spilled: Spilled, out: &mut Items<CoreStat>) -> Result<CoreExpr, AllocErr
     Ok(rest)
 }
 
-/// A head alone, with the site of its expression.
-fn begun(alloc: Global, site: Option<Site>, head: &CoreHead) -> Result<Chain, AllocError>
+/// A head alone, with the site of its expression, and room for so many links.
+fn begun(
+    alloc: Global,
+    site: Option<Site>,
+    head: &CoreHead,
+    room: usize,
+) -> Result<Chain, AllocError>
     ensures { IfOk result (λ c. c ≡ begun site head.now) }
 {
     let base = CoreExpr {
         site,
         head: head.copy(alloc)?,
-        links: Items::new(alloc),
+        links: Items::from_vec(Vec::with_capacity(alloc, room)?),
     };
     Ok(going_on(Items::new(alloc), base))
 }
@@ -52,7 +57,7 @@ fn run(alloc: Global, chain: Chain) -> Result<Items<CoreStat>, AllocError>
 fn expr(alloc: Global, place: Place, source: &CoreExpr) -> Result<Spilled, AllocError>
     ensures { IfOk result (λ s. s ≡ expr_spilled source.now place) }
 {
-    let begin = begun(alloc, source.site, &source.head)?;
+    let begin = begun(alloc, source.site, &source.head, source.links.len())?;
     let chain = links(alloc, place, source.links.as_slice(), begin)?;
     finished(alloc, chain)
 }
@@ -125,7 +130,7 @@ fn exprs(
     ensures { IfOk result (λ t. t ≡ parts_settled place op.now (map expr_spilled source.now)) }
 {
     let begin = deeper(place, room(op))?;
-    let mut made = Vec::new(alloc);
+    let mut made = Vec::with_capacity(alloc, source.len())?;
     let mut at = begin;
     for one in source {
         made.push(expr(alloc, at, one)?)?;
@@ -160,7 +165,7 @@ fn cases(
 ) -> Result<Vec<SpilledCase>, AllocError>
     ensures { IfOk result (λ cs. cs.items ≡ cases_at (map case_spilled source.now) test_place place) }
 {
-    let mut made = Vec::new(alloc);
+    let mut made = Vec::with_capacity(alloc, source.len())?;
     for one in source {
         made.push(case(alloc, test_place, one, place)?)?;
     }
@@ -176,7 +181,7 @@ pub(crate) fn block(
 ) -> Result<Items<CoreStat>, AllocError>
     ensures { IfOk result (λ xs. xs ≡ stats_spilled source.now place) }
 {
-    let mut made = Items::new(alloc);
+    let mut made = Items::from_vec(Vec::with_capacity(alloc, source.len())?);
     stats(alloc, place, source, &mut made)?;
     Ok(made)
 }

@@ -24,7 +24,7 @@ pub fn settled(alloc: Global, place: Place, parts: Vec<Spilled>) -> Result<Settl
     let last = behind_last(parts.as_slice())?;
     let begin = Settled {
         before: Items::new(alloc),
-        parts: Items::new(alloc),
+        parts: Items::from_vec(Vec::with_capacity(alloc, parts.len())?),
     };
     settle(alloc, place, last, VecDeque::from_vec(parts), begin)
 }

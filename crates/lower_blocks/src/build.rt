@@ -65,29 +65,36 @@ fn copies(alloc: Global, owners: &[usize], vars: &[Var]) -> Result<Items<CoreLin
     Ok(links)
 }
 
-fn read(alloc: Global, owners: &[usize], var: Var) -> Result<Items<CoreLink>, AllocError>
+/// The content of a cell, with room for so many links more.
+fn read(
+    alloc: Global,
+    owners: &[usize],
+    var: Var,
+    room: usize,
+) -> Result<Items<CoreLink>, AllocError>
     ensures { IfOk result (λ xs. xs ≡ cond (is_shared owners.now var) (act op.Content ∷ []) []) }
 {
-    let mut links = Items::new(alloc);
+    let mut links = Items::from_vec(Vec::with_capacity(alloc, room)?);
     if is_shared(owners, var) {
         links.push(act(alloc, CoreOp::Content))?;
     }
     Ok(links)
 }
 
-/// What an expression begins with.
+/// What an expression begins with, with room for so many links.
 #[tactic(auto, unfolding(pass_rules::specs::Scopes::begun))]
 pub(crate) fn begun(
     alloc: Global,
     owners: &[usize],
     site: Option<Site>,
     head: &CoreHead,
+    room: usize,
 ) -> Result<CoreExpr, AllocError>
     ensures { IfOk result (λ x. x ≡ begun owners.now site head.now) }
 {
     match head {
         CoreHead::Variable(var) => {
-            let links = read(alloc, owners, *var)?;
+            let links = read(alloc, owners, *var, room)?;
             Ok(CoreExpr {
                 site,
                 head: CoreHead::Variable(*var),
@@ -102,7 +109,7 @@ pub(crate) fn begun(
         _ => Ok(CoreExpr {
             site,
             head: head.copy(alloc)?,
-            links: Items::new(alloc),
+            links: Items::from_vec(Vec::with_capacity(alloc, room)?),
         }),
     }
 }

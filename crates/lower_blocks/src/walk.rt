@@ -16,7 +16,13 @@ use std::alloc::{AllocError, Global};
 fn expr(alloc: Global, owners: &[usize], source: &CoreExpr) -> Result<CoreExpr, AllocError>
     ensures { IfOk result (λ x. x ≡ expr_flat owners.now source.now) }
 {
-    let begin = begun(alloc, owners, source.site, &source.head)?;
+    let begin = begun(
+        alloc,
+        owners,
+        source.site,
+        &source.head,
+        source.links.len(),
+    )?;
     links(alloc, owners, source.links.as_slice(), begin)
 }
 
@@ -105,7 +111,7 @@ fn exprs(
 ) -> Result<Items<CoreExpr>, AllocError>
     ensures { IfOk result (λ xs. xs ≡ map (expr_flat owners.now) source.now) }
 {
-    let mut made = Items::new(alloc);
+    let mut made = Items::from_vec(Vec::with_capacity(alloc, source.len())?);
     for one in source {
         made.push(expr(alloc, owners, one)?)?;
     }
@@ -132,7 +138,7 @@ fn cases(
 ) -> Result<Items<CoreCase>, AllocError>
     ensures { IfOk result (λ xs. xs ≡ map (case_flat owners.now) source.now) }
 {
-    let mut made = Items::new(alloc);
+    let mut made = Items::from_vec(Vec::with_capacity(alloc, source.len())?);
     for one in source {
         made.push(case(alloc, owners, one)?)?;
     }
@@ -148,7 +154,7 @@ pub(crate) fn block(
 ) -> Result<Items<CoreStat>, AllocError>
     ensures { IfOk result (λ xs. xs ≡ stats_flat owners.now source.now) }
 {
-    let mut made = Items::new(alloc);
+    let mut made = Items::from_vec(Vec::with_capacity(alloc, source.len())?);
     stats(alloc, owners, source, &mut made)?;
     Ok(made)
 }
