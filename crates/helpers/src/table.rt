@@ -78,7 +78,11 @@ pub const ITERATORS: [Row; 8] = [
         b"is_object",
         b"array_values",
     ],
-    &[b"string_values", b"is_nothing", b"string_iterator_prototype"],
+    &[
+        b"string_values",
+        b"is_nothing",
+        b"string_iterator_prototype",
+    ],
     &[b"array_values", b"is_nothing", b"array_iterator_prototype"],
     &[
         b"string_iterator_prototype",

@@ -16,13 +16,7 @@ use std::alloc::{AllocError, Global};
 fn expr(alloc: Global, owners: &[usize], source: &CoreExpr) -> Result<CoreExpr, AllocError>
     ensures { IfOk result (λ x. x ≡ expr_flat owners.now source.now) }
 {
-    let begin = begun(
-        alloc,
-        owners,
-        source.site,
-        &source.head,
-        source.links.len(),
-    )?;
+    let begin = begun(alloc, owners, source.site, &source.head, source.links.len())?;
     links(alloc, owners, source.links.as_slice(), begin)
 }
 
