@@ -71,13 +71,7 @@ pub const LISTS: [Row; 8] = [
 pub const ITERATORS: [Row; 8] = [
     &[b"iter_step", b"is_object"],
     &[b"iter_start", b"iter_read", b"is_object", b"array_values"],
-    &[
-        b"iter_read",
-        b"is_nothing",
-        b"string_values",
-        b"is_object",
-        b"array_values",
-    ],
+    &[b"iter_read", b"string_values", b"array_values"],
     &[
         b"string_values",
         b"is_nothing",

@@ -113,9 +113,9 @@ function string_values() {
 // v[Symbol.iterator]: the two objects of the library that have the key can't be changed
 function iter_read(v) {
   var o;
-  if (is_nothing(v)) throw new TypeError();
+  if (v === void 0 || v === null) throw new TypeError();
   if (typeof v === 'string') return string_values;
-  if (!is_object(v)) return void 0;
+  if (typeof v !== 'object' && typeof v !== 'function') return void 0;
   if ('@@iterator' in v) return v['@@iterator'];
   for (o = v; o !== null; o = Object.getPrototypeOf(o)) {
     if (o === Array.prototype) return array_values;
@@ -181,12 +181,13 @@ function rest_list(passed, from) {
 
 // by the mark one element (0), those of an iterable (1), or a hole (2) more
 function spread_list(list, v, mark) {
-  var iterator, result;
+  var iterator, at, result;
   if (mark === 0) list[list.length] = v;
   else if (mark === 2) list.length = list.length + 1;
   else {
     iterator = iter_start(v, 0);
-    while (result = iter_step(iterator)) list[list.length] = iter_value(result);
+    if (iterator['@@at'] === 0) for (at = 0; at < +v.length; at = at + 1) list[list.length] = v[at];
+    else while (result = iter_step(iterator)) list[list.length] = iter_value(result);
   }
   return list;
 }
