@@ -76,7 +76,7 @@ const rows = [
   ['print(print({}));', 'threw TypeError'],
 ];
 let failed = 0;
-const levels = ['0', '01', '012', '0123', '01234'];
+const levels = ['s', '0', '01', '012', '0123', '01234'];
 for (const level of levels) {
   for (const [source, ...expected] of rows) {
     // the script needs no exit where the modules left

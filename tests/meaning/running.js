@@ -1,9 +1,11 @@
-// Runs cores by the definitions of their meaning, at each level: as modules are lowered, and after each pass that is asked for.
+// Runs programs by the definitions of their meaning, at each level: the modules themselves, their core as they are lowered, and after each pass
+// that is asked for.
 'use strict';
 const fs = require('fs');
 const path = require('path');
 const { load } = require('./definitions.js');
 const { lowered } = require('./model.js');
+const { graphOf } = require('./modules.js');
 const { helpers } = require('./scripts.js');
 
 const engines = path.join(__dirname, '..', 'engines');
@@ -12,7 +14,7 @@ const hostNames = ['print', 'read', 'count'];
 const mostSteps = 3000000;
 
 const passes = { 1: 'pass_rules/Scopes/without_scopes', 2: 'yield_rules/Yields/with_yields_flat', 3: 'state_rules/States/with_machines' };
-const definitions = load(['core_meaning/Modules/core_step', 'core_meaning/Modules/start', 'emission_rules/Functions/emitted',
+const definitions = load(['source_meaning/Step/step', 'source_meaning/Modules/start', 'core_meaning/Modules/core_step', 'core_meaning/Modules/start', 'emission_rules/Functions/emitted',
   'script_core/Scripts/core_of', 'script_core/Meaning/script_step', 'script_core/Meaning/script_start', ...Object.values(passes)]);
 const named = (crate, name) => definitions[`${crate}/${name}`];
 
@@ -59,6 +61,8 @@ function runMachine(step, start, answers) {
     } else return { lines: [...lines, `left ${next.a[0].number}`], steps, state };
   }
 }
+// modules by their own meaning
+const runModules = (files, answers) => runMachine(named('source_meaning', 'Step/step'), named('source_meaning', 'Modules/start')(graphOf(files, hostNames)), answers);
 const hostTexts = hostNames.map((name) => [...name].map((c) => c.charCodeAt(0)));
 function runCore(core, answers) {
   const step = named('core_meaning', 'Modules/core_step');
@@ -81,8 +85,9 @@ const runAt = (level, core, answers) => level === '4' ? runScript(emitted(core),
 
 // the run of one module at the last of these levels, where hosts answer nothing
 function runSource(source, levels) {
+  if (levels === 's') return runModules({ 'main.js': source }, {});
   let core = coreOf({ 'main.js': source });
   for (const level of levels) core = after(level, core);
   return runAt(levels.at(-1), core, {});
 }
-module.exports = { engines, coreOf, after, runAt, runSource };
+module.exports = { engines, coreOf, after, runAt, runModules, runSource };

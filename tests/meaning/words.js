@@ -63,6 +63,50 @@ function foldOfScript(steps) {
   return { stat, expr };
 }
 const foldByScript = (which) => (t1, t2, t3, t4, t5, t6, t7, t8, t9, t10, t11, t12, t13, s1, s2, s3, s4, s5, s6, s7, s8, s9, s10, s11, s12, s13, x) => foldOfScript([s1, s2, s3, s4, s5, s6, s7, s8, s9, s10, s11, s12, s13])[which](x);
+// The same over the nodes of a module, whose types come with the enums first, each in the order of names. What a node gives is kept, so that no step is
+// taken twice.
+const treeTypes = { enums: {}, structs: {} };
+function readTree() {
+  const fs = require('fs'), path = require('path');
+  const text = fs.readFileSync(path.join(__dirname, '../../crates/es6_ast/src/tree.rt'), 'utf8').replace(/\/\/.*$/gm, '');
+  for (const [, sort, name, body] of text.matchAll(/#\[cycle\(ast\)\]\s*#\[derive\(Drop\)\]\s*pub (enum|struct) (\w+) \{([\s\S]*?)\n\}/g)) {
+    if (sort === 'struct') treeTypes.structs[name] = [...body.matchAll(/pub (\w+): ([^,\n]+),/g)].map(([, field, type]) => [field, type]);
+    else {
+      const variants = {};
+      for (const [, tag, , fields, values] of body.matchAll(/^ {4}(\w+)( \{([\s\S]*?)(?:\n {4}| )\}|\(([^)]*)\))?,$/gm)) variants[tag] = values !== undefined ? values.split(/,\s*/) : [...(fields || '').matchAll(/\w+: ([^,\n]+)/g)].map(([, type]) => type.trim());
+      treeTypes.enums[name] = variants;
+    }
+  }
+}
+function treeFold(steps) {
+  if (Object.keys(treeTypes.enums).length === 0) readTree();
+  const names = [...Object.keys(treeTypes.enums).sort(), ...Object.keys(treeTypes.structs).sort()];
+  const kept = new WeakMap();
+  const inner = (type) => {
+    const [, outer, of] = /^(Items|Boxed|Option)<(.*)>$/.exec(type) || [];
+    if (outer === 'Items') { const f = inner(of); return f && ((list) => list.map(f)); }
+    if (outer === 'Option') { const f = inner(of); return f && ((x) => perhaps(f, x)); }
+    if (outer === 'Boxed') return inner(of);
+    return names.includes(type) ? (x) => node(type, x) : null;
+  };
+  const node = (type, x) => {
+    if (kept.has(x)) return kept.get(x);
+    const open = treeTypes.structs[type]
+      ? Object.fromEntries(treeTypes.structs[type].map(([field, of]) => [field, inner(of) ? inner(of)(x[field]) : x[field]]))
+      : { t: x.t, a: treeTypes.enums[type][x.t].map((of, i) => inner(of) ? inner(of)(x.a[i]) : x.a[i]) };
+    const given = apply(steps[names.indexOf(type)], open);
+    kept.set(x, given);
+    return given;
+  };
+  return node;
+}
+const treeFolds = new Map(); // by the step of the first type
+const foldByTree = (type) => Object.defineProperty((...args) => {
+  const steps = args.slice(27, 54);
+  if (!treeFolds.has(steps[0])) treeFolds.set(steps[0], treeFold(steps));
+  return treeFolds.get(steps[0])(type, args[54]);
+}, 'length', { value: 55 });
+const treeNames = ['Argument', 'ArrayPart', 'ArrowBody', 'Element', 'Expression', 'ForFirst', 'ForTarget', 'Key', 'Link', 'ObjectPart', 'Parameter', 'Pattern', 'Property', 'Statement', 'Arrow', 'Block', 'Case', 'Catch', 'Class', 'ClassMember', 'Condition', 'Function', 'Method', 'Operand', 'Part', 'Template', 'TemplatePart'];
 const foldBy = (which) => (a, b, c, d, linkStep, statStep, caseStep, exprStep, x) => foldOf([linkStep, statStep, caseStep, exprStep])[which](x);
 
 module.exports = {
@@ -96,5 +140,6 @@ module.exports = {
   is_ascii_alphabetic: (c) => c >= 65 && c <= 90 || c >= 97 && c <= 122, is_ascii_alphanumeric: (c) => c >= 48 && c <= 57 || c >= 65 && c <= 90 || c >= 97 && c <= 122,
   starts_with: (f, list, front) => same(list.slice(0, front.length), front),
   'fold-Stat5': foldByScript('stat'), 'fold-Expr5': foldByScript('expr'),
+  ...Object.fromEntries(treeNames.map((type) => [`fold-${type}`, foldByTree(type)])),
   'fold-CoreExpr': foldBy('expr'), 'fold-CoreLink': foldBy('link'), 'fold-CoreStat': foldBy('stat'), 'fold-CoreCase': foldBy('caseOf'),
 };
