@@ -220,13 +220,16 @@ function definitionsIn(items) {
   }
   return { definitions, typed };
 }
-// a definition may be changed, to see that a test tells: CHANGED is a list of the module, what stands there once, and what is to stand there
-const changed = JSON.parse(process.env.CHANGED || 'null');
+// definitions may be changed, to see that a test tells: CHANGED is a list of edits, each with the module, what stands there once, and what is to stand there
+const changed = JSON.parse(process.env.CHANGED || '[]');
 function textOf(key, file) {
-  const text = fs.readFileSync(file, 'utf8');
-  if (!changed || changed[0] !== key) return text;
-  if (text.split(changed[1]).length !== 2) throw new Error(`${key}: not there once: ${changed[1]}`);
-  return text.replace(changed[1], () => changed[2]);
+  let text = fs.readFileSync(file, 'utf8');
+  for (const [where, old, now] of changed) {
+    if (where !== key) continue;
+    if (text.split(old).length !== 2) throw new Error(`${key}: not there once: ${old}`);
+    text = text.replace(old, () => now);
+  }
+  return text;
 }
 function moduleOf(crate, name) {
   const key = `${crate}/${name}`;

@@ -1,7 +1,10 @@
 // Small programs on both sides of each exit of the profile, and of rules that no engine shows: what is printed, and how the run ends.
-// Usage: node --expose-internals rows.js
+// Besides where runs of modules
+// leave, and the rows of tests/engines. Usage: node --expose-internals rows.js
 'use strict';
-const { runSource } = require('./running.js');
+const { rows: engineRows, host } = require('../engines/rows_data.js');
+const { runFiles, runSource } = require('./running.js');
+const filesOf = (row) => row.files || { 'main.js': host + row.text };
 const head = 'import { print, read } from "host"; ';
 const rows = [
   // exit 1: a result that isn't whole and safe
@@ -74,6 +77,36 @@ const rows = [
   ['class A {} class B extends A { constructor() { return {}; } } print(typeof new B());', 'print("object")', 'ended'],
   ['let x = 1; try { let x = 2; throw 0; } catch (e) { print(x); }', 'print(1)', 'ended'],
   ['print(print({}));', 'threw TypeError'],
+  ['import * as ns from "./main.js"; export { ns }; import { ns as again } from "./main.js"; export let k = 1; print(again.k, again.ns === ns);', 'print(1, true)', 'ended'],
+];
+// where a run of modules leaves: the first token of the innermost expression, statement or class whose step does, behind the mark
+const leaving = [
+  [1, 'print(1, ¦7 / 2 * 2);'],
+  [1, 'print(9007199254740990 + 1); print(¦9007199254740991 + 1);'],
+  [1, 'let o = { n: 9007199254740991 }; print(¦o.n++);'],
+  [1, 'let x; ¦x += 1;'],
+  [1, 'let a = []; ¦a.length = undefined;'],
+  [1, 'let o = { valueOf() { return ¦1 / 2; } }; print(o + 1);'],
+  [1, 'function* g(n = ¦1 / 3) {} g();'],
+  [2, 'print(¦"1e3" - 0);'],
+  [3, 'print(¦({})["@@" + "k"]);'],
+  [3, '¦let { ["@@" + "k"]: v } = {};'],
+  [4, '¦(() => 1).prototype;'],
+  [4, '¦class A { static length() {} }'],
+  [5, 'print(¦new (() => 1));'],
+  [6, 'class A {} class B extends A {} A.m = 1; print(¦B.m);'],
+  [6, 'class A {} class B extends A {} A.m = 1; ¦B.m = 2;'],
+  [7, 'print(¦[].map);'],
+  [7, '¦Object.prototype.k = 1;'],
+  [7, 'let x = ¦Object(1);'],
+  [8, 'print(¦"" + function () {});'],
+  [8, 'print(`${¦[function () {}].join()}`);'],
+  [9, '¦({}).toString.call([][Symbol.iterator]());'],
+  [10, 'let f = function () { ¦class A extends (() => 1) {} }; f();'],
+  [10, 'print(¦class extends null {});'],
+  [11, '¦(x => x).apply(null, { length: 1 });'],
+  [12, 'import * as ns from "./main.js"; export let k = 1; print(ns.k); print(¦ns[Symbol.iterator]);'],
+  [12, 'import * as ns from "./main.js"; function F() {} F.prototype = ns; let o = ¦new F;'],
 ];
 let failed = 0;
 const levels = ['s', '0', '01', '012', '0123', '01234'];
@@ -86,5 +119,22 @@ for (const level of levels) {
     if (JSON.stringify(got) !== JSON.stringify(expected)) { failed++; console.log(`level ${level.at(-1)}: ${source}: ${got.join('; ')}`); }
   }
 }
-console.log(`rows: ${rows.length} at ${levels.length} levels, ${failed} failed`);
+for (const [number, marked] of leaving) {
+  const source = head + marked.replace('¦', ''), at = head.length + marked.indexOf('¦');
+  const { lines, left } = runSource(source, 's');
+  const got = left === undefined ? lines.at(-1) : `left ${number} at ${left.at}`;
+  if (got !== `left ${number} at ${at}` || lines.at(-1) !== `left ${number}`) { failed++; console.log(`level s: ${marked}: ${lines.at(-1)} at ${left && left.at}, not ${number} at ${at}`); }
+}
+// the rows of tests/engines, which have their lines from the rules by hand
+const played = engineRows.filter((row) => row.lines && !row.words && !row.full && Object.keys(filesOf(row)).length < 100);
+for (const row of played) {
+  for (const level of ['s', '0']) {
+    let got;
+    try { got = runFiles(filesOf(row), level, row.answers || {}).lines; } catch (error) { got = [error.message]; }
+    const shown = row.leaves ? got.slice(0, row.lines.length) : got;
+    if (JSON.stringify(shown) !== JSON.stringify(row.lines)) { failed++; console.log(`level ${level}: ${row.name}: ${got.join('; ')}`); }
+    if (row.leaves && level === 's' && !/^left/.test(got.at(-1))) { failed++; console.log(`level s: ${row.name} doesn't leave`); }
+  }
+}
+console.log(`rows: ${rows.length} at ${levels.length} levels, ${leaving.length} places, ${played.length} of the engines, ${failed} failed`);
 process.exitCode = failed === 0 ? 0 : 1;

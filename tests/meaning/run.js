@@ -36,7 +36,7 @@ for (const name of names) {
   const expected = text('expected', '').split('\n').slice(0, -1), answers = JSON.parse(text('answers', '{}'));
   const faults = [];
   const files = modulesOf(folder);
-  let core;
+  let core, places;
   try { if (levels !== 's') core = coreOf(files); } catch (error) { faults.push(`isn't lowered: ${error.message}`); }
   for (const level of levels) {
     try {
@@ -46,6 +46,8 @@ for (const name of names) {
       const lines = leaving[name] ? [...expected.slice(0, run.lines.length - 1), leaving[name]] : expected;
       const fault = difference(lines, run.lines);
       if (fault) faults.push(`level ${level}: ${fault}`);
+      places = places || run.places;
+      if (difference(places, run.places)) faults.push(`level ${level}: places: ${difference(places, run.places)}`);
     } catch (error) { faults.push(`level ${level}: ${error.message}${process.env.WHERE ? error.stack : ''}`); }
   }
   told.events += expected.length - 1;

@@ -11,7 +11,7 @@ const { helpers } = require('./scripts.js');
 const engines = path.join(__dirname, '..', 'engines');
 const { programHosts } = eval(`(function () { ${fs.readFileSync(path.join(engines, 'first_hosts.js'), 'utf8')}\n${fs.readFileSync(path.join(engines, 'programs_hosts.js'), 'utf8')}\nreturn { programHosts: programHosts }; })()`);
 const hostNames = ['print', 'read', 'count'];
-const mostSteps = 3000000;
+const mostSteps = Number(process.env.MOST_STEPS || 3000000);
 
 const passes = { 1: 'pass_rules/Scopes/without_scopes', 2: 'yield_rules/Yields/with_yields_flat', 3: 'state_rules/States/with_machines' };
 const definitions = load(['source_meaning/Step/step', 'source_meaning/Modules/start', 'core_meaning/Modules/core_step', 'core_meaning/Modules/start', 'emission_rules/Functions/emitted',
@@ -36,18 +36,19 @@ function ofPrim(v) {
   return { t: 'Text', a: [Array.from({ length: v.length }, (_, i) => v.charCodeAt(i))] };
 }
 
-// the lines of a run of a machine, and how many steps it took
+// the lines of a run of a machine, how many steps it took, and the places of its events and of its exit
 function runMachine(step, start, answers) {
-  const lines = [];
+  const lines = [], places = [];
   const kinds = { Error, TypeError, ReferenceError, RangeError };
   const program = programHosts((line) => lines.push(line), JSON.parse(JSON.stringify(answers)), hostNames, kinds);
   let state = start, steps = 0;
   for (;;) {
-    if (steps++ > mostSteps) return { lines: [...lines, 'still running'], steps };
+    if (steps++ > mostSteps) return { lines: [...lines, 'still running'], steps, places };
     const next = step(state);
     if (next.t === 'Goes') state = next.a[0];
     else if (next.t === 'Asks') {
       const event = next.a[0];
+      places.push(`${event.site.module}:${event.site.at}`);
       let reply;
       try { reply = { t: 'Give', a: [ofPrim(program.hosts[hostNames[event.host]](...event.args.map(primOf)))] }; }
       catch (thrown) { if (typeof thrown === 'object' && thrown !== null) throw thrown; reply = { t: 'Throw', a: [ofPrim(thrown)] }; }
@@ -57,8 +58,8 @@ function runMachine(step, start, answers) {
       if (finish.t === 'Ended') lines.push('ended');
       else if (finish.a[0].t === 'Prim') lines.push(program.ending(primOf(finish.a[0].a[0])));
       else lines.push(`threw ${finish.a[0].t}`);
-      return { lines, steps, state };
-    } else return { lines: [...lines, `left ${next.a[0].number}`], steps, state };
+      return { lines, steps, places, state };
+    } else return { lines: [...lines, `left ${next.a[0].number}`], steps, places, state, left: next.a[0].site };
   }
 }
 // modules by their own meaning
@@ -83,11 +84,12 @@ const after = (level, core) => passes[level] ? definitions[passes[level]](core) 
 // the run at a level; the last is that of the script
 const runAt = (level, core, answers) => level === '4' ? runScript(emitted(core), 'Carried', answers) : runCore(core, answers);
 
-// the run of one module at the last of these levels, where hosts answer nothing
-function runSource(source, levels) {
-  if (levels === 's') return runModules({ 'main.js': source }, {});
-  let core = coreOf({ 'main.js': source });
+// the run of files, and that of one module, at the last of these levels
+const runSource = (source, levels) => runFiles({ 'main.js': source }, levels, {});
+function runFiles(files, levels, answers) {
+  if (levels === 's') return runModules(files, answers);
+  let core = coreOf(files);
   for (const level of levels) core = after(level, core);
-  return runAt(levels.at(-1), core, {});
+  return runAt(levels.at(-1), core, answers);
 }
-module.exports = { engines, coreOf, after, runAt, runModules, runSource };
+module.exports = { engines, coreOf, after, runAt, runFiles, runModules, runSource };

@@ -1,5 +1,5 @@
 -- Calls and constructions (ECMA-262, 6th edition, 7.3.12, 7.3.13, 9.2.1, 9.2.2, 12.3.3, 12.3.4).
-use Rattle.std.specs.Prelude.{Bool, List, None, Option, Some, [], false, if◌then◌else◌, is_none, length, slice_get, true, ℕ, ◌&&◌, ◌++◌, ◌∷◌}
+use Rattle.std.specs.Prelude.{Bool, List, None, Option, Some, [], false, if◌then◌else◌, is_none, length, slice_get, true, ℕ, ◌&&◌, ◌∷◌}
 use Rattle.runs.specs.Run.{Asks}
 use Rattle.es_outside.specs.declared.host.Reply.{Reply}
 use Rattle.es_outside.specs.declared.host.Reply.TheVariants as reply
@@ -22,8 +22,8 @@ use Rattle.es_operations.specs.Numbers as number
 use Rattle.es6_ast.specs.declared.tree.Parameter.{Parameter, out-Parameter}
 use Rattle.source_meaning.specs.Environments.{record_at, with_record}
 use Rattle.source_meaning.specs.Functions.{body_instantiated, first_bindings, is_arrow, is_class, is_derived, is_generator, one_parameter, parameters_of, run_code, statements_of, with_arguments}
-use Rattle.source_meaning.specs.State.{Call, Closure, Code, Completion, Context, ConstructorCode, Derived, Done, Environment, EnvironmentRecord, GeneratorPrototype, Gives, Hand, Holds, Made, Making, Own, ParametersBound, State, SuperMade, Throws, Turn}
-use Rattle.source_meaning.specs.Steps.{Next, calls, controls, due, gives, hands, impossible, leaves, operates, pushed, raises, with_heap, with_some, within}
+use Rattle.source_meaning.specs.State.{Call, Closure, Code, Completion, Context, ConstructorCode, Derived, Done, EnvironmentRecord, GeneratorPrototype, Gives, Hand, Made, Making, Own, ParametersBound, State, SuperMade, Throws, Turn}
+use Rattle.source_meaning.specs.Steps.{Next, calls, controls, due, gives, hands, impossible, leaves, operates, pushed, raises, with_heap, with_some}
 use Rattle.source_meaning.specs.Trees.{are_simple}
 
 -- ---- hosts: an object among the arguments is a TypeError, and no event. The place is that of the call expression

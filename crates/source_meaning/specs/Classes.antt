@@ -15,7 +15,7 @@ use Rattle.es6_ast.specs.declared.tree.Class.{Class, out-Class}
 use Rattle.es6_ast.specs.declared.tree.ClassMember.{ClassMember, out-ClassMember}
 use Rattle.es6_ast.specs.declared.tree.Expression.{Expression}
 use Rattle.es6_ast.specs.declared.tree.Identifier.{Identifier}
-use Rattle.es6_ast.specs.declared.tree.Method.{Method, out-Method}
+use Rattle.es6_ast.specs.declared.tree.Method.{out-Method}
 use Rattle.source_meaning.specs.Environments.{initialized, with_bindings}
 use Rattle.source_meaning.specs.Functions.{closure_in, function_parameters, with_closure}
 use Rattle.source_meaning.specs.Objects.{define_method}

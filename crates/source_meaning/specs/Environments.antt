@@ -1,5 +1,5 @@
 -- Environment records (ECMA-262, 6th edition, 8.1): how names are found, read, written and initialized.
-use Rattle.std.specs.Prelude.{Bool, List, None, Option, Some, [], false, if◌then◌else◌, length, map, slice_index_or, slice_set, true, ℕ, ◌++◌, ◌∷◌}
+use Rattle.std.specs.Prelude.{Bool, List, None, Option, Some, [], if◌then◌else◌, length, slice_index_or, slice_set, ℕ, ◌++◌, ◌∷◌}
 use Rattle.std.specs.Str.{bytes_eq}
 use Rattle.es_value.specs.declared.value.Value.{Value}
 use Rattle.es_value.specs.declared.value.Value.TheVariants as value
@@ -8,7 +8,7 @@ use Rattle.es_realm.specs.declared.globals.Global.{Global}
 use Rattle.es_realm.specs.declared.globals.Global.TheVariants as global
 use Rattle.es_realm.specs.declared.errors.ErrorKind.TheVariants.{ReferenceError, TypeError}
 use Rattle.source_meaning.specs.State.{Binding, Environment, EnvironmentRecord, Held, Holds, Imported, OfHost, State, Uninitialized}
-use Rattle.source_meaning.specs.Steps.{Next, gives, hands, impossible, leaves, raises, within}
+use Rattle.source_meaning.specs.Steps.{Next, gives, impossible, leaves, raises, within}
 use Rattle.source_meaning.specs.Trees.{Lexical}
 
 -- ---- bindings

@@ -1,14 +1,11 @@
 -- Expressions (ECMA-262, 6th edition, 12; 7th edition, 12.6).
-use Rattle.std.specs.Prelude.{Bool, Err, List, None, Ok, Option, Result, Some, [], codes, false, if◌then◌else◌, not, pos, true, ℕ, ℤ, ◌++◌, ◌∷◌}
+use Rattle.std.specs.Prelude.{Bool, Err, List, Ok, Result, [], if◌then◌else◌, not, pos, true, ℕ, ℤ, ◌++◌, ◌∷◌}
 use Rattle.es_value.specs.Arithmetic.{difference, exit_number, sum}
 use Rattle.es_value.specs.Equality.{same_value}
 use Rattle.es_value.specs.declared.arithmetic.Exit.{Exit}
 use Rattle.es_value.specs.declared.value.Value.{Value}
 use Rattle.es_value.specs.declared.value.Value.TheVariants as value
-use Rattle.es_heap.specs.Heaps.{made, next_id}
-use Rattle.es_heap.specs.declared.class.Class.TheVariants as class
 use Rattle.es_heap.specs.declared.key.Key.TheVariants.{Text}
-use Rattle.es_realm.specs.Names.{array_prototype, object_prototype}
 use Rattle.es_realm.specs.declared.errors.ErrorKind.TheVariants.{ReferenceError}
 use Rattle.es_operators.specs.Primitives.{truth_of, type_name}
 use Rattle.es_operations.specs.Numbers as number
@@ -23,15 +20,14 @@ use Rattle.es6_ast.specs.declared.operators.UnaryOperator.TheVariants as unary
 use Rattle.es6_ast.specs.declared.operators.UpdateOperator.{UpdateOperator}
 use Rattle.es6_ast.specs.declared.operators.UpdateOperator.TheVariants.{DecrementAfter, DecrementBefore, IncrementAfter, IncrementBefore}
 use Rattle.es6_ast.specs.declared.tree.Argument.TheOpen as layer
-use Rattle.es6_ast.specs.declared.tree.Argument.TheOpen.{Expression-F, Pattern-F}
-use Rattle.es6_ast.specs.declared.tree.Expression.{Expression, out-Expression}
+use Rattle.es6_ast.specs.declared.tree.Argument.TheOpen.{Pattern-F}
+use Rattle.es6_ast.specs.declared.tree.Expression.{Expression}
 use Rattle.es6_ast.specs.declared.tree.Operand.{Operand, out-Operand}
-use Rattle.es6_ast.specs.declared.tree.Pattern.{Pattern, out-Pattern}
-use Rattle.es6_ast.specs.declared.tree.Template.{Template, out-Template}
+use Rattle.es6_ast.specs.declared.tree.Pattern.{Pattern}
 use Rattle.es6_ast.specs.declared.tree.TemplatePart.{TemplatePart, out-TemplatePart}
 use Rattle.source_meaning.specs.References.{put_value, reads, super_reference, with_text}
-use Rattle.source_meaning.specs.State.{AssignOld, AssignPattern, AssignReference, AssignRight, AssignValue, Behind, Completion, Gives, OfProperty, OperandRight, Operands, Reference, Refers, SequenceRest, State, SuperKeyed, TemplateText, TemplateValue, UpdateNumber, UpdateOld, Work}
-use Rattle.source_meaning.specs.Steps.{Next, begins, gives, impossible, leaves, operates, pushed, raises, refers, turns, with_heap}
+use Rattle.source_meaning.specs.State.{AssignOld, AssignPattern, AssignReference, AssignValue, Completion, Gives, OfProperty, OperandRight, Operands, Reference, Refers, SequenceRest, State, SuperKeyed, TemplateText, TemplateValue, UpdateNumber, UpdateOld, Work}
+use Rattle.source_meaning.specs.Steps.{Next, begins, gives, impossible, leaves, operates, pushed, raises, refers, turns}
 
 -- ---- templates (12.2.9.5): each value becomes a text as soon as it is evaluated
 

@@ -1,5 +1,5 @@
 -- What takes a completion: a row for each frame.
-use Rattle.std.specs.Prelude.{Bool, List, None, Option, Some, [], false, if◌then◌else◌, true, ℕ, ◌∷◌}
+use Rattle.std.specs.Prelude.{[], false, if◌then◌else◌, true, ◌∷◌}
 use Rattle.es_value.specs.declared.value.Value.{Value}
 use Rattle.es_value.specs.declared.value.Value.TheVariants as value
 use Rattle.es_heap.specs.declared.key.Key.{Key as PropertyKey}

@@ -1,34 +1,30 @@
 -- Functions: how they are made (ECMA-262, 6th edition, 9.2.3 to 9.2.8, 14.1.19, 14.2.16, 14.4.11), and what a call of one begins with
 -- (9.2.1, 9.2.12).
-use Rattle.std.specs.List.{filter, list_any}
-use Rattle.std.specs.Prelude.{Bool, List, None, Option, Some, [], codes, cond, false, fold, if◌then◌else◌, length, map, not, slice_get, slice_set, true, ℕ, ◌&&◌, ◌++◌, ◌||◌, ◌∷◌}
-use Rattle.es_outside.specs.declared.events.Site.{Site}
-use Rattle.es_value.specs.declared.value.ObjId.{ObjId}
+use Rattle.std.specs.List.{filter}
+use Rattle.std.specs.Prelude.{Bool, List, None, Option, Some, [], codes, false, fold, if◌then◌else◌, length, map, not, true, ℕ, ◌&&◌, ◌++◌, ◌∷◌}
 use Rattle.es_value.specs.declared.value.Value.{Value}
 use Rattle.es_value.specs.declared.value.Value.TheVariants as value
-use Rattle.es_heap.specs.Heaps.{Heap, next_id, object_at}
-use Rattle.es_heap.specs.declared.class.Class.{Class as ObjectClass}
-use Rattle.es_heap.specs.declared.class.Class.TheVariants as class
+use Rattle.es_heap.specs.Heaps.{Heap, next_id}
 use Rattle.es_realm.specs.declared.edition.Edition.TheVariants.{Sixth}
 use Rattle.es_calls.specs.Making.{arguments_heap, list_heap}
 use Rattle.es_operations.specs.Making.{generator_function, method_function, plain_function}
 use Rattle.es6_ast.specs.Spans.{Open}
 use Rattle.es6_ast.specs.declared.tree.Argument.TheOpen as layer
 use Rattle.es6_ast.specs.declared.tree.Argument.TheOpen.{ArrowBody-F, Parameter-F}
-use Rattle.es6_ast.specs.declared.tree.Arrow.{Arrow, out-Arrow}
-use Rattle.es6_ast.specs.declared.tree.ArrowBody.{ArrowBody, out-ArrowBody}
-use Rattle.es6_ast.specs.declared.tree.Block.{Block, out-Block}
-use Rattle.es6_ast.specs.declared.tree.Expression.{Expression, out-Expression}
+use Rattle.es6_ast.specs.declared.tree.Arrow.{out-Arrow}
+use Rattle.es6_ast.specs.declared.tree.ArrowBody.{out-ArrowBody}
+use Rattle.es6_ast.specs.declared.tree.Block.{out-Block}
+use Rattle.es6_ast.specs.declared.tree.Expression.{Expression}
 use Rattle.es6_ast.specs.declared.tree.Function.{Function, out-Function}
 use Rattle.es6_ast.specs.declared.tree.Identifier.{Identifier}
-use Rattle.es6_ast.specs.declared.tree.Parameter.{Parameter, out-Parameter}
-use Rattle.es6_ast.specs.declared.tree.Part.{Part, out-Part}
-use Rattle.es6_ast.specs.declared.tree.Pattern.{Pattern, out-Pattern}
+use Rattle.es6_ast.specs.declared.tree.Parameter.{Parameter}
+use Rattle.es6_ast.specs.declared.tree.Part.{out-Part}
+use Rattle.es6_ast.specs.declared.tree.Pattern.{Pattern}
 use Rattle.es6_ast.specs.declared.tree.Statement.{Statement}
-use Rattle.source_meaning.specs.Environments.{bound, binding_in, held_in, innermost, initialized, record_of, unbound, with_bindings, with_record}
-use Rattle.source_meaning.specs.State.{ArrowCode, Begin, Binding, Call, Closure, Code, ConstructorCode, Destructure, Environment, Held, Holds, Initializes, MethodCode, Own, ParameterDefault, ParametersBound, ParametersRest, PlainCode, Returning, Run, State, Uninitialized, Work}
-use Rattle.source_meaning.specs.Steps.{Next, begins, controls, hands, pushed, with_heap, within}
-use Rattle.source_meaning.specs.Trees.{are_simple, expected_count, function_names, functions_in, has_name, have_expression, last_ones, lexicals_in, mentions_arguments, parameters_names, pattern_names, variables_in}
+use Rattle.source_meaning.specs.Environments.{bound, binding_in, held_in, innermost, initialized, unbound, with_bindings}
+use Rattle.source_meaning.specs.State.{ArrowCode, Binding, Closure, Code, ConstructorCode, Destructure, Environment, Held, Holds, Initializes, MethodCode, Own, ParameterDefault, ParametersRest, PlainCode, Returning, Run, State, Uninitialized}
+use Rattle.source_meaning.specs.Steps.{Next, begins, controls, pushed, with_heap, within}
+use Rattle.source_meaning.specs.Trees.{are_simple, expected_count, function_names, functions_in, has_name, have_expression, last_ones, lexicals_in, mentions_arguments, parameters_names, variables_in}
 
 -- ---- what a code is made of
 

@@ -1,5 +1,5 @@
 -- Generators (ECMA-262, 6th edition, 14.4 and 25.3), with contexts that are saved.
-use Rattle.std.specs.Prelude.{Bool, List, None, Option, Some, [], codes, false, if◌then◌else◌, length, slice_get, slice_set, true, ℕ, ◌++◌, ◌∷◌}
+use Rattle.std.specs.Prelude.{Bool, List, [], codes, false, if◌then◌else◌, length, slice_get, slice_set, true, ℕ, ◌++◌, ◌∷◌}
 use Rattle.es_value.specs.declared.value.ObjId.{ObjId}
 use Rattle.es_value.specs.declared.value.Value.{Value}
 use Rattle.es_value.specs.declared.value.Value.TheVariants as value
@@ -14,7 +14,7 @@ use Rattle.es_calls.specs.declared.call.Resumption.TheVariants as resumption
 use Rattle.es_operations.specs.Making.{made_generator}
 use Rattle.es_operations.specs.Numbers as number
 use Rattle.es6_ast.specs.declared.tree.Statement.{Statement}
-use Rattle.source_meaning.specs.State.{AtStart, AtYield, Completed, Completion, Context, DelegateDone, DelegateIterator, DelegateResult, DelegateValue, Delegated, Executing, Frame, Generates, Generator, GeneratorStart, Gives, Resumes, Returns, Run, State, Throws, Work, Yielded}
+use Rattle.source_meaning.specs.State.{AtStart, AtYield, Completed, Completion, Context, DelegateDone, DelegateIterator, DelegateResult, DelegateValue, Delegated, Executing, Frame, Generates, Generator, GeneratorStart, Gives, Resumes, Returns, Run, State, Throws, Work}
 use Rattle.source_meaning.specs.Steps.{Next, controls, gives, hands, impossible, operates, pushed, raises, with_frames, with_heap, with_some}
 
 abbrev pub with_generators : List Generator → State → State

@@ -1,6 +1,5 @@
 -- Lists of arguments and elements (ECMA-262, 6th edition, 12.2.5.2, 12.3.6.1), and the links of a chain (12.3).
-use Rattle.std.specs.Prelude.{Bool, List, None, Option, Some, [], false, if◌then◌else◌, map, pos, suc, true, ℕ, ◌++◌, ◌∷◌}
-use Rattle.std.specs.List.{list_any}
+use Rattle.std.specs.Prelude.{Bool, List, None, Option, Some, [], false, if◌then◌else◌, map, pos, suc, ℕ, ◌++◌, ◌∷◌}
 use Rattle.std.specs.Cmp.Lexicographic.{pointwise}
 use Rattle.std.specs.Str.{bytes_eq}
 use Rattle.es_value.specs.declared.value.ObjId.{ObjId}
@@ -21,13 +20,12 @@ use Rattle.es6_ast.specs.declared.tree.Argument.TheOpen.{Argument-F, Element-F, 
 use Rattle.es6_ast.specs.declared.tree.Element.{Element, out-Element}
 use Rattle.es6_ast.specs.declared.tree.Expression.{Expression}
 use Rattle.es6_ast.specs.declared.tree.Link.{Link, out-Link}
-use Rattle.es6_ast.specs.declared.tree.Stretch.{Stretch}
 use Rattle.es6_ast.specs.declared.tree.Template.{Template, out-Template}
-use Rattle.es6_ast.specs.declared.tree.TemplatePart.{TemplatePart, out-TemplatePart}
+use Rattle.es6_ast.specs.declared.tree.TemplatePart.{out-TemplatePart}
 use Rattle.source_meaning.specs.Calls.{call_host, construct, construct_parent}
 use Rattle.source_meaning.specs.Environments.{host_named}
 use Rattle.source_meaning.specs.References.{get_value, is_iterator_key, reads}
-use Rattle.source_meaning.specs.State.{Callee, Calling, Calls, Collected, Completion, ForCall, ForNew, ForSuper, Gives, Hosting, LinkIndex, LinkKey, LinkMethod, Links, ListValue, Listing, OfArguments, OfArray, OfName, OfProperty, OfSuper, Passing, PassesArguments, PassesTemplate, Reference, Refers, SpreadIterator, SpreadPart, SpreadStep, SpreadValue, State, TemplateObject, Use}
+use Rattle.source_meaning.specs.State.{Callee, Calling, Calls, Collected, Completion, ForCall, ForNew, ForSuper, Gives, Hosting, LinkIndex, LinkKey, LinkMethod, Links, ListValue, Listing, OfArguments, OfArray, OfName, OfProperty, OfSuper, Passing, PassesArguments, PassesTemplate, Refers, SpreadIterator, SpreadPart, SpreadStep, SpreadValue, State, TemplateObject, Use}
 use Rattle.source_meaning.specs.Steps.{Next, begins, controls, due, gives, hands, impossible, operates, pushed, raises, refers_to, with_heap}
 use Rattle.source_meaning.specs.Trees.{name_units}
 

@@ -1,6 +1,6 @@
 -- Loops (ECMA-262, 6th edition, 13.7).
 use Rattle.std.specs.List.{list_any}
-use Rattle.std.specs.Prelude.{Bool, List, None, Option, Some, [], false, if◌then◌else◌, map, not, true, ℕ, ◌∷◌}
+use Rattle.std.specs.Prelude.{Bool, List, None, Option, Some, [], false, if◌then◌else◌, map, true, ℕ}
 use Rattle.std.specs.Str.{bytes_eq}
 use Rattle.es_value.specs.declared.value.Value.{Value}
 use Rattle.es_value.specs.declared.value.Value.TheVariants as value
@@ -13,15 +13,14 @@ use Rattle.es6_ast.specs.declared.tree.Argument.TheOpen as layer
 use Rattle.es6_ast.specs.declared.tree.Argument.TheOpen.{ForFirst-F, ForTarget-F}
 use Rattle.es6_ast.specs.declared.tree.Expression.{Expression}
 use Rattle.es6_ast.specs.declared.tree.ForFirst.{ForFirst, out-ForFirst}
-use Rattle.es6_ast.specs.declared.tree.ForTarget.{ForTarget, out-ForTarget}
+use Rattle.es6_ast.specs.declared.tree.ForTarget.{out-ForTarget}
 use Rattle.es6_ast.specs.declared.tree.Part.{Part}
-use Rattle.es6_ast.specs.declared.tree.Pattern.{Pattern}
 use Rattle.es6_ast.specs.declared.tree.Statement.{Statement}
 use Rattle.source_meaning.specs.Environments.{copied, unbound, with_bindings}
 use Rattle.source_meaning.specs.Patterns.{closes}
-use Rattle.source_meaning.specs.State.{Assigns, Begin, Binds, Breaks, Completion, Continues, Destructure, Done, ForOfBody, ForOfBound, ForOfIterator, ForOfLoop, ForOfStep, ForOfSubject, ForOfValue, Initializes, Loop, LoopBegin, LoopBody, LoopTest, LoopUpdate, Restore, Start, State}
+use Rattle.source_meaning.specs.State.{Assigns, Begin, Breaks, Completion, Continues, Destructure, Done, ForOfBody, ForOfBound, ForOfIterator, ForOfLoop, ForOfStep, ForOfSubject, ForOfValue, Loop, LoopBegin, LoopBody, LoopTest, LoopUpdate, Restore, Start, State}
 use Rattle.source_meaning.specs.Statements.{binds_of, variables_on}
-use Rattle.source_meaning.specs.Steps.{Next, begins, controls, hands, operates, pushed, within}
+use Rattle.source_meaning.specs.Steps.{Next, begins, controls, hands, operates, pushed}
 use Rattle.source_meaning.specs.Trees.{Lexical, lexical_of, parts_names, pattern_names}
 
 -- ---- tests, turns and updates (13.7.2.6, 13.7.3.6, 13.7.4.8)

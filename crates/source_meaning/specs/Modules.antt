@@ -1,10 +1,9 @@
 -- Modules: how they are instantiated and evaluated, and namespace objects (ECMA-262, 6th edition, 9.4.6, 15.2).
 use Rattle.std.specs.Cmp.Lexicographic.{pointwise}
-use Rattle.std.specs.List.{filter, filter_map, flat_map, list_all, list_any}
+use Rattle.std.specs.List.{filter, filter_map, list_all, list_any}
 use Rattle.std.specs.Prelude.{Bool, List, None, Option, Some, [], codes, false, fold, if◌then◌else◌, is_some, length, map, nat_eq, not, slice_get, slice_index_or, suc, sum_by, true, zero, ℕ, ◌&&◌, ◌*◌, ◌++◌, ◌∷◌}
 use Rattle.std.specs.Str.{bytes_eq}
 use Rattle.es_value.specs.declared.value.ObjId.{ObjId}
-use Rattle.es_value.specs.declared.value.Value.{Value}
 use Rattle.es_value.specs.declared.value.Value.TheVariants as value
 use Rattle.es_heap.specs.Heaps.{next_id, object_at}
 use Rattle.es_heap.specs.declared.class.Class.{Class as ObjectClass}
@@ -13,7 +12,6 @@ use Rattle.es_heap.specs.declared.key.Key.{Key as PropertyKey}
 use Rattle.es_heap.specs.declared.key.Key.TheVariants.{Iterator, Text}
 use Rattle.es_realm.specs.Realms.{fresh6}
 use Rattle.es_operations.specs.Making.{made_namespace}
-use Rattle.es6_ast.specs.Spans.{Open}
 use Rattle.es6_ast.specs.declared.graph.EndOf.{EndOf}
 use Rattle.es6_ast.specs.declared.graph.EndOf.TheVariants as ending
 use Rattle.es6_ast.specs.declared.graph.Graph.{Graph}
@@ -23,22 +21,22 @@ use Rattle.es6_ast.specs.declared.module.DefaultExport.{DefaultExport}
 use Rattle.es6_ast.specs.declared.module.DefaultExport.TheVariants.{DefaultClass, DefaultFunction, DefaultValue}
 use Rattle.es6_ast.specs.declared.module.ExportName.{ExportName}
 use Rattle.es6_ast.specs.declared.module.ImportedNames.{ImportedNames}
-use Rattle.es6_ast.specs.declared.module.ImportedNames.TheVariants.{Listed, Namespace, NoNames}
+use Rattle.es6_ast.specs.declared.module.ImportedNames.TheVariants.{Listed, Namespace}
 use Rattle.es6_ast.specs.declared.module.Item.{Item}
 use Rattle.es6_ast.specs.declared.module.Item.TheVariants as item
 use Rattle.es6_ast.specs.declared.module.Specifier.{Specifier}
-use Rattle.es6_ast.specs.declared.tree.Class.{Class, out-Class}
+use Rattle.es6_ast.specs.declared.tree.Class.{out-Class}
 use Rattle.es6_ast.specs.declared.tree.Function.{Function, out-Function}
 use Rattle.es6_ast.specs.declared.tree.Identifier.{Identifier}
 use Rattle.es6_ast.specs.declared.tree.Statement.{Statement}
 use Rattle.es6_static_semantics.specs.Endings.{Elsewhere, ExportEntry, OtherName, OwnBinding, Source, exports, requested, stars}
 use Rattle.es6_static_semantics.specs.Findings.{joined}
 use Rattle.module_order.specs.Order.{evaluation_order}
-use Rattle.source_meaning.specs.Environments.{bound, held_by, initialized, read_held, unbound}
-use Rattle.source_meaning.specs.Functions.{closed, named_given, undefined_binding, with_functions}
-use Rattle.source_meaning.specs.State.{Binding, Context, Done, Due, EnvironmentRecord, Exported, Hand, Held, Imported, OfHost, Own, PlainCode, State, Uninitialized}
+use Rattle.source_meaning.specs.Environments.{held_by, initialized, read_held, unbound}
+use Rattle.source_meaning.specs.Functions.{closed, named_given, undefined_binding}
+use Rattle.source_meaning.specs.State.{Binding, Context, Done, Due, EnvironmentRecord, Exported, Hand, Held, Imported, OfHost, PlainCode, State, Uninitialized}
 use Rattle.source_meaning.specs.Steps.{Next, gives, with_heap}
-use Rattle.source_meaning.specs.Trees.{Lexical, functions_in, has_name, lexical, lexicals_in, name_units, optional_name, variables_in}
+use Rattle.source_meaning.specs.Trees.{functions_in, lexical, lexicals_in, name_units, optional_name, variables_in}
 
 abbrev pub module_at : Graph → ℕ → Option LoadedModule
 module_at g n = slice_get g.modules n

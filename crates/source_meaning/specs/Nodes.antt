@@ -1,9 +1,7 @@
 -- What begins: a row for each node.
 use Rattle.std.specs.Prelude.{Bool, List, None, Option, Some, [], false, if◌then◌else◌, true, ℕ, ◌∷◌}
-use Rattle.es_value.specs.declared.value.Value.{Value}
 use Rattle.es_value.specs.declared.value.Value.TheVariants as value
 use Rattle.es_heap.specs.Heaps.{made, next_id}
-use Rattle.es_heap.specs.declared.class.Class.{Class as ObjectClass}
 use Rattle.es_heap.specs.declared.class.Class.TheVariants as class
 use Rattle.es_heap.specs.declared.key.Key.TheVariants.{Iterator, Text}
 use Rattle.es_realm.specs.Names.{array_prototype, object_prototype}
@@ -31,10 +29,10 @@ use Rattle.source_meaning.specs.Loops.{for_loop, for_of, plain_loop, run_turn, t
 use Rattle.source_meaning.specs.Modules.{default_name, name_or_default}
 use Rattle.source_meaning.specs.Objects.{properties_on}
 use Rattle.source_meaning.specs.References.{is_iterator_key, super_reference}
-use Rattle.source_meaning.specs.State.{ArrowCode, Begin, Branches, Breaks, Continues, Delegating, Deleting, Done, ForSuper, Ignoring, ItemsRest, Labelling, Links, NameGiven, NewCallee, OfArguments, OfArray, OfName, Operands, PowerBase, Refer, Run, SequenceRest, Start, State, StatementsRest, Subject, SuperKey, Throwing, UnaryValue, UpdateReference, YieldValue}
+use Rattle.source_meaning.specs.State.{ArrowCode, Begin, Branches, Breaks, Continues, Delegating, Deleting, Done, ForSuper, Ignoring, ItemsRest, Labelling, Links, NameGiven, NewCallee, OfArguments, OfArray, OfName, Operands, PowerBase, Refer, SequenceRest, Start, State, StatementsRest, Subject, SuperKey, Throwing, UnaryValue, UpdateReference, YieldValue}
 use Rattle.source_meaning.specs.Statements.{conditions_on, return_value, run_block, try_statement, variables_on}
 use Rattle.source_meaning.specs.Steps.{Next, at_node, begins, controls, gives, hands, impossible, pushed, refers, refers_to, with_heap}
-use Rattle.source_meaning.specs.Trees.{Lexical, literal_value, name_units, optional_name}
+use Rattle.source_meaning.specs.Trees.{literal_value, name_units, optional_name}
 
 -- ---- expressions
 

@@ -1,5 +1,5 @@
 -- Object literals and the methods in them (ECMA-262, 6th edition, 12.2.6, 14.3).
-use Rattle.std.specs.Prelude.{Bool, List, None, Option, Some, [], false, true, ℕ, ◌∷◌}
+use Rattle.std.specs.Prelude.{List, [], false, true, ◌∷◌}
 use Rattle.es_value.specs.declared.value.ObjId.{ObjId}
 use Rattle.es_value.specs.declared.value.Value.{Value}
 use Rattle.es_value.specs.declared.value.Value.TheVariants as value
@@ -19,7 +19,6 @@ use Rattle.es6_ast.specs.declared.operators.MethodKind.TheVariants.{GetterMethod
 use Rattle.es6_ast.specs.declared.tree.Argument.TheOpen as layer
 use Rattle.es6_ast.specs.declared.tree.Argument.TheOpen.{Property-F}
 use Rattle.es6_ast.specs.declared.tree.Expression.{Expression}
-use Rattle.es6_ast.specs.declared.tree.Function.{Function}
 use Rattle.es6_ast.specs.declared.tree.Method.{Method, out-Method}
 use Rattle.es6_ast.specs.declared.tree.Property.{Property, out-Property}
 use Rattle.source_meaning.specs.Functions.{Given, closed}

@@ -1,5 +1,5 @@
 -- Patterns (ECMA-262, 6th edition, 12.14.5, 13.3.3), and the closing of iterators (7.4.6).
-use Rattle.std.specs.Prelude.{Bool, List, None, Option, Some, [], false, if◌then◌else◌, true, ℕ, ◌∷◌}
+use Rattle.std.specs.Prelude.{Bool, List, None, Option, Some, [], false, if◌then◌else◌, true, ◌∷◌}
 use Rattle.es_value.specs.declared.value.ObjId.{ObjId}
 use Rattle.es_value.specs.declared.value.Value.{Value}
 use Rattle.es_value.specs.declared.value.Value.TheVariants as value
@@ -24,7 +24,7 @@ use Rattle.source_meaning.specs.Expressions.{with_reference}
 use Rattle.source_meaning.specs.Functions.{is_undefined}
 use Rattle.source_meaning.specs.Lists.{add_element}
 use Rattle.source_meaning.specs.References.{put_value, reads, with_key}
-use Rattle.source_meaning.specs.State.{Assigns, AtReference, Binds, Closing, Completion, Defaulted, Destructure, Done, ElementStep, ElementTarget, ElementValue, ElementsRest, Gives, Ignoring, InPattern, Initializes, MemberTarget, MemberValue, MembersRest, OfPart, OfProperty, PatternIterator, PutTo, Reference, RestStep, RestTarget, RestValue, SkipStep, Slot, State, Taking, Throws, Work}
+use Rattle.source_meaning.specs.State.{Assigns, AtReference, Binds, Closing, Completion, Defaulted, Destructure, Done, ElementStep, ElementTarget, ElementValue, ElementsRest, Ignoring, InPattern, Initializes, MemberTarget, MemberValue, MembersRest, OfPart, OfProperty, PatternIterator, PutTo, RestStep, RestTarget, RestValue, SkipStep, Slot, State, Taking, Throws, Work}
 use Rattle.source_meaning.specs.Steps.{Next, begins, controls, hands, impossible, operates, pushed, raises, refers, with_heap}
 use Rattle.source_meaning.specs.Trees.{name_units}
 

@@ -1,5 +1,5 @@
 -- References (ECMA-262, 6th edition, 6.2.3), and the keys that name properties (12.2.6.8, 12.3.2.1, 12.3.5).
-use Rattle.std.specs.Prelude.{Bool, List, None, Option, Some, [], false, if◌then◌else◌, is_none, true, ℕ, ◌&&◌, ◌∷◌}
+use Rattle.std.specs.Prelude.{Bool, List, [], false, if◌then◌else◌, is_none, true, ℕ, ◌&&◌, ◌∷◌}
 use Rattle.std.specs.Prelude.{codes}
 use Rattle.es_value.specs.declared.value.Value.{Value}
 use Rattle.es_value.specs.declared.value.Value.TheVariants as value
@@ -14,8 +14,8 @@ use Rattle.es6_ast.specs.declared.tree.Argument.TheOpen.{Key-F}
 use Rattle.es6_ast.specs.declared.tree.Expression.{Expression, out-Expression}
 use Rattle.es6_ast.specs.declared.tree.Key.{Key, out-Key}
 use Rattle.source_meaning.specs.Environments.{read_name, resolve, with_this, write_name}
-use Rattle.source_meaning.specs.State.{Behind, KeyText, KeyValue, Naming, OfName, OfProperty, OfSuper, Reference, Refers, State, Work}
-use Rattle.source_meaning.specs.Steps.{Next, begins, gives, hands, impossible, operates, pushed, refers_to, turns}
+use Rattle.source_meaning.specs.State.{Behind, KeyText, KeyValue, Naming, OfName, OfProperty, OfSuper, Reference, State, Work}
+use Rattle.source_meaning.specs.Steps.{Next, begins, gives, impossible, operates, pushed, refers_to, turns}
 use Rattle.source_meaning.specs.Trees.{is_symbol_iterator, name_units}
 
 -- ---- GetValue (6.2.3.1), and PutValue (6.2.3.2) with the value that the expression has

@@ -1,5 +1,5 @@
 -- Statements but loops (ECMA-262, 6th edition, 13).
-use Rattle.std.specs.Prelude.{Bool, List, None, Option, Some, [], false, if◌then◌else◌, is_none, map, not, true, ℕ, ◌∷◌}
+use Rattle.std.specs.Prelude.{Bool, List, None, Option, Some, [], false, if◌then◌else◌, is_none, map, true, ℕ, ◌∷◌}
 use Rattle.std.specs.Str.{bytes_eq}
 use Rattle.es_value.specs.Equality.{same_value}
 use Rattle.es_value.specs.declared.value.Value.{Value}
@@ -12,13 +12,12 @@ use Rattle.es6_ast.specs.declared.tree.Case.{Case, out-Case}
 use Rattle.es6_ast.specs.declared.tree.Catch.{Catch, out-Catch}
 use Rattle.es6_ast.specs.declared.tree.Condition.{Condition, out-Condition}
 use Rattle.es6_ast.specs.declared.tree.Expression.{Expression}
-use Rattle.es6_ast.specs.declared.tree.Identifier.{Identifier}
 use Rattle.es6_ast.specs.declared.tree.Part.{Part, out-Part}
 use Rattle.es6_ast.specs.declared.tree.Pattern.{Pattern}
 use Rattle.es6_ast.specs.declared.tree.Statement.{Statement}
 use Rattle.source_meaning.specs.Environments.{unbound, with_bindings}
 use Rattle.source_meaning.specs.Functions.{with_functions}
-use Rattle.source_meaning.specs.State.{Assigns, Binds, Breaks, CatchBlock, Catching, Chosen, Completion, Destructure, Done, Finishing, Gives, Initializes, Labelling, Matching, Pending, Restore, Returning, Returns, Run, Start, State, StatementsRest, SwitchBody, Throwing, VariableValue, VariablesRest}
+use Rattle.source_meaning.specs.State.{Assigns, Binds, Breaks, CatchBlock, Catching, Chosen, Completion, Destructure, Done, Finishing, Initializes, Matching, Pending, Restore, Returning, Returns, Run, Start, State, SwitchBody, VariableValue, VariablesRest}
 use Rattle.source_meaning.specs.Steps.{Next, begins, controls, hands, impossible, pushed}
 use Rattle.source_meaning.specs.Trees.{Lexical, block_lexicals, case_statements, functions_in, lexical, pattern_names}
 

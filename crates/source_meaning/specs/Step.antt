@@ -1,9 +1,8 @@
 -- The steps of a run of modules, and what a graph means. A step begins a node, takes one turn of an operation, calls a function, or
 -- hands one completion to the top frame.
-use Rattle.std.specs.Prelude.{List, None, Option, Some, [], ℕ, ◌∷◌}
+use Rattle.std.specs.Prelude.{List, None, [], ◌∷◌}
 use Rattle.runs.specs.Run.{Ends, run}
 use Rattle.shared_meaning.specs.Ending.{Ended, ProgramBehaviour, Threw}
-use Rattle.es_value.specs.declared.value.Value.{Value}
 use Rattle.es_value.specs.declared.value.Value.TheVariants as value
 use Rattle.es_operators.specs.Seen.{seen_of}
 use Rattle.es_realm.specs.declared.edition.Edition.TheVariants.{Sixth}
@@ -13,14 +12,14 @@ use Rattle.es_calls.specs.declared.call.BuiltinStep.{BuiltinStep}
 use Rattle.es_calls.specs.declared.call.BuiltinStep.TheVariants as answer
 use Rattle.es_operations.specs.Steps.{asks_presence, step_operation}
 use Rattle.es6_ast.specs.declared.graph.Graph.{Graph}
-use Rattle.es6_ast.specs.declared.tree.Pattern.{Pattern, out-Pattern}
+use Rattle.es6_ast.specs.declared.tree.Pattern.{out-Pattern}
 use Rattle.source_meaning.specs.Calls.{call_value}
 use Rattle.source_meaning.specs.Frames.{handed}
 use Rattle.source_meaning.specs.Generators.{resume}
 use Rattle.source_meaning.specs.Modules.{read_out, start, within_module}
 use Rattle.source_meaning.specs.Nodes.{begin, refer, run_items, run_statements, start_statement}
 use Rattle.source_meaning.specs.Patterns.{destructure}
-use Rattle.source_meaning.specs.State.{Begin, Calls, Completion, Context, Control, Destructure, Done, Due, Frame, Gives, Hand, Operation, Refer, Returns, Run, RunItems, Start, State, Throws, Turn}
+use Rattle.source_meaning.specs.State.{Begin, Calls, Completion, Context, Control, Destructure, Done, Due, Frame, Hand, Operation, Refer, Returns, Run, RunItems, Start, State, Throws, Turn}
 use Rattle.source_meaning.specs.Steps.{Next, at_place, calls, controls, due, gives, hands, impossible, leaves, pushed, raises, with_frames, with_heap}
 
 -- ---- a turn of an operation or of a function of the library

@@ -1,5 +1,5 @@
 -- How a step is said.
-use Rattle.std.specs.Prelude.{List, None, Option, Some, [], length, map, ℕ, ◌++◌, ◌∷◌}
+use Rattle.std.specs.Prelude.{List, None, Option, Some, ℕ, ◌∷◌}
 use Rattle.runs.specs.Run.{Goes, Leaves, Step}
 use Rattle.shared_meaning.specs.Ending.{Exit, Finish}
 use Rattle.es_outside.specs.declared.events.Event.{Event}

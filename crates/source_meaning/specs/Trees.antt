@@ -2,7 +2,7 @@
 -- edition, 9.2.12, 13.2, 13.3, 14.1, 14.5.3).
 use Rattle.std.specs.Char.Escape.{encode_utf16}
 use Rattle.std.specs.List.{filter, flat_map, list_all, list_any}
-use Rattle.std.specs.Prelude.{Bool, List, None, Option, Some, [], codes, cond, false, is_none, map, not, pos, suc, true, zero, ℕ, ℤ, ◌&&◌, ◌++◌, ◌||◌, ◌∷◌}
+use Rattle.std.specs.Prelude.{Bool, List, None, Option, Some, [], codes, cond, false, if◌then◌else◌, is_none, map, not, suc, true, ℕ, ◌&&◌, ◌++◌, ◌||◌, ◌∷◌}
 use Rattle.std.specs.Str.{bytes_eq, chars}
 use Rattle.es_value.specs.declared.value.Value.{Value}
 use Rattle.es_value.specs.declared.value.Value.TheVariants as value
@@ -14,16 +14,16 @@ use Rattle.es6_ast.specs.declared.operators.MethodKind.TheVariants.{PlainMethod}
 use Rattle.es6_ast.specs.declared.operators.VariableKind.{VariableKind}
 use Rattle.es6_ast.specs.declared.operators.VariableKind.TheVariants as variable
 use Rattle.es6_ast.specs.declared.tree.Argument.TheOpen as layer
-use Rattle.es6_ast.specs.declared.tree.Argument.TheOpen.{Expression-F, ForTarget-F, Key-F, Link-F, Parameter-F, Pattern-F, Statement-F}
+use Rattle.es6_ast.specs.declared.tree.Argument.TheOpen.{Expression-F, Key-F, Link-F, Parameter-F, Pattern-F, Statement-F}
 use Rattle.es6_ast.specs.declared.tree.Case.{Case, out-Case}
-use Rattle.es6_ast.specs.declared.tree.Class.{Class, out-Class}
+use Rattle.es6_ast.specs.declared.tree.Class.{out-Class}
 use Rattle.es6_ast.specs.declared.tree.ClassMember.{ClassMember, out-ClassMember}
-use Rattle.es6_ast.specs.declared.tree.Expression.{Expression, out-Expression}
+use Rattle.es6_ast.specs.declared.tree.Expression.{out-Expression}
 use Rattle.es6_ast.specs.declared.tree.Function.{Function, out-Function}
 use Rattle.es6_ast.specs.declared.tree.Identifier.{Identifier}
-use Rattle.es6_ast.specs.declared.tree.Key.{Key, out-Key}
+use Rattle.es6_ast.specs.declared.tree.Key.{out-Key}
 use Rattle.es6_ast.specs.declared.tree.Link.{Link, out-Link}
-use Rattle.es6_ast.specs.declared.tree.Method.{Method, out-Method}
+use Rattle.es6_ast.specs.declared.tree.Method.{out-Method}
 use Rattle.es6_ast.specs.declared.tree.Parameter.{Parameter, out-Parameter}
 use Rattle.es6_ast.specs.declared.tree.Part.{Part, out-Part}
 use Rattle.es6_ast.specs.declared.tree.Pattern.{Pattern, out-Pattern}
