@@ -76,6 +76,7 @@ const rows = [
   ['class A {} class B extends A { constructor() { super(); return 1; } } new B();', 'threw TypeError'],
   ['class A {} class B extends A { constructor() { return {}; } } print(typeof new B());', 'print("object")', 'ended'],
   ['let x = 1; try { let x = 2; throw 0; } catch (e) { print(x); }', 'print(1)', 'ended'],
+  ['for (let i = 0, g = () => i; i < 1; i++) { i = 5; print(g()); }', 'print(0)', 'ended'],
   ['print(print({}));', 'threw TypeError'],
   ['import * as ns from "./main.js"; export { ns }; import { ns as again } from "./main.js"; export let k = 1; print(again.k, again.ns === ns);', 'print(1, true)', 'ended'],
 ];

@@ -6,10 +6,10 @@ const fs = require('fs');
 const path = require('path');
 const { engines, coreOf, after, runAt, runModules } = require('./running.js');
 
-// what they leave by: a number of undefined, a power that isn't safe, and a write of a static that a parent was given later
+// how many lines they show, and what they leave by: a number of undefined, a power that isn't safe, and a write of a static that a parent was given later
 const leaving = {
-  const_assignments: 'left 1', expressions_powers: 'left 1', modules_live_bindings: 'left 1', odd_classes_static_chains_and_super: 'left 6',
-  odd_statements_without_semicolons_and_odd_layout: 'left 1',
+  const_assignments: [4, 'left 1'], expressions_powers: [6, 'left 1'], modules_live_bindings: [6, 'left 1'], odd_classes_static_chains_and_super: [2, 'left 6'],
+  odd_statements_without_semicolons_and_odd_layout: [11, 'left 1'],
 };
 const args = process.argv.slice(2);
 const levels = args[0] === '--levels' ? args.splice(0, 2)[1] : 's01234';
@@ -43,7 +43,8 @@ for (const name of names) {
       if (level !== 's') core = after(level, core);
       const run = level === 's' ? runModules(files, answers) : runAt(level, core, answers);
       told.steps += run.steps;
-      const lines = leaving[name] ? [...expected.slice(0, run.lines.length - 1), leaving[name]] : expected;
+      const [until, exit] = leaving[name] || [];
+      const lines = exit ? [...expected.slice(0, until), exit] : expected;
       const fault = difference(lines, run.lines);
       if (fault) faults.push(`level ${level}: ${fault}`);
       places = places || run.places;

@@ -139,10 +139,6 @@ function_expression f st = function_by (out-Function f).name f st
 
 -- ---- the names of a call (9.2.12)
 
-abbrev pub value_or_undefined : Option Value → Value
-value_or_undefined None = value.Undefined
-value_or_undefined (Some v) = v
-
 abbrev pub first_of : List Value → Value
 first_of [] = value.Undefined
 first_of (v ∷ vs) = v
@@ -196,14 +192,14 @@ first_bindings code args heap =
 -- ---- behind the parameters: the functions of the body are made, and then it runs
 
 -- a name of the body that is a parameter's too begins with its value, unless it is a function (28.f)
-abbrev pub is_held : Held → Value
-is_held (Holds v) = v
-is_held h = value.Undefined
+abbrev pub value_held : Held → Value
+value_held (Holds v) = v
+value_held h = value.Undefined
 
 abbrev pub copied_binding : State → List (List ℕ) → List ℕ → Binding
 copied_binding st functions x =
     if has_name functions x then undefined_binding x
-    else bound true x (is_held (held_in (binding_in (innermost st st.context.environment).bindings x)))
+    else bound true x (value_held (held_in (binding_in (innermost st st.context.environment).bindings x)))
 
 abbrev pub with_body_record : Code → State → State
 with_body_record code st =
