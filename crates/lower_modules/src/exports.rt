@@ -52,7 +52,7 @@ fn exported_value(around: Around, entry: &Entry) -> Result<NamedValue, AllocErro
     ensures { IfOk result (λ v. v ≡ exported_value entry.now around.entry.bindings.now around.entry.context.now) }
 {
     let home = entry.home as usize;
-    match around.bindings.number_of(home, entry.local.bytes())? {
+    match around.bindings.number_of(home, entry.local.bytes()) {
         None => Ok(NamedValue::UndefinedName),
         Some(number) => exported_number(around.bindings, home, number),
     }

@@ -116,20 +116,10 @@ impl<'a> Bindings<'a> {
     }
 
     /// The number of the binding that a module's own scope has for a name.
-    pub fn number_of(&self, home: usize, name: &[u8]) -> Result<Option<usize>, AllocError>
-        ensures { IfOk result (λ n. n ≡ named_in name.now (slice_get self.now.scopes.modules.items home)) }
+    pub fn number_of(&self, home: usize, name: &'a [u8]) -> Option<usize>
+        ensures { result ≡ named_in name.now (slice_get self.now.scopes.modules.items home) }
     {
-        let mut number: usize = 0;
-        while let Some(binding) = self.own(BindingId::Own { home, number }) {
-            if (0 == binding.scope) & (name == binding.name.bytes()) {
-                return Ok(Some(number));
-            }
-            let Some(next) = number.checked_add(1) else {
-                return Err(AllocError);
-            };
-            number = next;
-        }
-        Ok(None)
+        self.scopes.number_of(home, name)
     }
 
     /// Whether the reference at a place may find its binding without a value.

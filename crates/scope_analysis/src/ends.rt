@@ -99,7 +99,11 @@ fn own_id(home: usize, number: Option<usize>) -> Option<BindingId>
 }
 
 /// The number of the binding that a module's own scope has for a name.
-fn number_of<'a>(modules: &[ModuleScopes<'a>], home: usize, name: &'a [u8]) -> Option<usize>
+pub(crate) fn number_of<'a>(
+    modules: &[ModuleScopes<'a>],
+    home: usize,
+    name: &'a [u8],
+) -> Option<usize>
     ensures { result ≡ named_in name.now (slice_get modules.now home) }
 {
     match modules.get(home) {

@@ -4,9 +4,10 @@ ghost use Rattle.std.specs.Prelude.{◌≡◌, ◌<◌, Some, [], length, min, n
 ghost use Rattle.std.specs.Option.{option_copied};
 ghost use Rattle.scope_analysis.specs.Answers.{AreScopes, declared_ids, end_ids, ends_in, is_captured, is_in_loop, is_unsure, own_binding, referred_ids, uncertain_sum};
 ghost use Rattle.binding_tables.specs.declared.ids.BindingId.TheVariants.{Own};
+ghost use Rattle.scope_analysis.specs.Ends.{named_in};
 ghost use Rattle.scope_analysis.specs.Scopes.{AreAllScopes, AreScopesOf, tree_references, with_globals};
 
-use crate::ends::all_ends;
+use crate::ends::{all_ends, number_of};
 use crate::globals::add_globals;
 use crate::tables::{ModuleScopes, module_scopes};
 use binding_tables::{BindingId, NumberedNames, RefId, Table};
@@ -130,6 +131,13 @@ impl<'a> Scopes<'a> {
             BindingId::Own { home, number } => self.modules.get(home)?.names.bindings().get(number),
             BindingId::Global { .. } | BindingId::Host { .. } => None,
         }
+    }
+
+    /// The number of the binding that a module's own scope has for a name.
+    pub fn number_of(&self, home: usize, name: &'a [u8]) -> Option<usize>
+        ensures { result ≡ named_in name.now (slice_get self.now.modules.items home) }
+    {
+        number_of(self.modules.as_slice(), home, name)
     }
 
     /// Whether the binding's scope stands in a loop of its function, the loop's head included.
