@@ -5,7 +5,7 @@
 source "$(dirname "$0")/acorn.bash"
 skip_without_acorn programs
 our_es5c "${1:-}"
-count=${2:-180}
+count=${2:-2000}
 workers=${WORKERS:-$(nproc)}
 run() {
   node --no-warnings --expose-internals --experimental-vm-modules tests/engines/programs.js "$es5c" "$@"
