@@ -1,0 +1,4 @@
+pub mod Replies
+pub mod SlowRooms
+pub mod SureRooms
+pub mod SureStores
