@@ -77,6 +77,18 @@ const rows = [
   ['class A {} class B extends A { constructor() { return {}; } } print(typeof new B());', 'print("object")', 'ended'],
   ['let x = 1; try { let x = 2; throw 0; } catch (e) { print(x); }', 'print(1)', 'ended'],
   ['for (let i = 0, g = () => i; i < 1; i++) { i = 5; print(g()); }', 'print(0)', 'ended'],
+  // rows that no program of the engines comes to
+  ['let i; for (i = 0; i < 2; i++) print(i); for (print("first"); i < 3; i++) ;', 'print(0)', 'print(1)', 'print("first")', 'ended'],
+  ['for (let i = 0; i < 2; i++) { L: { if (i === 1) break; print(i); } }', 'print(0)', 'ended'],
+  ['class A {} class B extends A { constructor() {} } new B();', 'threw ReferenceError'],
+  ['let it = { n: 0, [Symbol.iterator]() { return this; }, next() { print("next"); return { done: true }; }, return() { print("closed"); return {}; } }; let [, , a, ...b] = it; print(a, b.length); [, ] = it;',
+    'print("next")', 'print(undefined, 0)', 'print("next")', 'ended'],
+  ['let it = { [Symbol.iterator]() { return this; }, next() { print("next"); return { done: false }; }, return() { print("closed"); return {}; } }; try { [, ...(() => { throw "target"; })().k] = it; } catch (e) { print(e); }',
+    'print("next")', 'print("closed")', 'print("target")', 'ended'],
+  ['{ let Symbol = { a: "k", b: { c: "m" }, iterator: "n" }, o = { k: 1, m: 2, n: 3 }; print(o[Symbol.a], o[Symbol.b.c], o[Symbol.iterator]); }', 'print(1, 2, 3)', 'ended'],
+  ['function F() {} F.prototype = null; class A extends F {} let a = new A(); print(typeof a, a instanceof A, a.toString === undefined);', 'print("object", true, true)', 'ended'],
+  ['class A { static ["proto" + "type"]() {} }', 'threw TypeError'],
+  ['let x = 9; x /= 3; print(x); x %= 2; print(x);', 'print(3)', 'print(1)', 'ended'],
   ['print(print({}));', 'threw TypeError'],
   ['import * as ns from "./main.js"; export { ns }; import { ns as again } from "./main.js"; export let k = 1; print(again.k, again.ns === ns);', 'print(1, true)', 'ended'],
 ];
