@@ -10,13 +10,13 @@ use Rattle.es6_ast.specs.Tokens.{Filled, read}
 use Rattle.es6_reading.specs.Parser.{Input, Outcome, Took, Fault, Parser}
 use Rattle.es6_reading.specs.Laws.{Says}
 use Rattle.es6_reading.proofs.Places.{Rest, all, less, Leaves, fault_rest}
-use Rattle.es6_reading_laws.specs.Fronts.{Settles, reads, too_deep, too_long}
+use Rattle.es6_reading_laws.specs.Fronts.{Settles, reads}
 use Rattle.es6_viability.specs.TooDeep.{IsShallowIn}
 use Rattle.es6_viability.proofs.Passed.{split}
 use Rattle.es6_viability.proofs.SpelledAlone.{Spelled}
 use Rattle.es6_expr.specs.declared.fault.ParseFault.{ParseFault}
 use Rattle.es6_expr.specs.Faults.{fault_of, place_of}
-use Rattle.es6_expr.specs.Parsed.{Answers, Gives, Refuses, IsDeepThere, IsFaultIn, IsShallow, IsTheOnly, IsWithout, Stands, input_at, took, out_of_memory, stopped}
+use Rattle.es6_expr.specs.Parsed.{Answers, Gives, Refuses, IsFaultIn, IsShallow, IsTheOnly, Stands, input_at, took, out_of_memory, stopped}
 
 -- ## What is taken
 
@@ -36,16 +36,6 @@ left-behind n from left front behind at e h b = omega arith
 
 taken-so : {A B : Type 0} {made : A → B} {x : B} {us : List Filled} {y : A} {c : Input} → Settles made x us (Took y c) → (made y ≡ x) × (c.tokens ≡ us)
 taken-so (reads h t) = (h, t)
-
--- the stops for want of constructs that may open, or of turns
-abbrev IsLimit : Stop → Type 0
-IsLimit stops.Depth = Unit {0}
-IsLimit stops.Endless = Unit {0}
-IsLimit _ = ⊥
-
-at-limit : {A B : Type 0} {made : A → B} {x : B} {us ts : List Filled} {stop : Stop} → Settles made x us (Fault stop ts) → IsLimit stop
-at-limit too_deep = tt
-at-limit too_long = tt
 
 module _ {A B : Type 0} (made : A → B) (tokens : List Token) (from : ℕ) (p : Parser A) where
   abbrev AnswersBy : Result (B × ℕ) ParseFault → Type 0
@@ -91,24 +81,6 @@ module _ {A B : Type 0} (made : A → B) (tokens : List Token) (from : ℕ) (p :
     only-in (Ok r) h = only-of r.0 r.1 h
     only-in (Err fault) h = tt
 
-    none : (stop : Stop) (ts : List Filled) → (IsLimit stop → ⊥) → p (input_at tokens from) ≡ Fault stop ts → (x : B) (rest : List Token) → Begins x rest → ⊥
-    none stop ts l e x rest b = l (at-limit (subst (λ r. Settles made x (map read rest) r) e (settles x rest b)))
-
-    without : (stop : Stop) (ts : List Filled) (at : ℕ) → p (input_at tokens from) ≡ Fault stop ts → IsWithout Begins (fault_of stop at)
-    without stops.Syntax ts at e = none stops.Syntax ts (λ l. l) e
-    without (stops.Lexical kind) ts at e = none (stops.Lexical kind) ts (λ l. l) e
-    without (stops.Outside rule) ts at e = none (stops.Outside rule) ts (λ l. l) e
-    without stops.Depth ts at e = tt
-    without stops.Endless ts at e = tt
-
-    without-of : (fault : ParseFault) → Refuses tokens (p (input_at tokens from)) fault → IsWithout Begins fault
-    without-of fault (out_of_memory e) = subst (IsWithout Begins) (sym e) tt
-    without-of fault (stopped stop ts e f) = subst (IsWithout Begins) (sym f) (without stop ts (place_of (map read tokens) ts) e)
-
-    pub without-in : (r : Result (B × ℕ) ParseFault) → AnswersBy r → IfErr r (IsWithout Begins)
-    without-in (Ok r) h = tt
-    without-in (Err fault) h = without-of fault h
-
 -- ## Faults
 
 parts-of : {ts us : List Filled} → Rest ts us → (front : List Filled) × (ts ≡ front ++ us)
@@ -118,17 +90,10 @@ parts-of (less {t = t} h) = let f = parts-of h in (t ∷ f.0, ap (λ vs. t ∷ v
 of-fault : {A : Type 0} {ts us : List Filled} {stop : Stop} → Leaves {A = A} ts (Fault stop us) → Says stop us × Rest ts us
 of-fault (fault_rest k r) = (k, r)
 
-module _ {A B : Type 0} (made : A → B) (Begins : List Token → Type 0) (Deep : List Token → List Token → Type 0) (p : Parser A) (leaves : (s : Input) → Leaves s.tokens (p s))
+module _ {A B : Type 0} (made : A → B) (Begins : List Token → Type 0) (Stops : Stop → List Token → List Token → Type 0) (p : Parser A) (leaves : (s : Input) → Leaves s.tokens (p s))
     (begins : (front behind : List Token) (stop : Stop) → p (record { tokens = map read (front ++ behind); last = 0 }) ≡ Fault stop (map read behind) → (stop ≡ stops.Endless → ⊥) → Begins front)
-    (deep : (front rest : List Token) → p (record { tokens = map read (front ++ rest); last = 0 }) ≡ Fault stops.Depth (map read rest) → Deep front rest) (tokens : List Token) (from : ℕ) where
-  deep-there : (front rest : List Token) (stop : Stop) → p (record { tokens = map read (front ++ rest); last = 0 }) ≡ Fault stop (map read rest) → IsDeepThere Deep stop front rest
-  deep-there front rest stops.Depth e = deep front rest e
-  deep-there front rest stops.Syntax e = tt
-  deep-there front rest (stops.Lexical kind) e = tt
-  deep-there front rest (stops.Outside rule) e = tt
-  deep-there front rest stops.Endless e = tt
-
-  stands : (stop : Stop) (ts : List Filled) → p (input_at tokens from) ≡ Fault stop ts → (stop ≡ stops.Endless → ⊥) → Stands Begins Deep tokens from stop (place_of (map read tokens) ts)
+    (stops_so : (front rest : List Token) (stop : Stop) → p (record { tokens = map read (front ++ rest); last = 0 }) ≡ Fault stop (map read rest) → Stops stop front rest) (tokens : List Token) (from : ℕ) where
+  stands : (stop : Stop) (ts : List Filled) → p (input_at tokens from) ≡ Fault stop ts → (stop ≡ stops.Endless → ⊥) → Stands Begins Stops tokens from stop (place_of (map read tokens) ts)
   stands stop ts e final =
       let g = of-fault {A = A} {stop = stop} (subst (λ q. Leaves (map read (drop from tokens)) q) e (leaves (input_at tokens from))) in
       let r = parts-of g.1 in
@@ -141,21 +106,21 @@ module _ {A B : Type 0} (made : A → B) (Begins : List Token → Type 0) (Deep 
         parts = s.whole;
         place = ap (place_of (map read tokens)) (sym s.left_);
         begins = begins s.front s.behind stop there final;
-        deep = deep-there s.front s.behind stop there;
+        stops = stops_so s.front s.behind stop there;
         says = subst (λ us. Says stop us) (sym s.left_) g.0;
       }
 
-  fault-in : (stop : Stop) (at : ℕ) → ((stop ≡ stops.Endless → ⊥) → Stands Begins Deep tokens from stop at) → IsFaultIn Begins Deep tokens from (fault_of stop at)
+  fault-in : (stop : Stop) (at : ℕ) → ((stop ≡ stops.Endless → ⊥) → Stands Begins Stops tokens from stop at) → IsFaultIn Begins Stops tokens from (fault_of stop at)
   fault-in stops.Syntax at h = h (λ e. absurd (cc))
   fault-in (stops.Lexical kind) at h = h (λ e. absurd (cc))
   fault-in (stops.Outside rule) at h = h (λ e. absurd (cc))
   fault-in stops.Depth at h = h (λ e. absurd (cc))
   fault-in stops.Endless at h = tt
 
-  fault-of : (fault : ParseFault) → Refuses tokens (p (input_at tokens from)) fault → IsFaultIn Begins Deep tokens from fault
-  fault-of fault (out_of_memory e) = subst (IsFaultIn Begins Deep tokens from) (sym e) tt
-  fault-of fault (stopped stop ts e f) = subst (IsFaultIn Begins Deep tokens from) (sym f) (fault-in stop (place_of (map read tokens) ts) (λ final. stands stop ts e final))
+  fault-of : (fault : ParseFault) → Refuses tokens (p (input_at tokens from)) fault → IsFaultIn Begins Stops tokens from fault
+  fault-of fault (out_of_memory e) = subst (IsFaultIn Begins Stops tokens from) (sym e) tt
+  fault-of fault (stopped stop ts e f) = subst (IsFaultIn Begins Stops tokens from) (sym f) (fault-in stop (place_of (map read tokens) ts) (λ final. stands stop ts e final))
 
-  pub faults-in : (r : Result (B × ℕ) ParseFault) → Answers made tokens (p (input_at tokens from)) r → IfErr r (IsFaultIn Begins Deep tokens from)
+  pub faults-in : (r : Result (B × ℕ) ParseFault) → Answers made tokens (p (input_at tokens from)) r → IfErr r (IsFaultIn Begins Stops tokens from)
   faults-in (Ok r) h = tt
   faults-in (Err fault) h = fault-of fault h

@@ -1,14 +1,17 @@
 -- What the laws of the model say of the expression, or the statement or declaration, that is answered.
-use Rattle.std.proofs.Common.{◌≡◌, ℕ, suc, true, List, drop}
+use Rattle.std.proofs.Common.{◌≡◌, ℕ, suc, true, List, ◌++◌, drop, map}
 use Rattle.std.specs.Prelude.{Result, IfOk, IfErr}
 use Rattle.es6_lexer.specs.declared.token.Token.{Token}
 use Rattle.es6_ast.specs.declared.tree.Expression.{Expression}
 use Rattle.es6_ast.specs.declared.tree.Statement.{Statement}
 use Rattle.es6_ast.specs.declared.settings.Flags.{Flags}
 use Rattle.es6_ast.specs.declared.settings.Stand.TheVariants.{Listed}
+use Rattle.es6_ast.specs.declared.settings.Stop.{Stop}
+use Rattle.es6_ast.specs.declared.settings.Stop.TheVariants as stops
+use Rattle.es6_ast.specs.Tokens.{read}
 use Rattle.es6_ast.specs.Grammar.{level_sequence}
 use Rattle.es6_ast.specs.Semicolons.{SpellsExpression, SpellsStatement}
-use Rattle.es6_reading.specs.Parser.{Input, Reading}
+use Rattle.es6_reading.specs.Parser.{Fault, Input, Reading}
 use Rattle.es6_reading.specs.Expressions.{sequence}
 use Rattle.es6_reading.specs.Statements.{statement}
 use Rattle.es6_reading.specs.Modules.{readers}
@@ -16,16 +19,17 @@ use Rattle.es6_reading.proofs.Places.{Leaves}
 use Rattle.es6_reading.proofs.PlacesOfModules.{placed}
 use Rattle.es6_viability.specs.Alive.{BeginsExpression, BeginsStatement}
 use Rattle.es6_viability.specs.Fronts.{BeginWithExpression, BeginWithStatement, IsExpressionBefore, IsStatementBefore}
-use Rattle.es6_viability.specs.TooDeep.{TooManyOpen, open_in_expression, open_in_statement}
+use Rattle.es6_viability.specs.TooDeep.{open_in_expression, open_in_statement}
 use Rattle.es6_viability.proofs.AliveAlone.{expressions-begin, statements-begin}
+use Rattle.es6_viability.proofs.DeadAlone.{no-expression-goes-on, no-statement-goes-on}
 use Rattle.es6_viability.proofs.TooDeep.{expressions-are-too-deep, statements-are-too-deep}
 use Rattle.es6_viability.proofs.Fronts.{spelled-expressions, spelled-statements}
 use Rattle.es6_viability.proofs.ShallowLaws.{expressions-are-shallow, statements-are-shallow}
 use Rattle.es6_viability.proofs.SpelledAlone.{expression-spelled as expression-spelled-by, statement-spelled as statement-spelled-by}
 use Rattle.es6_cursor.specs.Readers.{inner, turns}
 use Rattle.es6_expr.specs.declared.fault.ParseFault.{ParseFault}
-use Rattle.es6_expr.specs.Parsed.{Answers, IsExpressionFault, IsExpressionIn, IsShallow, IsStatementFault, IsStatementIn, IsTheOnly, IsWithout, input_at}
-use Rattle.es6_expr.proofs.Answered.{faults-in, only-in, shallow-in, spelled-in, without-in}
+use Rattle.es6_expr.specs.Parsed.{Answers, IsExpressionFault, IsExpressionIn, IsShallow, IsStatementFault, IsStatementIn, IsStopAt, IsTheOnly, input_at}
+use Rattle.es6_expr.proofs.Answered.{faults-in, only-in, shallow-in, spelled-in}
 
 -- ## Expressions
 
@@ -41,16 +45,20 @@ expression-shallow room f tokens from = shallow-in (λ (r : Reading). r.value) t
 pub expression-only : (room : ℕ) (f : Flags) (tokens : List Token) (from : ℕ) (r : Result (Expression × ℕ) ParseFault) → ExpressionAnswer room f tokens from r → IfOk r (IsTheOnly (IsExpressionBefore f (drop from tokens)) tokens)
 expression-only room f tokens from = only-in (λ (r : Reading). r.value) tokens from (sequence (inner room) f) (IsExpressionBefore f (drop from tokens)) (λ x rest b. spelled-expressions turns room f (drop from tokens) rest x b)
 
-pub expression-without : (room : ℕ) (f : Flags) (tokens : List Token) (from : ℕ) (r : Result (Expression × ℕ) ParseFault) → ExpressionAnswer room f tokens from r → IfErr r (IsWithout (IsExpressionBefore f (drop from tokens)))
-expression-without room f tokens from = without-in (λ (r : Reading). r.value) tokens from (sequence (inner room) f) (IsExpressionBefore f (drop from tokens)) (λ x rest b. spelled-expressions turns room f (drop from tokens) rest x b)
-
 sequence-leaves : (room : ℕ) (f : Flags) (s : Input) → Leaves s.tokens (sequence (inner room) f s)
 unfolding readers
 sequence-leaves room f s = (placed true turns (suc room)).sequence f s
 
+expression-stops : (room : ℕ) (f : Flags) (front rest : List Token) (stop : Stop) → sequence (inner room) f (record { tokens = map read (front ++ rest); last = 0 }) ≡ Fault stop (map read rest) → IsStopAt room open_in_expression (BeginWithExpression f) stop front rest
+expression-stops room f front rest stops.Endless e = tt
+expression-stops room f front rest stops.Depth e = expressions-are-too-deep turns room f front rest e
+expression-stops room f front rest stops.Syntax e = no-expression-goes-on turns room f front rest stops.Syntax e tt
+expression-stops room f front rest (stops.Lexical kind) e = no-expression-goes-on turns room f front rest (stops.Lexical kind) e tt
+expression-stops room f front rest (stops.Outside rule) e = no-expression-goes-on turns room f front rest (stops.Outside rule) e tt
+
 pub expression-faults : (room : ℕ) (f : Flags) (tokens : List Token) (from : ℕ) (r : Result (Expression × ℕ) ParseFault) → ExpressionAnswer room f tokens from r → IfErr r (IsExpressionFault room f tokens from)
-expression-faults room f tokens from = faults-in (λ (r : Reading). r.value) (BeginsExpression f) (TooManyOpen room open_in_expression (BeginWithExpression f)) (sequence (inner room) f) (sequence-leaves room f)
-    (expressions-begin turns room f) (expressions-are-too-deep turns room f) tokens from
+expression-faults room f tokens from = faults-in (λ (r : Reading). r.value) (BeginsExpression f) (IsStopAt room open_in_expression (BeginWithExpression f)) (sequence (inner room) f) (sequence-leaves room f)
+    (expressions-begin turns room f) (expression-stops room f) tokens from
 
 -- ## Statements
 
@@ -66,13 +74,17 @@ statement-shallow room f tokens from = shallow-in (λ (s : Statement). s) tokens
 pub statement-only : (room : ℕ) (f : Flags) (tokens : List Token) (from : ℕ) (r : Result (Statement × ℕ) ParseFault) → StatementAnswer room f tokens from r → IfOk r (IsTheOnly (IsStatementBefore f (drop from tokens)) tokens)
 statement-only room f tokens from = only-in (λ (s : Statement). s) tokens from (statement (inner room) f Listed) (IsStatementBefore f (drop from tokens)) (λ x rest b. spelled-statements turns room f (drop from tokens) rest x b)
 
-pub statement-without : (room : ℕ) (f : Flags) (tokens : List Token) (from : ℕ) (r : Result (Statement × ℕ) ParseFault) → StatementAnswer room f tokens from r → IfErr r (IsWithout (IsStatementBefore f (drop from tokens)))
-statement-without room f tokens from = without-in (λ (s : Statement). s) tokens from (statement (inner room) f Listed) (IsStatementBefore f (drop from tokens)) (λ x rest b. spelled-statements turns room f (drop from tokens) rest x b)
-
 statement-leaves : (room : ℕ) (f : Flags) (s : Input) → Leaves s.tokens (statement (inner room) f Listed s)
 unfolding readers
 statement-leaves room f s = (placed true turns (suc room)).statement f Listed s
 
+statement-stops : (room : ℕ) (f : Flags) (front rest : List Token) (stop : Stop) → statement (inner room) f Listed (record { tokens = map read (front ++ rest); last = 0 }) ≡ Fault stop (map read rest) → IsStopAt room open_in_statement (BeginWithStatement f) stop front rest
+statement-stops room f front rest stops.Endless e = tt
+statement-stops room f front rest stops.Depth e = statements-are-too-deep turns room f front rest e
+statement-stops room f front rest stops.Syntax e = no-statement-goes-on turns room f front rest stops.Syntax e tt
+statement-stops room f front rest (stops.Lexical kind) e = no-statement-goes-on turns room f front rest (stops.Lexical kind) e tt
+statement-stops room f front rest (stops.Outside rule) e = no-statement-goes-on turns room f front rest (stops.Outside rule) e tt
+
 pub statement-faults : (room : ℕ) (f : Flags) (tokens : List Token) (from : ℕ) (r : Result (Statement × ℕ) ParseFault) → StatementAnswer room f tokens from r → IfErr r (IsStatementFault room f tokens from)
-statement-faults room f tokens from = faults-in (λ (s : Statement). s) (BeginsStatement f) (TooManyOpen room open_in_statement (BeginWithStatement f)) (statement (inner room) f Listed) (statement-leaves room f)
-    (statements-begin turns room f) (statements-are-too-deep turns room f) tokens from
+statement-faults room f tokens from = faults-in (λ (s : Statement). s) (BeginsStatement f) (IsStopAt room open_in_statement (BeginWithStatement f)) (statement (inner room) f Listed) (statement-leaves room f)
+    (statements-begin turns room f) (statement-stops room f) tokens from

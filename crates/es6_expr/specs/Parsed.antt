@@ -12,7 +12,7 @@ use Rattle.es6_ast.specs.Semicolons.{SpellsExpression, SpellsStatement}
 use Rattle.es6_reading.specs.Parser.{Input, Outcome, Took, Fault}
 use Rattle.es6_reading.specs.Laws.{Says}
 use Rattle.es6_viability.specs.Alive.{BeginsExpression, BeginsStatement}
-use Rattle.es6_viability.specs.Fronts.{BeginWithExpression, BeginWithStatement}
+use Rattle.es6_viability.specs.Fronts.{BeginWithExpression, BeginWithStatement, NoneGoesOn}
 use Rattle.es6_viability.specs.TooDeep.{AreOfText, TooManyOpen, open_in_expression, open_in_statement}
 use Rattle.es6_expr.specs.declared.fault.ParseFault.{ParseFault}
 use Rattle.es6_expr.specs.declared.fault.ParseFault.TheVariants.{Syntax, Lexical, Outside, Depth, OutOfMemory}
@@ -54,40 +54,35 @@ IsShallow room count tokens from r = AreOfText (drop from tokens) → (front beh
 abbrev pub IsTheOnly : {A : Type 0} → (A → List Token → Type 0) → List Token → A × ℕ → Type 0
 IsTheOnly {A = A} Begins tokens r = (x : A) (rest : List Token) → Begins x rest → (r.0 ≡ x) × (r.1 ≡ length tokens - length rest)
 
--- There is none where a fault stands, unless it is for the constructs that are open or for memory that ran out.
-abbrev pub IsWithout : {A : Type 0} → (A → List Token → Type 0) → ParseFault → Type 0
-IsWithout Begins (Depth at) = Unit {0}
-IsWithout Begins OutOfMemory = Unit {0}
-IsWithout {A = A} Begins _ = (x : A) (rest : List Token) → Begins x rest → ⊥
-
--- what is said of a stop for the depth
-abbrev pub IsDeepThere : (List Token → List Token → Type 0) → Stop → List Token → List Token → Type 0
-IsDeepThere Deep stops.Depth front rest = Deep front rest
-IsDeepThere Deep stop front rest = Unit {0}
+-- What the stop says of the first of the other tokens: for the depth that more than `room` constructs are open there, in whatever
+-- tokens of a text begin with that begin so, and otherwise that nothing goes on with it.
+abbrev pub IsStopAt : {A : Type 0} → ℕ → (A → List Token → ℕ) → (List Token → A → Type 0) → Stop → List Token → List Token → Type 0
+IsStopAt room count Spell stops.Endless front rest = Unit {0}
+IsStopAt room count Spell stops.Depth front rest = TooManyOpen room count Spell front rest
+IsStopAt room count Spell stop front rest = NoneGoesOn Spell front rest
 
 -- The place is the begin of a token from the number on, or the end of all. Something begins with the tokens up to there, and what is
 -- said of those from there on is so.
-pub record Stands (Begins : List Token → Type 0) (Deep : List Token → List Token → Type 0) (tokens : List Token) (from : ℕ) (stop : Stop) (at : ℕ) : Type 0 where
+pub record Stands (Begins : List Token → Type 0) (Stops : Stop → List Token → List Token → Type 0) (tokens : List Token) (from : ℕ) (stop : Stop) (at : ℕ) : Type 0 where
   pub front : List Token
   pub rest : List Token
   pub parts : drop from tokens ≡ front ++ rest
   pub place : at ≡ place_of (map read tokens) (map read rest)
   pub begins : Begins front
-  pub deep : IsDeepThere Deep stop front rest
+  pub stops : Stops stop front rest
   pub says : Says stop (map read rest)
 
-abbrev pub IsFaultIn : (List Token → Type 0) → (List Token → List Token → Type 0) → List Token → ℕ → ParseFault → Type 0
-IsFaultIn Begins Deep tokens from (Syntax at) = Stands Begins Deep tokens from stops.Syntax at
-IsFaultIn Begins Deep tokens from (Lexical at kind) = Stands Begins Deep tokens from (stops.Lexical kind) at
-IsFaultIn Begins Deep tokens from (Outside rule at) = Stands Begins Deep tokens from (stops.Outside rule) at
-IsFaultIn Begins Deep tokens from (Depth at) = Stands Begins Deep tokens from stops.Depth at
-IsFaultIn Begins Deep tokens from OutOfMemory = Unit {0}
+-- Memory that runs out says nothing.
+abbrev pub IsFaultIn : (List Token → Type 0) → (Stop → List Token → List Token → Type 0) → List Token → ℕ → ParseFault → Type 0
+IsFaultIn Begins Stops tokens from (Syntax at) = Stands Begins Stops tokens from stops.Syntax at
+IsFaultIn Begins Stops tokens from (Lexical at kind) = Stands Begins Stops tokens from (stops.Lexical kind) at
+IsFaultIn Begins Stops tokens from (Outside rule at) = Stands Begins Stops tokens from (stops.Outside rule) at
+IsFaultIn Begins Stops tokens from (Depth at) = Stands Begins Stops tokens from stops.Depth at
+IsFaultIn Begins Stops tokens from OutOfMemory = Unit {0}
 
--- Some expression begins with the tokens before the fault, and at one for the depth more than `room` constructs are open in whatever
--- expression begins so.
+-- a fault of an expression, of which `room` more constructs may be open, and of a statement or declaration
 abbrev pub IsExpressionFault : ℕ → Flags → List Token → ℕ → ParseFault → Type 0
-IsExpressionFault room f = IsFaultIn (BeginsExpression f) (TooManyOpen room open_in_expression (BeginWithExpression f))
+IsExpressionFault room f = IsFaultIn (BeginsExpression f) (IsStopAt room open_in_expression (BeginWithExpression f))
 
--- The same of a statement or declaration.
 abbrev pub IsStatementFault : ℕ → Flags → List Token → ℕ → ParseFault → Type 0
-IsStatementFault room f = IsFaultIn (BeginsStatement f) (TooManyOpen room open_in_statement (BeginWithStatement f))
+IsStatementFault room f = IsFaultIn (BeginsStatement f) (IsStopAt room open_in_statement (BeginWithStatement f))

@@ -11,7 +11,7 @@ ghost use Rattle.es6_viability.specs.TooDeep.{open_in_expression, open_in_statem
 ghost use Rattle.es6_cursor.specs.Readers.{inner};
 ghost use Rattle.es6_expr.specs.Parsed.{Answers, IsExpressionFault, IsExpressionIn};
 ghost use Rattle.es6_expr.specs.Parsed.{IsShallow, IsStatementFault, IsStatementIn};
-ghost use Rattle.es6_expr.specs.Parsed.{IsTheOnly, IsWithout, flags_in, input_at};
+ghost use Rattle.es6_expr.specs.Parsed.{IsTheOnly, flags_in, input_at};
 
 use crate::fault::{ParseFault, fault_of, place_of};
 use crate::readers::{sequence, statement};
@@ -65,7 +65,6 @@ pub fn parse_expression(
     ensures shallow { IfOk result (IsShallow (256 - context.depth) open_in_expression tokens.now from) }
     ensures only { IfOk result (IsTheOnly (IsExpressionBefore (flags_in context) (drop from tokens.now)) tokens.now) }
     ensures fault { IfErr result (IsExpressionFault (256 - context.depth) (flags_in context) tokens.now from) }
-    ensures without { IfErr result (IsWithout (IsExpressionBefore (flags_in context) (drop from tokens.now))) }
 {
     read_expression(alloc, tokens, from, context)
 }
@@ -104,7 +103,6 @@ pub fn parse_statement(
     ensures shallow { IfOk result (IsShallow (256 - context.depth) open_in_statement tokens.now from) }
     ensures only { IfOk result (IsTheOnly (IsStatementBefore (flags_in context) (drop from tokens.now)) tokens.now) }
     ensures fault { IfErr result (IsStatementFault (256 - context.depth) (flags_in context) tokens.now from) }
-    ensures without { IfErr result (IsWithout (IsStatementBefore (flags_in context) (drop from tokens.now))) }
 {
     read_statement(alloc, tokens, from, context)
 }

@@ -1,4 +1,5 @@
 -- Some expression, or some statement or declaration, begins with the tokens before a fault.
+use Rattle.std.specs.Prelude.{codes}
 use Rattle.std.proofs.Common.{◌≡◌, ◌∙◌, ℕ, suc, true, false, List, [], ◌∷◌, ◌++◌, map, refl, sym, ap, subst, append_assoc}
 use Rattle.std.proofs.lemmas.List.{append_cancel_right, map-append}
 use Rattle.es6_lexer.specs.declared.token.Token.{Token}
@@ -17,6 +18,8 @@ use Rattle.es6_reading.specs.Modules.{readers}
 use Rattle.es6_reading.specs.Parser.{Outcome, Took, Fault, Reading}
 use Rattle.es6_reading.specs.Statements.{statement}
 use Rattle.es6_reading.proofs.Follows.{plus}
+use Rattle.es6_reading.specs.Laws.{BeginWith}
+use Rattle.es6_reading_laws.specs.Fronts.{EndsThere, parenthesis as ended}
 use Rattle.es6_viability.specs.Alive.{IsBegun, TokensBeforeFaultsBeginExpressions, TokensBeforeFaultsBeginStatements}
 use Rattle.es6_viability.proofs.Completions.{Closer, parenthesis, Behind, behind_end}
 use Rattle.es6_viability.proofs.Expressions as expressions'
@@ -80,14 +83,27 @@ module _ {A : Type 0} (Spells : A → List Token → List Token → Type 0) (k :
       stop-of : {us vs : List Filled} → ◌≡◌ {A = Outcome A} (Fault Endless us) (Fault stop vs) → stop ≡ Endless
       stop-of e = cc
 
+-- one token ends what is spelled before it
+abbrev Ends : {A : Type 0} → (A → List Token → List Token → Type 0) → (List Filled → Type 0) → A → List Token → List Token → Type 0
+Ends Spells After x tokens rest = Spells x tokens rest × After (map read rest)
+
+with-end : {A : Type 0} (Spells : A → List Token → List Token → Type 0) (After : List Filled → Type 0) (x : A) {tokens : List Token} {us : List Filled} → After us → Spelled (Spells x) tokens us → Spelled (Ends Spells After x) tokens us
+with-end Spells After x a s = record { front = s.front; rest = s.rest; parts = s.parts; left_ = s.left_; spelled = (s.spelled, subst After s.left_ a) }
+
+no-finally : BeginWith (Read (kinds.Word (codes "finally"))) (fill kinds.End ∷ []) → ⊥
+no-finally e = absurd (cc)
+
 pub expressions-begin : TokensBeforeFaultsBeginExpressions
 expressions-begin fuel room f front behind stop h final =
     let g = expressions'.sequence (readers true fuel room) (readers true (suc fuel) (plus room 3)) (better true fuel room) f (record { tokens = map read (front ++ behind); last = 0 }) in
-    alive-by (λ (x : Reading) tokens rest. SpellsExpression f level_sequence tokens x.value rest) (kinds.Punctuator marks.RightParenthesis) (λ us. sequence (readers true (suc fuel) (plus room 3)) f (record { tokens = us; last = 0 })) (λ tokens x last e. expression-spelled (suc fuel) (plus room 3) f tokens x (record { tokens = fill (kinds.Punctuator marks.RightParenthesis) ∷ []; last = last }) e)
-    (λ x us. Closer false us) (λ x. parenthesis) front behind stop final h g.half g.fresh
+    let b = alive-by (Ends (λ (x : Reading) tokens rest. SpellsExpression f level_sequence tokens x.value rest) EndsThere) (kinds.Punctuator marks.RightParenthesis) (λ us. sequence (readers true (suc fuel) (plus room 3)) f (record { tokens = us; last = 0 }))
+    (λ tokens x last e. with-end (λ (y : Reading) ts rest. SpellsExpression f level_sequence ts y.value rest) EndsThere x (ended refl) (expression-spelled (suc fuel) (plus room 3) f tokens x (record { tokens = fill (kinds.Punctuator marks.RightParenthesis) ∷ []; last = last }) e))
+    (λ x us. Closer false us) (λ x. parenthesis) front behind stop final h g.half g.fresh in
+    record { more = b.more; rest = b.rest; value = b.value.value; spelled = b.spelled }
 
 pub statements-begin : TokensBeforeFaultsBeginStatements
 statements-begin fuel room f front behind stop h final =
     let g = statements'.statement (readers true fuel room) (readers true (suc fuel) (plus room 3)) (better true fuel room) f Listed (record { tokens = map read (front ++ behind); last = 0 }) in
-    alive-by (λ (x : Statement) tokens rest. SpellsStatement f tokens x rest) kinds.End (λ us. statement (readers true (suc fuel) (plus room 3)) f Listed (record { tokens = us; last = 0 })) (λ tokens x last e. statement-spelled (suc fuel) (plus room 3) f tokens x (record { tokens = fill kinds.End ∷ []; last = last }) e)
+    alive-by (Ends (λ (x : Statement) tokens rest. SpellsStatement f tokens x rest) (λ us. BeginWith (Read (kinds.Word (codes "finally"))) us → ⊥)) kinds.End (λ us. statement (readers true (suc fuel) (plus room 3)) f Listed (record { tokens = us; last = 0 }))
+    (λ tokens x last e. with-end (λ (y : Statement) ts rest. SpellsStatement f ts y rest) (λ us. BeginWith (Read (kinds.Word (codes "finally"))) us → ⊥) x no-finally (statement-spelled (suc fuel) (plus room 3) f tokens x (record { tokens = fill kinds.End ∷ []; last = last }) e))
     (λ x us. Behind us) (λ x. behind_end) front behind stop final h g.half g.fresh

@@ -132,7 +132,7 @@ module _ {A : Type 0} (p p0 : Parser A) (same-run : (c : Input) → p0 c ≡ p c
   never : {x : A} {c : Input} {b : Stop} {ws : List Filled} → ◌≡◌ {A = Outcome A} (Took x c) (Fault b ws) → ⊥
   never e = absurd (cc)
 
-  moves : (front us : List Filled) (stop : Stop) → p (record { tokens = front ++ us; last = 0 }) ≡ Fault stop us → (rest : List Filled) → SameHead us rest → p (record { tokens = front ++ rest; last = 0 }) ≡ Fault stop rest
+  pub moves : (front us : List Filled) (stop : Stop) → p (record { tokens = front ++ us; last = 0 }) ≡ Fault stop us → (rest : List Filled) → SameHead us rest → p (record { tokens = front ++ rest; last = 0 }) ≡ Fault stop rest
   moves front us stop h rest w = by (local (record { tokens = front ++ us; last = 0 })) h
     where
       by : {o : Outcome A} → LocalOf (gain zero false) (λ vs. p0 (record { tokens = vs; last = 0 })) (front ++ us) o → o ≡ Fault stop us → p (record { tokens = front ++ rest; last = 0 }) ≡ Fault stop rest
@@ -242,7 +242,7 @@ spans-are [] at = refl
 spans-are (x ∷ xs) at = omega (arith, around-append (item_spans x) (joined item_spans xs) at, spans-are xs at)
 
 module _ (fuel room more : ℕ) where
-  same-readers : {A : Type 0} (p : Inner → Parser A) (c : Input) → p (readers true (plus fuel zero) (plus room zero)) c ≡ p (readers true fuel room) c
+  pub same-readers : {A : Type 0} (p : Inner → Parser A) (c : Input) → p (readers true (plus fuel zero) (plus room zero)) c ≡ p (readers true fuel room) c
   same-readers p c = ap (λ n. p (readers true n (plus room zero)) c) (plus-zero fuel) ∙ ap (λ n. p (readers true fuel n) c) (plus-zero room)
 
   pub expressions : (f : Flags) → IsDeep room (λ (x : Reading). open_in_expression x.value) (sequence (readers true fuel room) f) (sequence (readers true fuel (plus room more)) f)

@@ -30,3 +30,4 @@ pub mod LongerReaders
 pub mod TooDeep
 pub mod SpelledAlone
 pub mod AliveAlone
+pub mod DeadAlone

@@ -5,15 +5,13 @@ use Rattle.es6_ast.specs.declared.settings.Flags.{Flags}
 use Rattle.es6_ast.specs.declared.settings.Stand.TheVariants.{Listed}
 use Rattle.es6_ast.specs.declared.settings.Stop.{Stop}
 use Rattle.es6_ast.specs.declared.settings.Stop.TheVariants.{Endless}
-use Rattle.es6_ast.specs.declared.tree.Statement.{Statement}
 use Rattle.es6_ast.specs.Dead.{IsAlive, IsDead}
-use Rattle.es6_ast.specs.Grammar.{level_sequence}
-use Rattle.es6_ast.specs.Semicolons.{SpellsExpression, SpellsStatement}
 use Rattle.es6_ast.specs.Tokens.{Filled, read}
 use Rattle.es6_reading.specs.Expressions.{sequence}
 use Rattle.es6_reading.specs.Modules.{read_module, readers}
-use Rattle.es6_reading.specs.Parser.{Fault, Reading}
+use Rattle.es6_reading.specs.Parser.{Fault}
 use Rattle.es6_reading.specs.Statements.{statement}
+use Rattle.es6_viability.specs.Fronts.{IsExpressionBefore, IsStatementBefore}
 
 -- Some module begins with the tokens before a fault, whatever stops the reader there but want of turns.
 abbrev pub TokensBeforeFaultsAreAlive : Type 0
@@ -30,12 +28,13 @@ pub record IsBegun {A : Type 0} (Spells : A → List Token → List Token → Ty
   pub value : A
   pub spelled : Spells value (tokens ++ (more ++ rest)) rest
 
--- some expression begins with these tokens, or some statement or declaration
+-- Some expression begins with these tokens, up to a mark that closes or separates, or to the end; or some statement or declaration,
+-- up to no `finally`.
 abbrev pub BeginsExpression : Flags → List Token → Type 0
-BeginsExpression f tokens = IsBegun (λ (x : Reading) ts rest. SpellsExpression f level_sequence ts x.value rest) tokens
+BeginsExpression f tokens = IsBegun (λ x ts rest. IsExpressionBefore f ts x rest) tokens
 
 abbrev pub BeginsStatement : Flags → List Token → Type 0
-BeginsStatement f tokens = IsBegun (λ (x : Statement) ts rest. SpellsStatement f ts x rest) tokens
+BeginsStatement f tokens = IsBegun (λ s ts rest. IsStatementBefore f ts s rest) tokens
 
 -- So it is with the tokens before a fault, but one for want of turns.
 abbrev pub TokensBeforeFaultsBeginExpressions : Type 0

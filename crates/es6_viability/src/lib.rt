@@ -4,7 +4,7 @@
 
 ghost use Rattle.es6_viability.specs.Alive.{NoDeadTokenIsPassed, TokensBeforeFaultsAreAlive};
 ghost use Rattle.es6_viability.specs.Alive.{TokensBeforeFaultsBeginExpressions, TokensBeforeFaultsBeginStatements};
-ghost use Rattle.es6_viability.specs.Fronts.{SpelledExpressionsAreRead, SpelledStatementsAreRead};
+ghost use Rattle.es6_viability.specs.Fronts.{NoExpressionGoesOn, NoStatementGoesOn, SpelledExpressionsAreRead, SpelledStatementsAreRead};
 ghost use Rattle.es6_viability.specs.Spelled.{FaultsAreDead, LexicalFaultsAreReported, NoneIsSpelledPastFaults, ReadModulesAreSpelled, SpelledModulesAreRead, SpelledModulesAreReadOrLimited};
 ghost use Rattle.es6_viability.specs.TooDeep.{ExpressionsAreShallow, ExpressionsAreTooDeep, ModulesAreTooDeep};
 ghost use Rattle.es6_viability.specs.TooDeep.{StatementsAreShallow, StatementsAreTooDeep};
@@ -96,4 +96,14 @@ pub fn tokens_before_faults_begin_expressions()
 /// Some statement or declaration begins with the tokens that stand before a fault of a reader of statements.
 pub fn tokens_before_faults_begin_statements()
     ensures { TokensBeforeFaultsBeginStatements }
+{}
+
+/// No expression goes on with the token at which a reader of it stops, unless it is for want of constructs that may open or of turns.
+pub fn no_expression_goes_on_with_a_fault()
+    ensures { NoExpressionGoesOn }
+{}
+
+/// No statement or declaration goes on with the token at which a reader of it stops, unless it is for want of these.
+pub fn no_statement_goes_on_with_a_fault()
+    ensures { NoStatementGoesOn }
 {}

@@ -1,6 +1,6 @@
 use Rattle.std.specs.Prelude.{◌-◌}
 use Rattle.es6_expr.specs.Parsed.{flags_in}
-use Rattle.es6_expr.proofs.Laws.{expression-faults, expression-only, expression-shallow, expression-spelled, expression-without}
+use Rattle.es6_expr.proofs.Laws.{expression-faults, expression-only, expression-shallow, expression-spelled}
 use Rattle.es6_expr.proofs.parse.parse_expression.Goals as goal
 
 pub returns-clause-spelled : goal.returns-clause-spelled
@@ -14,6 +14,3 @@ returns-clause-only c = expression-only (256 - c.args.context.depth) (flags_in c
 
 pub returns-clause-fault : goal.returns-clause-fault
 returns-clause-fault c = expression-faults (256 - c.args.context.depth) (flags_in c.args.context) c.args.tokens.now c.args.from _ c.read_expression.ensures
-
-pub returns-clause-without : goal.returns-clause-without
-returns-clause-without c = expression-without (256 - c.args.context.depth) (flags_in c.args.context) c.args.tokens.now c.args.from _ c.read_expression.ensures
