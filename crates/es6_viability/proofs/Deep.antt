@@ -1,6 +1,6 @@
--- Two readers, of which the second one may open more constructs. Where the first one stops for want of these at a token, as many
--- constructs are open there as it may open, and one more, in whatever the second one gives.
-use Rattle.std.proofs.Common.{◌≡◌, ◌∙◌, ◌⊎◌, inl, inr, ℕ, zero, suc, ◌+◌, ◌-◌, ◌<◌, ◌≤◌, Bool, true, false, ◌||◌, List, [], ◌∷◌, Option, Some, None, ap, sym, refl, subst, arith}
+-- Two readers, of which the second one may open more constructs. In whatever the second one gives, at most as many are open at each
+-- token that the first one takes as it may open; where that one stops for want of these at a token, one more is open there.
+use Rattle.std.proofs.Common.{◌≡◌, ◌∙◌, ◌⊎◌, inl, inr, ℕ, zero, suc, ◌+◌, ◌-◌, ◌<◌, ◌≤◌, Bool, true, false, cond, ◌||◌, List, [], ◌∷◌, Option, Some, None, ap, sym, refl, subst, arith}
 use Rattle.std.proofs.lemmas.Bool.{false≢true}
 use Rattle.std.proofs.lemmas.Bool.Decides.{nat_tests}
 use Rattle.es_text.specs.declared.Span.{Span}
@@ -8,11 +8,12 @@ use Rattle.es6_lexer.specs.declared.token.Punctuator.{Punctuator as Mark}
 use Rattle.es6_lexer.specs.declared.token.TokenKind.TheVariants as kinds
 use Rattle.es6_ast.specs.declared.settings.Stop.{Stop}
 use Rattle.es6_ast.specs.declared.settings.Stop.TheVariants.{Depth}
+use Rattle.es6_ast.specs.Depth.{is_around}
 use Rattle.es6_ast.specs.Tokens.{Read, Filled, begin_of}
 use Rattle.es6_reading.specs.Parser.{Input, Outcome, Took, Fault, Parser, fails, after, on, on_taken, choose, next_is, if_next, kept_if, mark, next_mark, take_as, refused, no_number, no_expression, Inner, on_group}
 use Rattle.es6_reading.specs.Modules.{is_end}
 use Rattle.es6_reading.proofs.Posts.{Taken, taken}
-use Rattle.es6_reading.proofs.Shallow.{opens_of, closes_of, Sorted, Groups, Knows, of-mark}
+use Rattle.es6_reading.proofs.Shallow.{opens_of, closes_of, Sorted, Walk, stay, step, Groups, Knows, of-mark}
 use Rattle.es6_reading.proofs.SpanCounts.{one, sum_of}
 
 -- How many groups are open before these tokens, which are left of all.
@@ -42,9 +43,9 @@ abbrev pub From : ℕ → List Filled → Type 0
 From n [] = Unit {0}
 From n (t ∷ ts) = n ≤ t.span.begin
 
--- the first of the tokens ends no later
+-- there is a token, and it ends no later
 abbrev pub Behind : List Filled → ℕ → Type 0
-Behind [] n = Unit {0}
+Behind [] n = ⊥
 Behind (t ∷ ts) n = t.span.end ≤ n
 
 -- At the limit, among the tokens of what was read, so many constructs are open in it.
@@ -58,8 +59,14 @@ Claim room s g still still last D = Unit {0}
 Claim room s g still (gone l) last D = Bound room s g last l D
 Claim room s g (gone l) m last D = m ≡ gone l
 
+-- At each token that both readers took, at most `room` constructs are open.
+abbrev pub Walked : {all : List Filled} → ℕ → (ℕ → ℕ) → Input → ℕ → Input → ℕ → Mode all → Mode all → Type 0
+Walked room D s g c h still still = Walk room D s.last c.last g s.tokens h c.tokens
+Walked room D s g c h still (gone l) = (k : ℕ) × Walk room D s.last c.last g s.tokens k (l.token ∷ l.behind)
+Walked room D s g c h (gone l) m = Unit {0}
+
 -- What was read from the one spot, with so many groups open, up to the other one, where so many are open; the mark says that a
--- token was taken.
+-- token was taken. The spans of what it gives lie round no place before what was taken or behind it.
 pub record At {all : List Filled} (b : Bool) (room : ℕ) (s : Spot all) (g h : ℕ) (c : Spot all) (D : ℕ → ℕ) : Type 0 where
   pub balance : c.groups + g ≡ s.groups + h
   pub enough : g ≤ s.groups
@@ -70,6 +77,9 @@ pub record At {all : List Filled} (b : Bool) (room : ℕ) (s : Spot all) (g h : 
   pub steps : (s.input ≡ c.input) ⊎ Behind s.input.tokens c.input.last
   pub moved : b ≡ true → Behind s.input.tokens c.input.last
   pub fits : c.mode ≡ still → h ≤ room
+  pub before : (at : ℕ) → at < s.input.last → D at ≡ 0
+  pub behind : (at : ℕ) → c.input.last ≤ at → D at ≡ 0
+  pub walk : Walked room D s.input g c.input h s.mode c.mode
   pub claim : Claim room s g s.mode c.mode c.input.last D
 
 pub record Ready {all : List Filled} (room h : ℕ) (s : Spot all) : Type 0 where
@@ -82,7 +92,7 @@ abbrev pub no_spans : ℕ → ℕ
 no_spans at = 0
 
 behind-more : (ts : List Filled) (m n : ℕ) → m ≤ n → Behind ts m → Behind ts n
-behind-more [] m n o h = tt
+behind-more [] m n o h = absurd h
 behind-more (t ∷ ts) m n o h = omega (arith, o, h)
 
 then-steps : {s c : Input} (d : Input) → c.last ≤ d.last → (s ≡ c) ⊎ Behind s.tokens c.last → (c ≡ d) ⊎ Behind c.tokens d.last → (s ≡ d) ⊎ Behind s.tokens d.last
@@ -93,6 +103,40 @@ then-steps {s = s} {c = c} d o (inr k) n = inr (behind-more s.tokens c.last d.la
 then-moved : {s c : Input} (d : Input) → c.last ≤ d.last → (s ≡ c) ⊎ Behind s.tokens c.last → Behind c.tokens d.last → Behind s.tokens d.last
 then-moved d o (inl e) k = subst (λ x. Behind x.tokens d.last) (sym e) k
 then-moved {s = s} {c = c} d o (inr n) k = behind-more s.tokens c.last d.last o n
+
+-- ## Walks
+
+-- other bounds, and spans that are counted anew at the places in between
+pub change : {room room' low low' high high' : ℕ} {D E : ℕ → ℕ} {g h : ℕ} {ts us : List Filled} → ((at : ℕ) → low ≤ at → at < high → (low' ≤ at) × (at < high') × ((m : ℕ) → m + D at ≤ room → m + E at ≤ room')) → Walk room D low high g ts h us → Walk room' E low' high' g ts h us
+change f stay = stay
+change f (step {g = g} {t = t} l m b e w) =
+    let at = f t.span.begin l m in
+    step at.0 at.1 (at.2 (g + opens_of t.kind) b) e (change f w)
+
+join : {room low high : ℕ} {D : ℕ → ℕ} {g h k : ℕ} {ts us vs : List Filled} → Walk room D low high g ts h us → Walk room D low high h us k vs → Walk room D low high g ts k vs
+join stay v = v
+join (step l m b e w) v = step l m b e (join w v)
+
+deepen : {room low high : ℕ} {D : ℕ → ℕ} {g h : ℕ} {ts us : List Filled} → Walk room D low high g ts h us → Walk (suc room) D low high (1 + g) ts (1 + h) us
+deepen stay = stay
+deepen (step l m b e w) = step l m (omega (arith, b)) (omega (arith, e)) (deepen w)
+
+module _ {all : List Filled} where
+  begin-walk : (room : ℕ) (D : ℕ → ℕ) (s : Input) (h : ℕ) (m : Mode all) → Walked room D s h s h m m
+  begin-walk room D s h still = stay
+  begin-walk room D s h (gone l) = tt
+
+  and-walk : (room : ℕ) (D E : ℕ → ℕ) (s c d : Input) (g h k : ℕ) → s.last ≤ c.last → c.last ≤ d.last → ((at : ℕ) → c.last ≤ at → D at ≡ 0) → ((at : ℕ) → at < c.last → E at ≡ 0) → (sm cm dm : Mode all) → ((l : Limit all) → cm ≡ gone l → dm ≡ gone l)
+      → Walked room D s g c h sm cm → Walked room E c h d k cm dm → Walked room (λ at. D at + E at) s g d k sm dm
+  and-walk room D E s c d g h k o p none-behind none-before still still still f w v = join (change (λ at l m. let z = none-before at m in (l, omega (arith, m, p), λ n i. omega (arith, z, i))) w) (change (λ at l m. let z = none-behind at l in (omega (arith, l, o), m, λ n i. omega (arith, z, i))) v)
+  and-walk room D E s c d g h k o p none-behind none-before still still (gone l) f w v = (v.0, join (change (λ at l m. let z = none-before at m in (l, omega (arith, m, p), λ n i. omega (arith, z, i))) w) (change (λ at l m. let z = none-behind at l in (omega (arith, l, o), m, λ n i. omega (arith, z, i))) v.1))
+  and-walk room D E s c d g h k o p none-behind none-before still (gone l) dm f w v = subst (λ m. Walked room (λ at. D at + E at) s g d k still m) (sym (f l refl)) (w.0, change (λ at l m. let z = none-before at m in (l, omega (arith, m, p), λ n i. omega (arith, z, i))) w.1)
+  and-walk room D E s c d g h k o p none-behind none-before (gone l) cm dm f w v = tt
+
+  change-walk : (room : ℕ) (D E : ℕ → ℕ) (s c d : Input) (g h : ℕ) → c.tokens ≡ d.tokens → ((at : ℕ) → s.last ≤ at → at < c.last → (at < d.last) × (E at ≡ D at)) → (sm cm : Mode all) → Walked room D s g c h sm cm → Walked room E s g d h sm cm
+  change-walk room D E s c d g h e f still still w = subst (λ ts. Walk room E s.last d.last g s.tokens h ts) e (change (λ at l m. let z = f at l m in (l, z.0, λ n i. omega (arith, z.1, i))) w)
+  change-walk room D E s c d g h e f still (gone l) w = (w.0, change (λ at i m. let z = f at i m in (i, z.0, λ n j. omega (arith, z.1, j))) w.1)
+  change-walk room D E s c d g h e f (gone l) cm w = tt
 
 and-moved : (b b' : Bool) (P : Type 0) → (b ≡ true → P) → (b' ≡ true → P) → (b' || b) ≡ true → P
 and-moved b true P f k e = k refl
@@ -106,6 +150,11 @@ module _ {all : List Filled} where
   begin-claim room s g last still D = tt
   begin-claim room s g last (gone l) D = refl
 
+  -- the first reader doesn't read on
+  pub stays-gone : (room : ℕ) (s : Spot all) (g last : ℕ) (D : ℕ → ℕ) (sm cm : Mode all) → Claim room s g sm cm last D → (l : Limit all) → sm ≡ gone l → cm ≡ gone l
+  stays-gone room s g last D still cm c l k = absurd (cc)
+  stays-gone room s g last D (gone l') cm c l k = c ∙ k
+
   pub begin : {room h : ℕ} (s : Spot all) → Ready room h s → At false room s h h s no_spans
   begin {room = room} {h = h} s r = record {
     balance = refl;
@@ -117,6 +166,9 @@ module _ {all : List Filled} where
     steps = inl refl;
     moved = λ e. absurd (false≢true e);
     fits = r.fits;
+    before = λ at l. refl;
+    behind = λ at l. refl;
+    walk = begin-walk room no_spans s.input h s.mode;
     claim = begin-claim room s h s.input.last s.mode no_spans;
   }
 
@@ -131,7 +183,7 @@ module _ {all : List Filled} where
 
   -- what was read, and what is read after it
   pub and : {b b' : Bool} {room g h k : ℕ} {s c d : Spot all} {D E : ℕ → ℕ} → At b room s g h c D → At b' room c h k d E → At (b' || b) room s g k d (λ at. D at + E at)
-  and {b = b} {b' = b'} {room = room} {g = g} {h = h} {s = s} {c = c} {d = d} {D = D} {E = E} a q = record {
+  and {b = b} {b' = b'} {room = room} {g = g} {h = h} {k = k} {s = s} {c = c} {d = d} {D = D} {E = E} a q = record {
     balance = omega (arith, a.balance, q.balance);
     enough = a.enough;
     stands = q.stands;
@@ -141,6 +193,9 @@ module _ {all : List Filled} where
     steps = then-steps d.input q.order a.steps q.steps;
     moved = and-moved b b' (Behind s.input.tokens d.input.last) (λ e. behind-more s.input.tokens c.input.last d.input.last q.order (a.moved e)) (λ e. then-moved d.input q.order a.steps (q.moved e));
     fits = q.fits;
+    before = λ at l. omega (arith, a.before at l, q.before at (omega (arith, l, a.order)));
+    behind = λ at l. omega (arith, q.behind at l, a.behind at (omega (arith, l, q.order)));
+    walk = and-walk room D E s.input c.input d.input g h k a.order q.order a.behind q.before s.mode c.mode d.mode (stays-gone room c h d.input.last E c.mode d.mode q.claim) a.walk q.walk;
     claim = and-claim room s c g h d.mode d.input.last D E s.mode c.mode a.balance q.order a.comes a.claim q.claim;
   }
 
@@ -155,17 +210,20 @@ module _ {all : List Filled} where
     steps = a.steps;
     moved = λ e. absurd (false≢true e);
     fits = a.fits;
+    before = a.before;
+    behind = a.behind;
+    walk = a.walk;
     claim = a.claim;
   }
 
-  less-claim : (room : ℕ) (s : Spot all) (g last : ℕ) (D E : ℕ → ℕ) → ((at : ℕ) → D at ≤ E at) → (sm cm : Mode all) → Claim room s g sm cm last D → Claim room s g sm cm last E
-  less-claim room s g last D E f still still p = tt
-  less-claim room s g last D E f still (gone l) p = record { deep = omega (arith, p.deep, f l.token.span.begin); comes = p.comes; ends = p.ends }
-  less-claim room s g last D E f (gone l) cm p = p
+  same-claim : (room : ℕ) (s : Spot all) (g last : ℕ) (D E : ℕ → ℕ) → ((at : ℕ) → D at ≡ E at) → (sm cm : Mode all) → Claim room s g sm cm last D → Claim room s g sm cm last E
+  same-claim room s g last D E f still still p = tt
+  same-claim room s g last D E f still (gone l) p = record { deep = omega (arith, p.deep, f l.token.span.begin); comes = p.comes; ends = p.ends }
+  same-claim room s g last D E f (gone l) cm p = p
 
-  -- more spans
-  pub less : {b : Bool} {room g h : ℕ} {s c : Spot all} {D E : ℕ → ℕ} → At b room s g h c D → ((at : ℕ) → D at ≤ E at) → At b room s g h c E
-  less {room = room} {g = g} {s = s} {c = c} {D = D} {E = E} a f = record {
+  -- as many spans
+  pub recount : {b : Bool} {room g h : ℕ} {s c : Spot all} {D E : ℕ → ℕ} → At b room s g h c D → ((at : ℕ) → D at ≡ E at) → At b room s g h c E
+  recount {room = room} {g = g} {h = h} {s = s} {c = c} {D = D} {E = E} a f = record {
     balance = a.balance;
     enough = a.enough;
     stands = a.stands;
@@ -175,26 +233,29 @@ module _ {all : List Filled} where
     steps = a.steps;
     moved = a.moved;
     fits = a.fits;
-    claim = less-claim room s g c.input.last D E f s.mode c.mode a.claim;
+    before = λ at l. sym (f at) ∙ a.before at l;
+    behind = λ at l. sym (f at) ∙ a.behind at l;
+    walk = change-walk room D E s.input c.input c.input g h refl (λ at l m. (m, sym (f at))) s.mode c.mode a.walk;
+    claim = same-claim room s g c.input.last D E f s.mode c.mode a.claim;
   }
 
   -- what a tree holds is a sum over its parts, and these were read
-  pub finish : {b : Bool} {room g h : ℕ} {s c : Spot all} {D E F : ℕ → ℕ} → At b room s g h c D → ((at : ℕ) → E at ≡ F at) → ((at : ℕ) → D at ≤ F at) → At b room s g h c E
-  finish a e f = less a (λ at. omega (arith, e at, f at))
+  pub finish : {b : Bool} {room g h : ℕ} {s c : Spot all} {D E F : ℕ → ℕ} → At b room s g h c D → ((at : ℕ) → E at ≡ F at) → ((at : ℕ) → D at ≡ F at) → At b room s g h c E
+  finish a e f = recount a (λ at. omega (arith, e at, f at))
 
   -- a part and those after it
-  pub first : {A : Type 0} {x : A} {b : Bool} {room g h : ℕ} {s c : Spot all} {D m : ℕ → ℕ} (f : A → ℕ → ℕ) (xs : List A) → At b room s g h c D → ((at : ℕ) → f x at ≡ m at) → ((at : ℕ) → D at ≤ m at + sum_of f xs at) → At b room s g h c (sum_of f (x ∷ xs))
-  first f xs a e k = less a (λ at. omega (arith, e at, k at))
+  pub first : {A : Type 0} {x : A} {b : Bool} {room g h : ℕ} {s c : Spot all} {D m : ℕ → ℕ} (f : A → ℕ → ℕ) (xs : List A) → At b room s g h c D → ((at : ℕ) → f x at ≡ m at) → ((at : ℕ) → D at ≡ m at + sum_of f xs at) → At b room s g h c (sum_of f (x ∷ xs))
+  first f xs a e k = recount a (λ at. omega (arith, e at, k at))
 
 -- ## One construct deeper
 
 -- the span is from the first token to the last one
 pub record Within {all : List Filled} (s c : Spot all) (span : Span) : Type 0 where
-  pub begins : span.begin ≤ begin_of s.input.tokens
-  pub ends : c.input.last ≤ span.end
+  pub begins : span.begin ≡ begin_of s.input.tokens
+  pub ends : c.input.last ≡ span.end
 
 pub within : {all : List Filled} {s c : Spot all} {span : Span} → span ≡ record { begin = begin_of s.input.tokens; end = c.input.last } → Within s c span
-within e = record { begins = rw e (omega arith); ends = rw e (omega arith) }
+within e = record { begins = rw e refl; ends = rw e refl }
 
 pub same-span : {all : List Filled} {s c : Spot all} {x y : Span} → x ≡ y → Within s c y → Within s c x
 same-span {s = s} {c = c} e w = subst (λ z. Within s c z) (sym e) w
@@ -202,18 +263,47 @@ same-span {s = s} {c = c} e w = subst (λ z. Within s c z) (sym e) w
 pub one-around : (at : ℕ) (span : Span) → span.begin ≤ at → at < span.end → one span at ≡ 1
 one-around at span k l = grind (arith, nat_tests)
 
+one-is : (at : ℕ) (span : Span) → one span at ≤ 1
+one-is at span = at-most (is_around at span)
+  where
+    at-most : (b : Bool) → cond b 1 0 ≤ 1
+    at-most true = omega arith
+    at-most false = omega arith
+
+one-before : (at : ℕ) (span : Span) → at < span.begin → one span at ≡ 0
+one-before at span l = grind (arith, nat_tests)
+
+one-behind : (at : ℕ) (span : Span) → span.end ≤ at → one span at ≡ 0
+one-behind at span l = grind (arith, nat_tests)
+
+first-begins : (ts : List Filled) (last n : ℕ) → Sorted last ts → Behind ts n → last ≤ begin_of ts
+first-begins [] last n w b = absurd b
+first-begins (t ∷ ts) last n w b = w.0
+
+module _ {all : List Filled} {s c : Spot all} {span : Span} {D : ℕ → ℕ} (w : Within s c span) where
+  pub round-before : Sorted s.input.last s.input.tokens → Behind s.input.tokens c.input.last → ((at : ℕ) → at < s.input.last → D at ≡ 0) → (at : ℕ) → at < s.input.last → one span at + D at ≡ 0
+  round-before sorted moved f at l = let low = first-begins s.input.tokens s.input.last c.input.last sorted moved in omega (arith, f at l, one-before at span (omega (arith, l, low, w.begins)))
+
+  pub round-behind : ((at : ℕ) → c.input.last ≤ at → D at ≡ 0) → (at : ℕ) → c.input.last ≤ at → one span at + D at ≡ 0
+  round-behind f at l = omega (arith, f at l, one-behind at span (omega (arith, l, w.ends)))
+
 begins-first : (ts : List Filled) → From (begin_of ts) ts
 begins-first [] = tt
 begins-first (t ∷ ts) = omega arith
 
 module _ {all : List Filled} where
-  inside-claim : (room less_ : ℕ) (s : Spot all) (last : ℕ) (D : ℕ → ℕ) (sm cm : Mode all) → room ≤ suc less_ → Claim less_ s 0 sm cm last D → Claim room s 1 sm cm last D
+  inside-walk : (room less_ : ℕ) (D : ℕ → ℕ) (s c : Input) (sm cm : Mode all) → room ≡ suc less_ → Walked less_ D s 0 c 0 sm cm → Walked room D s 1 c 1 sm cm
+  inside-walk room less_ D s c still still e w = subst (λ n. Walk n D s.last c.last 1 s.tokens 1 c.tokens) (sym e) (deepen w)
+  inside-walk room less_ D s c still (gone l) e w = (1 + w.0, subst (λ n. Walk n D s.last c.last 1 s.tokens (1 + w.0) (l.token ∷ l.behind)) (sym e) (deepen w.1))
+  inside-walk room less_ D s c (gone l) cm e w = tt
+
+  inside-claim : (room less_ : ℕ) (s : Spot all) (last : ℕ) (D : ℕ → ℕ) (sm cm : Mode all) → room ≡ suc less_ → Claim less_ s 0 sm cm last D → Claim room s 1 sm cm last D
   inside-claim room less_ s last D still still o p = tt
   inside-claim room less_ s last D still (gone l) o p = record { deep = omega (arith, p.deep, o); comes = p.comes; ends = p.ends }
   inside-claim room less_ s last D (gone l) cm o p = p
 
   -- in a group that the reader opened
-  pub inside : {b : Bool} {room less_ : ℕ} {s c : Spot all} {D : ℕ → ℕ} → room ≤ suc less_ → 1 ≤ room → 1 ≤ s.groups → At b less_ s 0 0 c D → At b room s 1 1 c D
+  pub inside : {b : Bool} {room less_ : ℕ} {s c : Spot all} {D : ℕ → ℕ} → room ≡ suc less_ → 1 ≤ room → 1 ≤ s.groups → At b less_ s 0 0 c D → At b room s 1 1 c D
   inside {room = room} {less_ = less_} {s = s} {c = c} {D = D} o f e a = record {
     balance = omega (arith, a.balance);
     enough = e;
@@ -224,10 +314,18 @@ module _ {all : List Filled} where
     steps = a.steps;
     moved = a.moved;
     fits = λ u. f;
+    before = a.before;
+    behind = a.behind;
+    walk = inside-walk room less_ D s.input c.input s.mode c.mode o a.walk;
     claim = inside-claim room less_ s c.input.last D s.mode c.mode o a.claim;
   }
 
-  round-claim : (room less_ : ℕ) (s : Spot all) (last : ℕ) (D : ℕ → ℕ) (span : Span) (sm cm : Mode all) → room ≤ suc less_ → span.begin ≤ begin_of s.input.tokens → last ≤ span.end → Claim less_ s 0 sm cm last D → Claim room s 0 sm cm last (λ at. one span at + D at)
+  round-walk : (room less_ : ℕ) (D : ℕ → ℕ) (span : Span) (s c : Input) (sm cm : Mode all) → room ≡ suc less_ → Walked less_ D s 0 c 0 sm cm → Walked room (λ at. one span at + D at) s 0 c 0 sm cm
+  round-walk room less_ D span s c still still e w = change (λ at l m. (l, m, λ n i. omega (arith, i, e, one-is at span))) w
+  round-walk room less_ D span s c still (gone l) e w = (w.0, change (λ at i m. (i, m, λ n j. omega (arith, j, e, one-is at span))) w.1)
+  round-walk room less_ D span s c (gone l) cm e w = tt
+
+  round-claim : (room less_ : ℕ) (s : Spot all) (last : ℕ) (D : ℕ → ℕ) (span : Span) (sm cm : Mode all) → room ≡ suc less_ → span.begin ≡ begin_of s.input.tokens → last ≡ span.end → Claim less_ s 0 sm cm last D → Claim room s 0 sm cm last (λ at. one span at + D at)
   round-claim room less_ s last D span still still o k n p = tt
   round-claim room less_ s last D span still (gone l) o k n p =
       let at : ℕ = l.token.span.begin in
@@ -237,8 +335,8 @@ module _ {all : List Filled} where
   round-claim room less_ s last D span (gone l) cm o k n p = p
 
   -- as a construct of its own
-  pub surround : {b : Bool} {room less_ : ℕ} {s c : Spot all} {D : ℕ → ℕ} (span : Span) → room ≤ suc less_ → Within s c span → At b less_ s 0 0 c D → At b room s 0 0 c (λ at. one span at + D at)
-  surround {room = room} {less_ = less_} {s = s} {c = c} {D = D} span o w a = record {
+  pub surround : {room less_ : ℕ} {s c : Spot all} {D : ℕ → ℕ} (span : Span) → room ≡ suc less_ → Sorted s.input.last s.input.tokens → Within s c span → At true less_ s 0 0 c D → At true room s 0 0 c (λ at. one span at + D at)
+  surround {room = room} {less_ = less_} {s = s} {c = c} {D = D} span o sorted w a = record {
     balance = a.balance;
     enough = a.enough;
     stands = a.stands;
@@ -248,6 +346,9 @@ module _ {all : List Filled} where
     steps = a.steps;
     moved = a.moved;
     fits = λ u. omega arith;
+    before = round-before w sorted (a.moved refl) a.before;
+    behind = round-behind w a.behind;
+    walk = round-walk room less_ D span s.input c.input s.mode c.mode o a.walk;
     claim = round-claim room less_ s c.input.last D span s.mode c.mode o w.begins w.ends a.claim;
   }
 
@@ -337,11 +438,17 @@ step-over : (i : Input) (t : Filled) (ts : List Filled) (last : ℕ) → last �
 step-over i t ts last o k (inl e) = subst (λ x. Behind x.tokens t.span.end) (sym e) (omega arith)
 step-over i t ts last o k (inr l) = behind-more i.tokens last t.span.end (omega (arith, o, k)) l
 
+over-walk : {all : List Filled} (room : ℕ) (D : ℕ → ℕ) (s : Input) (g h k : ℕ) (t : Filled) (ts : List Filled) (last : ℕ) (sm m : Mode all) → s.last ≤ last → last ≤ t.span.begin → t.span.begin < t.span.end → D t.span.begin ≡ 0 → (m ≡ still → h + opens_of t.kind ≤ room) → h + opens_of t.kind ≡ k + closes_of t.kind
+    → Walked room D s g (record { tokens = t ∷ ts; last = last }) h sm m → Walked room D s g (record { tokens = ts; last = t.span.end }) k sm m
+over-walk room D s g h k t ts last still still o p long none b e w = join (change (λ at l m. (l, omega (arith, m, p, long), λ n i. i)) w) (step (omega (arith, o, p)) long (omega (arith, b refl, none)) e stay)
+over-walk room D s g h k t ts last still (gone l) o p long none b e w = (w.0, change (λ at i m. (i, omega (arith, m, p, long), λ n j. j)) w.1)
+over-walk room D s g h k t ts last (gone l) m o p long none b e w = tt
+
 -- a token that opens and closes so many groups
 module _ {all : List Filled} {b : Bool} {room g h k : ℕ} {s : Spot all} {D : ℕ → ℕ} (m : Mode all) (n n' : ℕ) where
-  over : (t : Filled) (ts : List Filled) (last : ℕ) → At b room s g h (record { mode = m; groups = n; input = record { tokens = t ∷ ts; last = last } }) D → is_end t ≡ false → (m ≡ still → k ≤ room) → h + opens_of t.kind ≡ k + closes_of t.kind → n + opens_of t.kind ≡ n' + closes_of t.kind
+  over : (t : Filled) (ts : List Filled) (last : ℕ) → At b room s g h (record { mode = m; groups = n; input = record { tokens = t ∷ ts; last = last } }) D → is_end t ≡ false → (m ≡ still → h + opens_of t.kind ≤ room) → (m ≡ still → k ≤ room) → h + opens_of t.kind ≡ k + closes_of t.kind → n + opens_of t.kind ≡ n' + closes_of t.kind
       → At true room s g k (record { mode = m; groups = n'; input = record { tokens = ts; last = t.span.end } }) D
-  over t ts last a inner v e f =
+  over t ts last a inner u v e f =
       let long = a.sorted.1 inner in
       let last-is = a.sorted.0 in
       let behind : Behind s.input.tokens t.span.end = step-over s.input t ts last last-is (omega (arith, long)) a.steps in
@@ -355,18 +462,21 @@ module _ {all : List Filled} {b : Bool} {room g h k : ℕ} {s : Spot all} {D : �
         steps = inr behind;
         moved = λ u. behind;
         fits = v;
+        before = a.before;
+        behind = λ at i. a.behind at (omega (arith, i, last-is, long));
+        walk = over-walk room D s.input g h k t ts last s.mode m a.order last-is long (a.behind t.span.begin last-is) u e a.walk;
         claim = later-claim room g s D s.mode m last t.span.end (omega (arith, last-is, long)) a.claim;
       }
 
 module _ {all : List Filled} {B : Type 0} {b : Bool} {room g : ℕ} {s : Spot all} {D : ℕ → ℕ} {test : Filled → Option B} (m : Mode all) (n : ℕ) where
   passed-at : {h : ℕ} {x : B} {c d : Input} → Knows 0 0 test → At b room s g h (record { mode = m; groups = n; input = c }) D → Taken test c x d → At true room s g h (record { mode = m; groups = n; input = d }) D
-  passed-at f a (taken {t = t} {ts = ts} {last = last} {x = x} e) = let q = f t x e in over m n n t ts last a q.2 a.fits (omega (arith, q.0, q.1)) (omega (arith, q.0, q.1))
+  passed-at f a (taken {t = t} {ts = ts} {last = last} {x = x} e) = let q = f t x e in over m n n t ts last a q.2 (λ u. omega (arith, q.0, a.fits u)) a.fits (omega (arith, q.0, q.1)) (omega (arith, q.0, q.1))
 
   entered-at : {x : B} {c d : Input} → Knows 1 0 test → (m ≡ still → 1 ≤ room) → At b room s g 0 (record { mode = m; groups = n; input = c }) D → Taken test c x d → At true room s g 1 (record { mode = m; groups = suc n; input = d }) D
-  entered-at f v a (taken {t = t} {ts = ts} {last = last} {x = x} e) = let q = f t x e in over m n (suc n) t ts last a q.2 v (omega (arith, q.0, q.1)) (omega (arith, q.0, q.1))
+  entered-at f v a (taken {t = t} {ts = ts} {last = last} {x = x} e) = let q = f t x e in over m n (suc n) t ts last a q.2 (λ u. omega (arith, q.0, v u)) v (omega (arith, q.0, q.1)) (omega (arith, q.0, q.1))
 
   left-at : {x : B} {c d : Input} → Knows 0 1 test → At b room s g 1 (record { mode = m; groups = n; input = c }) D → Taken test c x d → At true room s g 0 (record { mode = m; groups = n - 1; input = d }) D
-  left-at f a (taken {t = t} {ts = ts} {last = last} {x = x} e) = let q = f t x e in over m n (n - 1) t ts last a q.2 (λ u. omega arith) (omega (arith, q.0, q.1)) (omega (arith, q.0, q.1, a.balance, a.enough))
+  left-at f a (taken {t = t} {ts = ts} {last = last} {x = x} e) = let q = f t x e in over m n (n - 1) t ts last a q.2 (λ u. omega (arith, q.0, a.fits u)) (λ u. omega arith) (omega (arith, q.0, q.1)) (omega (arith, q.0, q.1, a.balance, a.enough))
 
 -- ## Readers
 
@@ -429,6 +539,10 @@ limit-claim : {all : List Filled} (room g : ℕ) (s : Spot all) (l : Limit all) 
 limit-claim room g s l n last D still c f = f
 limit-claim room g s l n last D (gone l') c f = absurd (cc)
 
+limit-walk : {all : List Filled} (room : ℕ) (D : ℕ → ℕ) (s : Input) (g : ℕ) (l : Limit all) (last : ℕ) (c : Input) (sm : Mode all) → last ≤ c.last → Walked room D s g (record { tokens = l.token ∷ l.behind; last = last }) 0 sm still → Walked room D s g c 1 sm (gone l)
+limit-walk room D s g l last c still o w = (0, change (λ at i m. (i, omega (arith, m, o), λ n j. j)) w)
+limit-walk room D s g l last c (gone l') o w = tt
+
 -- the first reader stops at the token, and the second one takes it
 at-limit : {all : List Filled} {B : Type 0} {b : Bool} {room g : ℕ} {s : Spot all} {D : ℕ → ℕ} (test : Filled → Option B) (knows : Knows 1 0 test) → room ≡ 0 → (t : Filled) (ts : List Filled) (last n : ℕ) (x : B) → test t ≡ Some x
     → At b room s g 0 (record { mode = still; groups = n; input = record { tokens = t ∷ ts; last = last } }) D
@@ -447,6 +561,9 @@ at-limit {room = room} {g = g} {s = s} {D = D} test knows e t ts last n x k a st
       steps = inr behind;
       moved = λ u. behind;
       fits = λ u. absurd (cc);
+      before = a.before;
+      behind = λ at i. a.behind at (omega (arith, i, a.sorted.0, long));
+      walk = limit-walk room D s.input g (record { token = t; behind = ts; groups = n; stands = stands }) last (record { tokens = ts; last = t.span.end }) s.mode (omega (arith, a.sorted.0, long)) a.walk;
       claim = limit-claim room g s (record { token = t; behind = ts; groups = n; stands = stands }) last t.span.end D s.mode a.claim (record { deep = omega (arith, e, q.0, a.balance); comes = λ m u. a.comes m u; ends = long });
     }
 

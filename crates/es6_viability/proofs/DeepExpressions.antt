@@ -20,15 +20,15 @@ use Rattle.es6_reading.proofs.SpanCounts.{sum_of, in_some, spans_expression, in_
 use Rattle.es6_reading.proofs.SpanSums.{in-single, in-spread, in-hole, in-present, in-this, in-name, in-literal, in-template_value, in-array_list, in-object_list, in-function_value, in-class_value, in-chain, in-super_member, in-super_index, in-super_call, in-new_target, in-new, in-sequence, in-group, in-cover, in-member, in-index, in-call, in-tagged, span-this, span-name, span-literal, span-template_value, span-array_list, span-object_list, span-function_value, span-class_value, span-chain, span-super_member, span-super_index, span-super_call, span-new_target, span-new, span-group, span-cover}
 use Rattle.es6_reading.proofs.ShallowTokens.{a-word, comma, ellipsis, dot, right-parenthesis, right-bracket, right-brace, free-name, literal}
 use Rattle.es6_viability.proofs.Beside.{Both, over, turn, both-same}
-use Rattle.es6_viability.proofs.Deep.{Spot, At, Ready, ready, begin, and, less, finish, first, forget, no_spans, Within, within, same-span, Deep, took, fault, bind, refused-holds, no-number-holds, no-expression-holds, next, ends, take, close, either, looks, group}
+use Rattle.es6_viability.proofs.Deep.{Spot, At, Ready, ready, begin, and, recount, finish, first, forget, no_spans, Within, within, same-span, Deep, took, fault, bind, refused-holds, no-number-holds, no-expression-holds, next, ends, take, close, either, looks, group}
 use Rattle.es6_viability.proofs.DeepParts.{Deeper, identifier, name, function, class, on_template}
 
 -- an expression, from its first token to its last one
 abbrev pub ExpressionAt : {all : List Filled} → ℕ → Spot all → Reading → Spot all → Type 0
 ExpressionAt room s x c = At true room s 0 0 c (in_expression x.value) × Within s c (spans_expression x.value).span
 
-pub wider : {all : List Filled} {s c d : Spot all} {span : Span} → Within s c span → d.input.last ≤ c.input.last → Within s d span
-wider w o = record { begins = w.begins; ends = omega (arith, w.ends, o) }
+pub wider : {all : List Filled} {s c d : Spot all} {span : Span} → Within s c span → c.input.last ≤ d.input.last → d.input.last ≤ c.input.last → Within s d span
+wider w o p = record { begins = w.begins; ends = omega (arith, w.ends, o, p) }
 
 pub no_operand : {all : List Filled} {Q : Reading → Spot all → Type 0} (role : Role) (s : Spot all) → Deep Q (e.no_operand role) (e.no_operand role) s
 no_operand Leading s = no-expression-holds s
@@ -43,20 +43,20 @@ in-sequenced x [] span at = omega arith
 in-sequenced x (y ∷ more) span at = in-sequence span x (y ∷ more) at
 
 module _ {all : List Filled} {room : ℕ} {s : Spot all} {D : ℕ → ℕ} where
-  covered : (held : Option Expression) (rest : Option Rest) (c : Spot all) → At true room s 0 0 c D → ((at : ℕ) → D at ≤ in_some in_expression held at) → Deep (ExpressionAt room s) (e.covered (begin_of s.input.tokens) held rest) (e.covered (begin_of s.input.tokens) held rest) c
+  covered : (held : Option Expression) (rest : Option Rest) (c : Spot all) → At true room s 0 0 c D → ((at : ℕ) → D at ≡ in_some in_expression held at) → Deep (ExpressionAt room s) (e.covered (begin_of s.input.tokens) held rest) (e.covered (begin_of s.input.tokens) held rest) c
   unfolding e.covered
   covered held rest c a l = looks _ _ _ _ _ c (took _ (finish a (in-cover _ _ _) l, within (span-cover _ _ _))) (refused-holds c)
 
-  covered_rest : (dots : ℕ) (held : Option Expression) (c : Spot all) → At true room s 0 1 c D → ((at : ℕ) → D at ≤ in_some in_expression held at) → Deep (ExpressionAt room s) (e.covered_rest (begin_of s.input.tokens) dots held) (e.covered_rest (begin_of s.input.tokens) dots held) c
+  covered_rest : (dots : ℕ) (held : Option Expression) (c : Spot all) → At true room s 0 1 c D → ((at : ℕ) → D at ≡ in_some in_expression held at) → Deep (ExpressionAt room s) (e.covered_rest (begin_of s.input.tokens) dots held) (e.covered_rest (begin_of s.input.tokens) dots held) c
   unfolding e.covered_rest
   covered_rest dots held c a l = bind _ _ (identifier c a) λ n d b. bind _ _ (close right-parenthesis b) λ t k m. covered held _ k m l
 
-  rest_after : (dots : ℕ) (held : Expression) (r : Refined (List Parameter)) (c : Spot all) → At true room s 0 1 c D → ((at : ℕ) → D at ≤ in_expression held at) → Deep (ExpressionAt room s) (e.rest_after (begin_of s.input.tokens) dots held r) (e.rest_after (begin_of s.input.tokens) dots held r) c
+  rest_after : (dots : ℕ) (held : Expression) (r : Refined (List Parameter)) (c : Spot all) → At true room s 0 1 c D → ((at : ℕ) → D at ≡ in_expression held at) → Deep (ExpressionAt room s) (e.rest_after (begin_of s.input.tokens) dots held r) (e.rest_after (begin_of s.input.tokens) dots held r) c
   rest_after dots held (Fits es) c a l = next ellipsis _ _ _ _ a (λ t d k b. covered_rest dots (Some held) d b l) (refused-holds c)
   rest_after dots held (Misfit place) c a l = refused-holds c
   rest_after dots held TooNested c a l = fault
 
-  closed_group : (held : Expression) (c : Spot all) → At true room s 0 1 c D → ((at : ℕ) → D at ≤ in_expression held at) → Deep (ExpressionAt room s) (e.closed_group (begin_of s.input.tokens) held) (e.closed_group (begin_of s.input.tokens) held) c
+  closed_group : (held : Expression) (c : Spot all) → At true room s 0 1 c D → ((at : ℕ) → D at ≡ in_expression held at) → Deep (ExpressionAt room s) (e.closed_group (begin_of s.input.tokens) held) (e.closed_group (begin_of s.input.tokens) held) c
   unfolding e.closed_group
   closed_group held c a l = bind _ _ (close right-parenthesis a) λ t d b. took _ (finish b (in-group _ _) l, within (span-group _ _))
 
@@ -69,7 +69,7 @@ module _ {all : List Filled} (i j : Inner) (room : ℕ) (h : Deeper all i j room
   elements : (f : Flags) {n m : ℕ} (w : Both n m) (s : Spot all) → Ready room 1 s → Deep (λ x c. At true room s 1 0 c (sum_of in_element x.elements)) (e.elements i f n) (e.elements j f m) s
   unfolding e.elements
   elements f over s r = fault
-  elements f (turn {n = n} {m = m} w) s r = let a = begin s r in ends right-bracket _ _ _ _ a (λ t c b. took _ (less b (λ at. omega arith)))
+  elements f (turn {n = n} {m = m} w) s r = let a = begin s r in ends right-bracket _ _ _ _ a (λ t c b. took _ (recount b (λ at. omega arith)))
       (next comma _ _ _ _ a (λ t c k b. bind _ _ (elements f w c (ready b)) λ x d m. took _ (first in_element x.elements (and b m) in-hole (λ at. omega arith)))
       (bind _ _ (argument f s r) λ x c b. next comma _ _ _ _ b (λ t d k m. ends right-bracket _ _ _ _ m (λ u e o. took _ (first in_element [] o (in-present _) (λ at. omega arith)))
       (bind _ _ (elements f w d (ready m)) λ y e o. took _ (first in_element y.elements (and m o) (in-present _) (λ at. omega arith))))
@@ -78,23 +78,23 @@ module _ {all : List Filled} (i j : Inner) (room : ℕ) (h : Deeper all i j room
   more_arguments : (f : Flags) {n m : ℕ} (w : Both n m) (s : Spot all) → Ready room 1 s → Deep (λ xs c. At true room s 1 0 c (sum_of in_argument xs)) (e.more_arguments i f n) (e.more_arguments j f m) s
   unfolding e.more_arguments
   more_arguments f over s r = fault
-  more_arguments f (turn {n = n} {m = m} w) s r = bind _ _ (argument f s r) λ x c a. next comma _ _ _ _ a (λ t d k b. bind _ _ (more_arguments f w d (ready b)) λ xs e m. took _ (less (and b m) (λ at. omega arith))) (bind _ _ (close right-parenthesis a) λ t d b. took _ (less b (λ at. omega arith)))
+  more_arguments f (turn {n = n} {m = m} w) s r = bind _ _ (argument f s r) λ x c a. next comma _ _ _ _ a (λ t d k b. bind _ _ (more_arguments f w d (ready b)) λ xs e m. took _ (recount (and b m) (λ at. omega arith))) (bind _ _ (close right-parenthesis a) λ t d b. took _ (recount b (λ at. omega arith)))
 
   arguments : (f : Flags) (s : Spot all) → Ready room 1 s → Deep (λ xs c. At true room s 1 0 c (sum_of in_argument xs)) (e.arguments i f) (e.arguments j f) s
   unfolding e.arguments
-  arguments f s r = ends right-parenthesis _ _ _ _ (begin s r) (λ t c a. took _ (less a (λ at. omega arith))) (more_arguments f h.turns s r)
+  arguments f s r = ends right-parenthesis _ _ _ _ (begin s r) (λ t c a. took _ (recount a (λ at. omega arith))) (more_arguments f h.turns s r)
 
   properties : (f : Flags) {n m : ℕ} (w : Both n m) (s : Spot all) → Ready room 1 s → Deep (λ xs c. At true room s 1 0 c (sum_of in_property xs)) (e.properties i f n) (e.properties j f m) s
   unfolding e.properties
   properties f over s r = fault
-  properties f (turn {n = n} {m = m} w) s r = ends right-brace _ _ _ _ (begin s r) (λ t c a. took _ (less a (λ at. omega arith)))
-      (bind _ _ (h.property f s r) λ x c a. next comma _ _ _ _ a (λ t d k b. bind _ _ (properties f w d (ready b)) λ xs e m. took _ (less (and b m) (λ at. omega arith))) (bind _ _ (close right-brace a) λ t d b. took _ (less b (λ at. omega arith))))
+  properties f (turn {n = n} {m = m} w) s r = ends right-brace _ _ _ _ (begin s r) (λ t c a. took _ (recount a (λ at. omega arith)))
+      (bind _ _ (h.property f s r) λ x c a. next comma _ _ _ _ a (λ t d k b. bind _ _ (properties f w d (ready b)) λ xs e m. took _ (recount (and b m) (λ at. omega arith))) (bind _ _ (close right-brace a) λ t d b. took _ (recount b (λ at. omega arith))))
 
   held_parts : (f : Flags) (role : Role) {n m : ℕ} (w : Both n m) (s : Spot all) → Ready room 1 s → Deep (λ x c. At true room s 1 1 c (sum_of in_expression (x.first ∷ x.more))) (e.held_parts i f role n) (e.held_parts j f role m) s
   unfolding e.held_parts
   held_parts f role over s r = fault
-  held_parts f role (turn {n = n} {m = m} w) s r = bind _ _ (h.assignment (with_in f) s r) λ x c a. next comma _ _ _ _ a (λ t d k b. looks _ _ _ _ _ d (took _ (less b (λ at. omega arith))) (bind _ _ (held_parts f role w d (ready b)) λ y e m. took _ (less (and b m) (λ at. omega arith))))
-      (took _ (less a (λ at. omega arith)))
+  held_parts f role (turn {n = n} {m = m} w) s r = bind _ _ (h.assignment (with_in f) s r) λ x c a. next comma _ _ _ _ a (λ t d k b. looks _ _ _ _ _ d (took _ (recount b (λ at. omega arith))) (bind _ _ (held_parts f role w d (ready b)) λ y e m. took _ (recount (and b m) (λ at. omega arith))))
+      (took _ (recount a (λ at. omega arith)))
 
   held_group : {s : Spot all} (f : Flags) (role : Role) (c : Spot all) → At true room s 0 1 c no_spans → Deep (ExpressionAt room s) (e.held_group i f role (begin_of s.input.tokens)) (e.held_group j f role (begin_of s.input.tokens)) c
   unfolding e.held_group
@@ -140,7 +140,7 @@ module _ {all : List Filled} (i j : Inner) (room : ℕ) (h : Deeper all i j room
   after_new : {s : Spot all} (f : Flags) (c : Spot all) → At true room s 0 0 c no_spans → Deep (ExpressionAt room s) (e.after_new i f (begin_of s.input.tokens)) (e.after_new j f (begin_of s.input.tokens)) c
   unfolding e.after_new
   after_new f c a = next dot _ _ _ _ a (λ t d k b. bind _ _ (take (a-word (codes "target")) b) λ u o m. took _ (finish m (in-new_target _) (λ at. omega arith), within (span-new_target _)))
-      (bind _ _ (h.callee f c (ready a)) λ x d b. after_callee f x.value d (less (and a b) (λ at. omega arith)))
+      (bind _ _ (h.callee f c (ready a)) λ x d b. after_callee f x.value d (recount (and a b) (λ at. omega arith)))
 
   after_super : {s : Spot all} (f : Flags) (role : Role) (c : Spot all) → At true room s 0 0 c no_spans → Deep (ExpressionAt room s) (e.after_super i f role (begin_of s.input.tokens)) (e.after_super j f role (begin_of s.input.tokens)) c
   unfolding e.after_super e.super_call
@@ -176,10 +176,10 @@ module _ {all : List Filled} (i j : Inner) (room : ℕ) (h : Deeper all i j room
   links : (f : Flags) (calls : Bool) {n m : ℕ} (w : Both n m) (s : Spot all) → Ready room 0 s → Deep (λ xs c. At false room s 0 0 c (sum_of in_link xs) × (xs ≡ [] → c.input.last ≤ s.input.last)) (e.links i f calls n) (e.links j f calls m) s
   unfolding e.links
   links f calls over s r = fault
-  links f calls (turn {n = n} {m = m} w) s r = on_link f calls _ _ _ _ s r (λ x c a. bind _ _ (links f calls w c (ready a)) λ xs d b. took _ (forget (less (and a b.0) (λ at. omega arith)), λ e. absurd (cc))) (took _ (less (begin s r) (λ at. omega arith), λ e. omega arith))
+  links f calls (turn {n = n} {m = m} w) s r = on_link f calls _ _ _ _ s r (λ x c a. bind _ _ (links f calls w c (ready a)) λ xs d b. took _ (forget (recount (and a b.0) (λ at. omega arith)), λ e. absurd (cc))) (took _ (recount (begin s r) (λ at. omega arith), λ e. omega arith))
 
   chained : {s c d : Spot all} (x : Reading) (xs : List Link) → ExpressionAt room s x c → At false room c 0 0 d (sum_of in_link xs) → (xs ≡ [] → d.input.last ≤ c.input.last) → ExpressionAt room s (e.chained x xs (record { begin = begin_of s.input.tokens; end = d.input.last })) d
-  chained x [] a b o = (less (and a.0 b) (λ at. omega arith), wider a.1 (o refl))
+  chained x [] a b o = (recount (and a.0 b) (λ at. omega arith), wider a.1 b.order (o refl))
   chained x (l ∷ ls) a b o = (finish (and a.0 b) (in-chain _ _ _) (λ at. omega arith), within (span-chain _ _ _))
 
   pub chain : (f : Flags) (role : Role) (s : Spot all) → Ready room 0 s → Deep (ExpressionAt room s) (e.chain i f role) (e.chain j f role) s

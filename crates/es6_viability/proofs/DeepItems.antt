@@ -16,7 +16,7 @@ use Rattle.es6_reading.proofs.ShallowItems.{in_item}
 use Rattle.es6_reading.proofs.ShallowTokens.{a-word, comma, a-star, right-brace, text}
 use Rattle.es6_reading.proofs.SpanCounts.{sum_of}
 use Rattle.es6_viability.proofs.Beside.{Both, over, turn}
-use Rattle.es6_viability.proofs.Deep.{Spot, At, Ready, ready, begin, and, less, forget, no_spans, Deep, took, fault, bind, refused-holds, next, ends, on-both, take, close, either, looks, group}
+use Rattle.es6_viability.proofs.Deep.{Spot, At, Ready, ready, begin, and, recount, forget, no_spans, Deep, took, fault, bind, refused-holds, next, ends, on-both, take, close, either, looks, group}
 use Rattle.es6_viability.proofs.DeepParts.{Deeper, identifier, name, semicolon_, function, class}
 use Rattle.es6_viability.proofs.DeepLevels.{assignment}
 use Rattle.es6_viability.proofs.DeepStatements.{StatementAt, variables_statement, on_declaration, statement}
@@ -64,7 +64,7 @@ module _ {all : List Filled} (i j : Inner) (room : ℕ) (h : Deeper all i j room
 
   rest_of_import : {s : Spot all} (at : ℕ) (n : Option Identifier) (names : ImportedNames) (c : Spot all) → At true room s 0 0 c no_spans → Deep (λ x d. At true room s 0 0 d (in_item x)) (m6.rest_of_import i at n names) (m6.rest_of_import j at n names) c
   unfolding m6.rest_of_import
-  rest_of_import at n names c a = bind _ _ (from_clause i j h.mode c a) λ x d b. took _ (less b (λ k. omega arith))
+  rest_of_import at n names c a = bind _ _ (from_clause i j h.mode c a) λ x d b. took _ (recount b (λ k. omega arith))
 
   default_import : {s : Spot all} (at : ℕ) (c : Spot all) → At true room s 0 0 c no_spans → Deep (λ x d. At true room s 0 0 d (in_item x)) (m6.default_import i at) (m6.default_import j at) c
   unfolding m6.default_import
@@ -72,7 +72,7 @@ module _ {all : List Filled} (i j : Inner) (room : ℕ) (h : Deeper all i j room
 
   import_alone : {s : Spot all} (at : ℕ) (c : Spot all) → At true room s 0 0 c no_spans → Deep (λ x d. At true room s 0 0 d (in_item x)) (m6.import_alone i at) (m6.import_alone j at) c
   unfolding m6.import_alone
-  import_alone at c a = bind _ _ (specifier c a) λ x d b. bind _ _ (semicolon_ i j h.mode d b) λ t e m. took _ (less m (λ k. omega arith))
+  import_alone at c a = bind _ _ (specifier c a) λ x d b. bind _ _ (semicolon_ i j h.mode d b) λ t e m. took _ (recount m (λ k. omega arith))
 
   import_item : {s : Spot all} (at : ℕ) (c : Spot all) → At true room s 0 0 c no_spans → Deep (λ x d. At true room s 0 0 d (in_item x)) (m6.import_item i at) (m6.import_item j at) c
   unfolding m6.import_item
@@ -80,25 +80,25 @@ module _ {all : List Filled} (i j : Inner) (room : ℕ) (h : Deeper all i j room
 
   own_names : {s : Spot all} (at : ℕ) (ns : List ExportName) (c : Spot all) → At true room s 0 0 c no_spans → Deep (λ x d. At true room s 0 0 d (in_item x)) (m6.own_names i at ns) (m6.own_names j at ns) c
   unfolding m6.own_names
-  own_names at ns c a = either (m6.are_own ns) _ _ _ _ c (bind _ _ (semicolon_ i j h.mode c a) λ t d b. took _ (less b (λ k. omega arith))) (refused-holds c)
+  own_names at ns c a = either (m6.are_own ns) _ _ _ _ c (bind _ _ (semicolon_ i j h.mode c a) λ t d b. took _ (recount b (λ k. omega arith))) (refused-holds c)
 
   export_names : {s : Spot all} (at : ℕ) (c : Spot all) → At true room s 0 0 c no_spans → Deep (λ x d. At true room s 0 0 d (in_item x)) (m6.export_names i at) (m6.export_names j at) c
   unfolding m6.export_names
-  export_names at c a = bind _ _ (group i j marks.LeftBrace _ _ _ _ h.opens (refl, refl, refl) a (λ d b. exports h.turns d b) (refused-holds c)) λ ns d b. looks _ _ _ _ _ d (bind _ _ (from_clause i j h.mode d b) λ x e m. took _ (less m (λ k. omega arith))) (own_names at ns d b)
+  export_names at c a = bind _ _ (group i j marks.LeftBrace _ _ _ _ h.opens (refl, refl, refl) a (λ d b. exports h.turns d b) (refused-holds c)) λ ns d b. looks _ _ _ _ _ d (bind _ _ (from_clause i j h.mode d b) λ x e m. took _ (recount m (λ k. omega arith))) (own_names at ns d b)
 
   export_all : {s : Spot all} (at : ℕ) (c : Spot all) → At true room s 0 0 c no_spans → Deep (λ x d. At true room s 0 0 d (in_item x)) (m6.export_all i at) (m6.export_all j at) c
   unfolding m6.export_all
-  export_all at c a = bind _ _ (from_clause i j h.mode c a) λ x d b. took _ (less b (λ k. omega arith))
+  export_all at c a = bind _ _ (from_clause i j h.mode c a) λ x d b. took _ (recount b (λ k. omega arith))
 
   default_value : {s : Spot all} (at : ℕ) (span : Span) (c : Spot all) → At true room s 0 0 c no_spans → Deep (λ x d. At true room s 0 0 d (in_item x)) (m6.default_value i at span) (m6.default_value j at span) c
   unfolding m6.default_value
-  default_value at span c a = bind _ _ (assignment i j room h of_module c (ready a)) λ x d b. bind _ _ (semicolon_ i j h.mode d (and a b.0)) λ t e m. took _ (less m (λ k. omega arith))
+  default_value at span c a = bind _ _ (assignment i j room h of_module c (ready a)) λ x d b. bind _ _ (semicolon_ i j h.mode d (and a b.0)) λ t e m. took _ (recount m (λ k. omega arith))
 
   export_default : {s : Spot all} (at : ℕ) (span : Span) (c : Spot all) → At true room s 0 0 c no_spans → Deep (λ x d. At true room s 0 0 d (in_item x)) (m6.export_default i at span) (m6.export_default j at span) c
   unfolding m6.export_default
   export_default at span c a = let r = begin c (ready a) in
-      next (a-word (codes "function")) _ _ _ _ r (λ t d k b. bind _ _ (function i j room h true d b) λ g e m. took _ (less (and a m.0) (λ n. omega arith)))
-      (next (a-word (codes "class")) _ _ _ _ r (λ t d k b. bind _ _ (class i j room h of_module true d b) λ g e m. took _ (less (and a m.0) (λ n. omega arith))) (default_value at span c a))
+      next (a-word (codes "function")) _ _ _ _ r (λ t d k b. bind _ _ (function i j room h true d b) λ g e m. took _ (recount (and a m.0) (λ n. omega arith)))
+      (next (a-word (codes "class")) _ _ _ _ r (λ t d k b. bind _ _ (class i j room h of_module true d b) λ g e m. took _ (recount (and a m.0) (λ n. omega arith))) (default_value at span c a))
 
   exported_declaration : (s : Spot all) → Ready room 0 s → Deep (StatementAt room s) (m6.exported_declaration i) (m6.exported_declaration j) s
   unfolding m6.exported_declaration
@@ -106,7 +106,7 @@ module _ {all : List Filled} (i j : Inner) (room : ℕ) (h : Deeper all i j room
 
   export_declaration : {s : Spot all} (at : ℕ) (c : Spot all) → At true room s 0 0 c no_spans → Deep (λ x d. At true room s 0 0 d (in_item x)) (m6.export_declaration i at) (m6.export_declaration j at) c
   unfolding m6.export_declaration
-  export_declaration at c a = bind _ _ (exported_declaration c (ready a)) λ x d b. took _ (less (and a b.0) (λ k. omega arith))
+  export_declaration at c a = bind _ _ (exported_declaration c (ready a)) λ x d b. took _ (recount (and a b.0) (λ k. omega arith))
 
   export_item : {s : Spot all} (at : ℕ) (c : Spot all) → At true room s 0 0 c no_spans → Deep (λ x d. At true room s 0 0 d (in_item x)) (m6.export_item i at) (m6.export_item j at) c
   unfolding m6.export_item
@@ -114,12 +114,12 @@ module _ {all : List Filled} (i j : Inner) (room : ℕ) (h : Deeper all i j room
 
   one_item : (s : Spot all) → Ready room 0 s → Deep (λ x c. At true room s 0 0 c (in_item x)) (m6.one_item i) (m6.one_item j) s
   unfolding m6.one_item m6.statement_item
-  one_item s r = let a = begin s r in next (a-word (codes "import")) _ _ _ _ a (λ t c k b. import_item _ c b) (next (a-word (codes "export")) _ _ _ _ a (λ t c k b. export_item _ c b) (bind _ _ (statement i j room h of_module Listed s r) λ x c b. took _ (less b.0 (λ at. omega arith))))
+  one_item s r = let a = begin s r in next (a-word (codes "import")) _ _ _ _ a (λ t c k b. import_item _ c b) (next (a-word (codes "export")) _ _ _ _ a (λ t c k b. export_item _ c b) (bind _ _ (statement i j room h of_module Listed s r) λ x c b. took _ (recount b.0 (λ at. omega arith))))
 
   pub items : {n m : ℕ} (w : Both n m) (s : Spot all) → Ready room 0 s → Deep (λ xs c. At false room s 0 0 c (sum_of in_item xs)) (m6.items i n) (m6.items j m) s
   unfolding m6.items
   items over s r = fault
-  items (turn {n = n} {m = m} w) s r = looks _ _ _ _ _ s (took _ (less (begin s r) (λ at. omega arith))) (bind _ _ (one_item s r) λ x c a. bind _ _ (items w c (ready a)) λ xs d b. took _ (forget (less (and a b) (λ at. omega arith))))
+  items (turn {n = n} {m = m} w) s r = looks _ _ _ _ _ s (took _ (recount (begin s r) (λ at. omega arith))) (bind _ _ (one_item s r) λ x c a. bind _ _ (items w c (ready a)) λ xs d b. took _ (forget (recount (and a b) (λ at. omega arith))))
 
   -- ## Modules
 

@@ -33,92 +33,8 @@ use Rattle.es6_viability.proofs.DeepExpressions as expressions'
 use Rattle.es6_viability.proofs.DeepItems as items'
 use Rattle.es6_viability.proofs.DeepLevels as levels'
 use Rattle.es6_viability.proofs.DeepReaders.{deeper}
+use Rattle.es6_viability.proofs.Texts.{sorted, forth, groups-of, begin-last, head-of}
 use Rattle.es6_viability.proofs.DeepStatements as statements'
-
--- ## Tokens of a text
-
-end-is : (t : Token) → t.kind ≡ End → is_end (read t) ≡ true
-end-is t e = ap (λ k. is_end_kind (Read k)) e
-
-sorted-of : (last : ℕ) (before : List Token) (end : Token) → end.kind ≡ End → Behind last (before ++ end ∷ []) → AreInOrder (before ++ end ∷ []) → Sorted last (map read (before ++ end ∷ []))
-sorted-of last [] end e b o = (b, λ h. absurd (true≢false (sym (end-is end e) ∙ h)), tt)
-sorted-of last (t ∷ []) end e b o = (b, λ h. o.0.0, sorted-of t.span.end [] end e o.0.1 o.1)
-sorted-of last (t ∷ u ∷ before) end e b o = (b, λ h. o.0.0, sorted-of t.span.end (u ∷ before) end e o.0.1 o.1)
-
-behind-none : (tokens : List Token) → Behind 0 tokens
-behind-none [] = tt
-behind-none (t ∷ ts) = omega arith
-
-pub sorted : (tokens : List Token) → AreOfText tokens → Sorted 0 (map read tokens)
-sorted tokens a = subst (λ ts. Sorted 0 (map read ts)) (sym a.whole) (sorted-of 0 a.before a.last a.ends (behind-none (a.before ++ a.last ∷ [])) (subst (λ ts. AreInOrder ts) a.whole a.placed))
-
--- ## Groups
-
--- how many are open, from the first token on
-data Forth : ℕ → List Filled → ℕ → List Filled → Type 0 where
-  stay : {g : ℕ} {ts : List Filled} → Forth g ts g ts
-  step : {g k n : ℕ} {t : Filled} {ts us : List Filled} → g + opens_of t.kind ≡ k + closes_of t.kind → Forth k ts n us → Forth g (t ∷ ts) n us
-
-forth-more : {g n k : ℕ} {all ts : List Filled} {t : Filled} → Forth g all n (t ∷ ts) → n + opens_of t.kind ≡ k + closes_of t.kind → Forth g all k ts
-forth-more stay e = step e stay
-forth-more (step u w) e = step u (forth-more w e)
-
-forth : {all ts : List Filled} {n : ℕ} → Stands all n ts → Forth 0 all n ts
-forth start = stay
-forth (further w e) = forth-more (forth w) e
-
-low : (n : ℕ) → n ≤ n
-low n = omega arith
-
-up : (a b : ℕ) → a ≤ b → a ≤ suc b
-up a b h = omega arith
-
-forth-length : {g n : ℕ} {ts us : List Filled} → Forth g ts n us → length us ≤ length ts
-forth-length {ts = ts} stay = low (length ts)
-forth-length (step {ts = ts} {us = us} e w) = up (length us) (length ts) (forth-length w)
-
-never-longer : (t : Filled) (us ts : List Filled) → ts ≡ us → length (t ∷ us) ≤ length ts → ⊥
-never-longer t us ts e h = too-long (length us) (subst (λ vs. length (t ∷ us) ≤ length vs) e h)
-  where
-    too-long : (n : ℕ) → suc n ≤ n → ⊥
-    too-long n h = omega arith
-
-pub length-more : (front : List Token) (us : List Filled) → length us ≤ length (map read front ++ us)
-length-more [] us = low (length us)
-length-more (t ∷ front) us = up (length us) (length (map read front ++ us)) (length-more front us)
-
-pub tail-of : {t u : Filled} {ts us : List Filled} → t ∷ ts ≡ u ∷ us → ts ≡ us
-tail-of e = cc
-
-pub head-of : {t u : Filled} {ts us : List Filled} → t ∷ ts ≡ u ∷ us → t ≡ u
-head-of e = cc
-
-never-shorter : (u : Token) (front : List Token) (t : Filled) (us vs : List Filled) → vs ≡ read u ∷ (map read front ++ t ∷ us) → vs ≡ t ∷ us → ⊥
-never-shorter u front t us vs e k = too-long (length us) (length (map read front ++ t ∷ us)) (length-more front (t ∷ us)) (ap length (sym k ∙ e))
-  where
-    too-long : (a b : ℕ) → suc a ≤ b → suc a ≡ suc b → ⊥
-    too-long a b h e = omega arith
-
-groups-of : {g n : ℕ} {ts vs : List Filled} → Forth g ts n vs → (front : List Token) (t : Token) (us : List Filled) → ts ≡ map read front ++ read t ∷ us → vs ≡ read t ∷ us → open_groups g (front ++ t ∷ []) ≡ n + opens_group t.kind
-groups-of stay [] t us e k = refl
-groups-of (step {ts = ts} {us = vs} p w) [] t us e k = absurd (never-longer (read t) us ts (tail-of e) (subst (λ ws. length ws ≤ length ts) k (forth-length w)))
-groups-of (stay {ts = ts}) (u ∷ front) t us e k = absurd (never-shorter u front (read t) us ts e k)
-groups-of {g = g} (step {k = k} {t = v} {ts = ts} p w) (u ∷ front) t us e q = on front (groups-of w front t us (tail-of e) q)
-  where
-    exact : g + opens_group u.kind - closes_group u.kind ≡ k
-    exact = by (ap (λ x. g + opens_of x.kind) (sym (head-of e)) ∙ p ∙ ap (λ x. k + closes_of x.kind) (head-of e))
-      where
-        by : g + opens_group u.kind ≡ k + closes_group u.kind → g + opens_group u.kind - closes_group u.kind ≡ k
-        by h = omega (arith, h)
-
-    on : (front : List Token) {m : ℕ} → open_groups k (front ++ t ∷ []) ≡ m → open_groups g (u ∷ front ++ t ∷ []) ≡ m
-    on [] h = ap (λ n. open_groups n (t ∷ [])) exact ∙ h
-    on (x ∷ xs) h = ap (λ n. open_groups n (x ∷ xs ++ t ∷ [])) exact ∙ h
-
-pub begin-last : (front : List Token) (t : Token) → begin_of_last (front ++ t ∷ []) ≡ t.span.begin
-begin-last [] t = refl
-begin-last (u ∷ []) t = refl
-begin-last (u ∷ v ∷ front) t = begin-last (v ∷ front) t
 
 -- ## A fault stands there whatever follows
 
@@ -195,10 +111,10 @@ open-at all room s D last l front t us e k b =
     let place : D l.token.span.begin ≡ D (begin_of_last (front ++ t ∷ [])) = ap (λ u. D u.span.begin) token ∙ ap D (sym (begin-last front t)) in
     omega (arith, b.deep, g, opens, place)
 
-abbrev begin-of : (all : List Filled) → Spot all
+abbrev pub begin-of : (all : List Filled) → Spot all
 begin-of all = record { mode = still; groups = 0; input = record { tokens = all; last = 0 } }
 
-ready-of : (all : List Filled) (room : ℕ) → Sorted 0 all → Ready room 0 (begin-of all)
+pub ready-of : (all : List Filled) (room : ℕ) → Sorted 0 all → Ready room 0 (begin-of all)
 ready-of all room w = record { enough = omega arith; stands = start; sorted = w; fits = λ u. omega arith }
 
 plus-is : (n l : ℕ) → plus n l ≡ n + l
@@ -237,7 +153,7 @@ module _ {A : Type 0} (count : A → List Token → ℕ) (D : A → ℕ → ℕ)
   is-deep : IsDeep room count p q
   is-deep = record { inside = inside-them; deep = deep-at }
 
-spans-are : (xs : List Item) (at : ℕ) → around (joined item_spans xs) at ≡ sum_of in_item xs at
+pub spans-are : (xs : List Item) (at : ℕ) → around (joined item_spans xs) at ≡ sum_of in_item xs at
 spans-are [] at = refl
 spans-are (x ∷ xs) at = omega (arith, around-append (item_spans x) (joined item_spans xs) at, spans-are xs at)
 

@@ -32,12 +32,12 @@ use Rattle.es6_reading.proofs.Meanings.{before-means, after-means}
 use Rattle.es6_reading.proofs.Posts.{Taken, taken}
 use Rattle.es6_reading.proofs.SpanCounts.{around, sum_of, one, spans_block, spans_expression, in_arrow_body, in_expression, in_operand, in_parameter, in_pattern, in_property, in_key, with_block, with_expression}
 use Rattle.es6_reading.proofs.SpanSums.{in-value_body, span-value_body, in-block_body, span-block_body, in-arrow_value, span-arrow_value, in-arrow, span-arrow, in-unary, in-power, in-binary, in-conditional, in-assign, in-sequence, in-yield, in-delegate, in-plain, in-shorthand, in-initialized, in-defined, in-operand, in-update-after, in-word_key, span-unary, span-power, span-binary, span-conditional, span-assign, span-sequence, span-yield, span-delegate, span-update}
-use Rattle.es6_viability.proofs.Deep.{Spot, At, Ready, ready, begin, and, less, finish, first, forget, no_spans, within, Deep, took, fault, bind, refused-holds, next, take, either, looks, looks-yes}
+use Rattle.es6_viability.proofs.Deep.{Spot, At, Ready, ready, begin, and, recount, finish, first, forget, no_spans, within, Deep, took, fault, bind, refused-holds, next, take, either, looks, looks-yes}
 use Rattle.es6_reading.proofs.ShallowTokens.{a-word, comma, colon, equals, a-star, power-mark, question, arrow, line-star, unary-operator, update-before, update-after, assign-operator, binary-operator, accessor-word, free-name}
 use Rattle.es6_viability.proofs.Beside.{Both, over, turn, both-same}
 use Rattle.es6_viability.proofs.DeepParts.{Deeper, method_after_key, accessor, generator_method, key}
 use Rattle.es6_viability.proofs.DeepExpressions.{ExpressionAt, wider, chain}
-use Rattle.es6_viability.proofs.DeepRefined.{Above, before-above, parameters-before}
+use Rattle.es6_viability.proofs.DeepRefined.{Recounted, before-recounted, parameters-before}
 use Rattle.es6_reading.proofs.SpanLayers.{rolled_expression}
 
 -- no prefix operator is one that stands after its operand
@@ -47,12 +47,12 @@ is-after (taken {t = t} {x = op} e) = (after-means op t e).1
 is-prefix : {op : UpdateOperator} {c d : Input} → Taken before_at c op d → is_before op ≡ true
 is-prefix (taken {t = t} {x = op} e) = (before-means op t e).1
 
-in-update-before : (span : Span) (operator : UpdateOperator) (x : Expression) → is_before operator ≡ true → (at : ℕ) → with_expression x at ≤ in_expression (expr.Update span operator x) at
+in-update-before : (span : Span) (operator : UpdateOperator) (x : Expression) → is_before operator ≡ true → (at : ℕ) → with_expression x at ≡ in_expression (expr.Update span operator x) at
 in-update-before span operator x h at = rw (ap (λ z. around z.inner at) (ap spans_expression (sym (expr.rolls-Update span operator x)) ∙ rolled_expression (layer.Update span operator x))) (by-operator operator h)
   where
-    by-operator : (op : UpdateOperator) → is_before op ≡ true → with_expression x at ≤ around (updated op (spans_expression x)) at
-    by-operator IncrementBefore k = omega arith
-    by-operator DecrementBefore k = omega arith
+    by-operator : (op : UpdateOperator) → is_before op ≡ true → with_expression x at ≡ around (updated op (spans_expression x)) at
+    by-operator IncrementBefore k = refl
+    by-operator DecrementBefore k = refl
     by-operator IncrementAfter k = absurd (cc)
     by-operator DecrementAfter k = absurd (cc)
 
@@ -84,7 +84,7 @@ module _ {all : List Filled} (i j : Inner) (room : ℕ) (h : Deeper all i j room
 
   update : (f : Flags) (role : Role) (s : Spot all) → Ready room 0 s → Deep (ExpressionAt room s) (e.update i f role) (e.update j f role) s
   unfolding e.update e.updated
-  update f role s r = next update-before _ _ _ _ (begin s r) (λ op c k a. bind _ _ (h.unary f c (ready a)) λ x d b. took _ (less (less (and a b) (λ at. omega arith)) (in-update-before _ _ _ (is-prefix k)), within (span-update _ _ _))) (postfix f role s r)
+  update f role s r = next update-before _ _ _ _ (begin s r) (λ op c k a. bind _ _ (h.unary f c (ready a)) λ x d b. took _ (recount (recount (and a b) (λ at. omega arith)) (in-update-before _ _ _ (is-prefix k)), within (span-update _ _ _))) (postfix f role s r)
 
   pub unary : (f : Flags) (s : Spot all) → Ready room 0 s → Deep (ExpressionAt room s) (e.unary i f) (e.unary j f) s
   unfolding e.unary
@@ -100,10 +100,10 @@ module _ {all : List Filled} (i j : Inner) (room : ℕ) (h : Deeper all i j room
   unfolding e.operands
   operands f level q q' k over s r = fault
   operands f level q q' k (turn {n = n} {m = m} w) s r = next (binary-operator f level) _ _ _ _ (begin s r) (λ op c u a. bind _ _ (k c (ready a)) λ x d b. bind _ _ (operands f level q q' k w d (ready b.0)) λ xs m o. took _ (forget (first in_operand xs (and (and a b.0) o.0) (in-operand _ _) (λ at. omega arith)), λ u. absurd (cc)))
-      (took _ (less (begin s r) (λ at. omega arith), λ u. omega arith))
+      (took _ (recount (begin s r) (λ at. omega arith), λ u. omega arith))
 
   operated : {s c d : Spot all} (x : Reading) (xs : List Operand) → ExpressionAt room s x c → At false room c 0 0 d (sum_of in_operand xs) → (xs ≡ [] → d.input.last ≤ c.input.last) → ExpressionAt room s (e.operated x xs (record { begin = begin_of s.input.tokens; end = d.input.last })) d
-  operated x [] a b o = (less (and a.0 b) (λ at. omega arith), wider a.1 (o refl))
+  operated x [] a b o = (recount (and a.0 b) (λ at. omega arith), wider a.1 b.order (o refl))
   operated x (y ∷ ys) a b o = (finish (and a.0 b) (in-binary _ _ _) (λ at. omega arith), within (span-binary _ _ _))
 
   binary : (f : Flags) (role : Role) (up level : ℕ) (s : Spot all) → Ready room 0 s → Deep (ExpressionAt room s) (e.binary_from i f role up level) (e.binary_from j f role up level) s
@@ -123,19 +123,19 @@ module _ {all : List Filled} (i j : Inner) (room : ℕ) (h : Deeper all i j room
   arrow_body f es c a = looks-yes _ _ _ _ _ c (λ u. bind _ _ (h.block (of_function false) c u (ready a)) λ b d m. took _ (finish (and a m) (in-block_arrow _ _ _) (λ at. omega arith), within (span-of_arrow _ _ _)))
       (bind _ _ (h.assignment (of_arrow f) c (ready a)) λ x d m. took _ (finish (and a m) (in-value_arrow _ _ _) (λ at. omega arith), within (span-of_arrow _ _ _)))
 
-  arrow_if : {s : Spot all} (f : Flags) (x : Reading) (es : Refined (List Parameter)) (c : Spot all) → ExpressionAt room s x c → Above (sum_of in_parameter) es (in_expression x.value) → Deep (ExpressionAt room s) (e.arrow_if i f (begin_of s.input.tokens) x es) (e.arrow_if j f (begin_of s.input.tokens) x es) c
-  arrow_if f x (Fits es) c a l = next arrow _ _ _ _ a.0 (λ t d k b. arrow_body f es d (less b l)) (refused-holds c)
+  arrow_if : {s : Spot all} (f : Flags) (x : Reading) (es : Refined (List Parameter)) (c : Spot all) → ExpressionAt room s x c → Recounted (sum_of in_parameter) es (in_expression x.value) → Deep (ExpressionAt room s) (e.arrow_if i f (begin_of s.input.tokens) x es) (e.arrow_if j f (begin_of s.input.tokens) x es) c
+  arrow_if f x (Fits es) c a l = next arrow _ _ _ _ a.0 (λ t d k b. arrow_body f es d (recount b l)) (refused-holds c)
   arrow_if f x (Misfit place) c a l = either (is_covered x.shape) _ _ _ _ c (refused-holds c) (took _ a)
   arrow_if f x TooNested c a l = fault
 
-  pub fitting : {s : Spot all} {g : ℕ} {D : ℕ → ℕ} (p : Refined Pattern) (c : Spot all) → At true room s 0 g c D → Above in_pattern p D → Deep (λ x d. At true room s 0 g d (in_pattern x)) (e.fitting p) (e.fitting p) c
-  fitting (Fits p) c a l = took _ (less a l)
+  pub fitting : {s : Spot all} {g : ℕ} {D : ℕ → ℕ} (p : Refined Pattern) (c : Spot all) → At true room s 0 g c D → Recounted in_pattern p D → Deep (λ x d. At true room s 0 g d (in_pattern x)) (e.fitting p) (e.fitting p) c
+  fitting (Fits p) c a l = took _ (recount a l)
   fitting (Misfit place) c a l = refused-holds c
   fitting TooNested c a l = fault
 
   assigned_with : {s : Spot all} (f : Flags) (x : Expression) (op : AssignOperator) (c : Spot all) → At true room s 0 0 c (in_expression x) → Deep (ExpressionAt room s) (e.assigned_with i f (begin_of s.input.tokens) x op) (e.assigned_with j f (begin_of s.input.tokens) x op) c
   unfolding e.assigned_with
-  assigned_with {s = s} f x op c a = bind _ _ (subst (λ n. Deep (λ p d. At true room s 0 0 d (in_pattern p)) (e.fitting (target_before i.fuel op x)) (e.fitting (target_before n op x)) c) (both-same h.turns) (fitting (target_before i.fuel op x) c a (before-above i.fuel op x))) λ p d b. bind _ _ (h.assignment f d (ready b)) λ y m n. took _ (finish (and b n) (in-assign _ _ _ _) (λ at. omega arith), within (span-assign _ _ _ _))
+  assigned_with {s = s} f x op c a = bind _ _ (subst (λ n. Deep (λ p d. At true room s 0 0 d (in_pattern p)) (e.fitting (target_before i.fuel op x)) (e.fitting (target_before n op x)) c) (both-same h.turns) (fitting (target_before i.fuel op x) c a (before-recounted i.fuel op x))) λ p d b. bind _ _ (h.assignment f d (ready b)) λ y m n. took _ (finish (and b n) (in-assign _ _ _ _) (λ at. omega arith), within (span-assign _ _ _ _))
 
   after_conditional : {s : Spot all} (f : Flags) (x : Reading) (c : Spot all) → ExpressionAt room s x c → Deep (ExpressionAt room s) (e.after_conditional i f (begin_of s.input.tokens) x) (e.after_conditional j f (begin_of s.input.tokens) x) c
   unfolding e.after_conditional
@@ -158,7 +158,7 @@ module _ {all : List Filled} (i j : Inner) (room : ℕ) (h : Deeper all i j room
   parts : (f : Flags) {n m : ℕ} (w : Both n m) (s : Spot all) → Ready room 0 s → Deep (λ xs c. At true room s 0 0 c (sum_of in_expression xs)) (e.parts i f n) (e.parts j f m) s
   unfolding e.parts
   parts f over s r = fault
-  parts f (turn {n = n} {m = m} w) s r = bind _ _ (assignment f s r) λ x c a. next comma _ _ _ _ a.0 (λ t d k b. bind _ _ (parts f w d (ready b)) λ xs m o. took _ (less (and b o) (λ at. omega arith))) (took _ (less a.0 (λ at. omega arith)))
+  parts f (turn {n = n} {m = m} w) s r = bind _ _ (assignment f s r) λ x c a. next comma _ _ _ _ a.0 (λ t d k b. bind _ _ (parts f w d (ready b)) λ xs m o. took _ (recount (and b o) (λ at. omega arith))) (took _ (recount a.0 (λ at. omega arith)))
 
   pub sequence : (f : Flags) (s : Spot all) → Ready room 0 s → Deep (ExpressionAt room s) (e.sequence i f) (e.sequence j f) s
   unfolding e.sequence e.more_parts

@@ -30,7 +30,7 @@ use Rattle.es6_viability.proofs.Beside.{Both, over, turn}
 use Rattle.es6_reading.proofs.SpanCounts.{sum_of, in_some, spans_block, spans_class, spans_function, spans_template, in_array_part, in_block, in_class, in_class_member, in_expression, in_function, in_key, in_method, in_object_part, in_parameter, in_part, in_pattern, in_property, in_statement, in_template, in_template_part, with_block, with_expression, with_statement}
 use Rattle.es6_reading.proofs.SpanSums.{in-skipped_part, in-single_part, in-rest_part, in-name, in-word_key, in-text_key, in-integer_key, in-computed_key, in-named_part, in-keyed_part, in-single_parameter, in-rest_parameter, in-target, in-array_pattern, in-object_pattern, in-class, span-class, in-class_member, in-function, span-function, in-method, in-part, in-template, span-template, in-template_part}
 use Rattle.es6_reading.proofs.SpanSumsOfStatements.{in-block, span-block}
-use Rattle.es6_viability.proofs.Deep.{Spot, At, Ready, ready, begin, and, less, finish, first, no_spans, Within, within, Opened, Deep, took, fault, bind, weaken, refused-holds, no-number-holds, next, ends, take, close, either, looks, Opens, opening, group}
+use Rattle.es6_viability.proofs.Deep.{Spot, At, Ready, ready, begin, and, recount, finish, first, no_spans, Within, within, Opened, Deep, took, fault, bind, weaken, refused-holds, no-number-holds, next, ends, take, close, either, looks, Opens, opening, group}
 use Rattle.es6_reading.proofs.ShallowTokens.{a-word, comma, colon, semicolon-mark, ellipsis, equals, a-star, right-parenthesis, right-bracket, right-brace, any-name, free-name, key-token, accessor-word, whole-template, template-head, template-middle, template-tail, statement-end, do-while-end}
 
 -- what is read by the readers one construct deeper
@@ -117,17 +117,17 @@ module _ {all : List Filled} (i j : Inner) (room : ℕ) (h : Deeper all i j room
   array_parts : (f : Flags) {n m : ℕ} (w : Both n m) (s : Spot all) → Ready room 1 s → Deep (λ es c. At true room s 1 0 c (sum_of in_array_part es)) (t6.array_parts i f n) (t6.array_parts j f m) s
   unfolding t6.array_parts
   array_parts f over s r = fault
-  array_parts f (turn {n = n} {m = m} w) s r = let a = begin s r in ends right-bracket _ _ _ _ a (λ t c b. took _ (less b (λ at. omega arith)))
+  array_parts f (turn {n = n} {m = m} w) s r = let a = begin s r in ends right-bracket _ _ _ _ a (λ t c b. took _ (recount b (λ at. omega arith)))
       (next comma _ _ _ _ a (λ t c k b. bind _ _ (array_parts f w c (ready b)) λ x d m. took _ (first in_array_part x (and b m) in-skipped_part (λ at. omega arith)))
-      (next ellipsis _ _ _ _ a (λ t c k b. weaken (rest_part _ c (ready b)) λ x d m. less (and b m) (λ at. omega arith))
+      (next ellipsis _ _ _ _ a (λ t c k b. weaken (rest_part _ c (ready b)) λ x d m. recount (and b m) (λ at. omega arith))
       (bind _ _ (h.part f s r) λ q c b. next comma _ _ _ _ b (λ t d k m. bind _ _ (array_parts f w d (ready m)) λ x e o. took _ (first in_array_part x (and m o) (in-single_part _) (λ at. omega arith)))
       (bind _ _ (close right-bracket b) λ t d m. took _ (first in_array_part [] m (in-single_part _) (λ at. omega arith))))))
 
   object_parts : (f : Flags) {n m : ℕ} (w : Both n m) (s : Spot all) → Ready room 1 s → Deep (λ es c. At true room s 1 0 c (sum_of in_object_part es)) (t6.object_parts i f n) (t6.object_parts j f m) s
   unfolding t6.object_parts
   object_parts f over s r = fault
-  object_parts f (turn {n = n} {m = m} w) s r = ends right-brace _ _ _ _ (begin s r) (λ t c b. took _ (less b (λ at. omega arith)))
-      (bind _ _ (h.object_part f s r) λ q c b. next comma _ _ _ _ b (λ t d k m. bind _ _ (object_parts f w d (ready m)) λ x e o. took _ (less (and m o) (λ at. omega arith))) (bind _ _ (close right-brace b) λ t d m. took _ (less m (λ at. omega arith))))
+  object_parts f (turn {n = n} {m = m} w) s r = ends right-brace _ _ _ _ (begin s r) (λ t c b. took _ (recount b (λ at. omega arith)))
+      (bind _ _ (h.object_part f s r) λ q c b. next comma _ _ _ _ b (λ t d k m. bind _ _ (object_parts f w d (ready m)) λ x e o. took _ (recount (and m o) (λ at. omega arith))) (bind _ _ (close right-brace b) λ t d m. took _ (recount m (λ at. omega arith))))
 
   binding_pattern : (f : Flags) (at : ℕ) (s : Spot all) → Ready room 0 s → Deep (λ x c. At true room s 0 0 c (in_pattern x)) (t6.binding_pattern i f at) (t6.binding_pattern j f at) s
   unfolding t6.binding_pattern
@@ -170,18 +170,18 @@ module _ {all : List Filled} (i j : Inner) (room : ℕ) (h : Deeper all i j room
   more_parameters : (f : Flags) {n m : ℕ} (w : Both n m) (s : Spot all) → Ready room 1 s → Deep (λ es c. At true room s 1 0 c (sum_of in_parameter es)) (t6.more_parameters i f n) (t6.more_parameters j f m) s
   unfolding t6.more_parameters
   more_parameters f over s r = fault
-  more_parameters f (turn {n = n} {m = m} w) s r = next ellipsis _ _ _ _ (begin s r) (λ t c k a. bind _ _ (rest_parameter _ c (ready a)) λ x d b. took _ (less (and a b) (λ at. omega arith)))
+  more_parameters f (turn {n = n} {m = m} w) s r = next ellipsis _ _ _ _ (begin s r) (λ t c k a. bind _ _ (rest_parameter _ c (ready a)) λ x d b. took _ (recount (and a b) (λ at. omega arith)))
       (bind _ _ (h.part f s r) λ q c a. next comma _ _ _ _ a (λ t d k b. bind _ _ (more_parameters f w d (ready b)) λ x e m. took _ (first in_parameter x (and b m) (in-single_parameter _) (λ at. omega arith)))
       (bind _ _ (close right-parenthesis a) λ t d b. took _ (first in_parameter [] b (in-single_parameter _) (λ at. omega arith))))
 
   parameters : (f : Flags) (s : Spot all) → Ready room 1 s → Deep (λ es c. At true room s 1 0 c (sum_of in_parameter es)) (t6.parameters i f) (t6.parameters j f) s
   unfolding t6.parameters
-  parameters f s r = ends right-parenthesis _ _ _ _ (begin s r) (λ t c a. took _ (less a (λ at. omega arith))) (more_parameters f h.turns s r)
+  parameters f s r = ends right-parenthesis _ _ _ _ (begin s r) (λ t c a. took _ (recount a (λ at. omega arith))) (more_parameters f h.turns s r)
 
   statements : (f : Flags) {n m : ℕ} (w : Both n m) (s : Spot all) → Ready room 1 s → Deep (λ xs c. At true room s 1 0 c (sum_of in_statement xs)) (t6.statements i f n) (t6.statements j f m) s
   unfolding t6.statements
   statements f over s r = fault
-  statements f (turn {n = n} {m = m} w) s r = ends right-brace _ _ _ _ (begin s r) (λ t c a. took _ (less a (λ at. omega arith))) (bind _ _ (h.statement f Listed (λ e. omega arith) s r) λ x c a. bind _ _ (statements f w c (ready a)) λ y d b. took _ (less (and a b) (λ at. omega arith)))
+  statements f (turn {n = n} {m = m} w) s r = ends right-brace _ _ _ _ (begin s r) (λ t c a. took _ (recount a (λ at. omega arith))) (bind _ _ (h.statement f Listed (λ e. omega arith) s r) λ x c a. bind _ _ (statements f w c (ready a)) λ y d b. took _ (recount (and a b) (λ at. omega arith)))
 
   pub block : (f : Flags) (s : Spot all) → Ready room 0 s → Deep (λ x c. At true room s 0 0 c (in_block x) × Within s c (spans_block x).span) (t6.block i f) (t6.block j f) s
   unfolding t6.block
@@ -216,7 +216,7 @@ module _ {all : List Filled} (i j : Inner) (room : ℕ) (h : Deeper all i j room
   accessor_parameters : (setter : Bool) (s : Spot all) → Ready room 1 s → Deep (λ es c. At true room s 1 0 c (sum_of in_parameter es)) (t6.accessor_parameters i setter) (t6.accessor_parameters j setter) s
   unfolding t6.accessor_parameters t6.one_parameter t6.no_parameter
   accessor_parameters true s r = bind _ _ (h.part (of_function false) s r) λ q c a. bind _ _ (close right-parenthesis a) λ t d b. took _ (first in_parameter [] b (in-single_parameter _) (λ at. omega arith))
-  accessor_parameters false s r = bind _ _ (close right-parenthesis (begin s r)) λ t c a. took _ (less a (λ at. omega arith))
+  accessor_parameters false s r = bind _ _ (close right-parenthesis (begin s r)) λ t c a. took _ (recount a (λ at. omega arith))
 
   pub accessor : {s : Spot all} (f : Flags) (at : ℕ) (setter : Bool) (c : Spot all) → At true room s 0 0 c no_spans → Deep (λ x d. At true room s 0 0 d (in_method x)) (t6.accessor i f at setter) (t6.accessor j f at setter) c
   unfolding t6.accessor
@@ -224,7 +224,7 @@ module _ {all : List Filled} (i j : Inner) (room : ℕ) (h : Deeper all i j room
 
   pub generator_method : {s : Spot all} (f : Flags) (at : ℕ) (c : Spot all) → At true room s 0 0 c no_spans → Deep (λ x d. At true room s 0 0 d (in_method x)) (t6.generator_method i f at) (t6.generator_method j f at) c
   unfolding t6.generator_method
-  generator_method f at c a = bind _ _ (key f c (ready a)) λ k d b. method_after_key _ true at k d (less (and a b) (λ at. omega arith))
+  generator_method f at c a = bind _ _ (key f c (ready a)) λ k d b. method_after_key _ true at k d (recount (and a b) (λ at. omega arith))
 
   accessor_word : {s : Spot all} (f : Flags) (at : ℕ) (setter : Bool) (c : Spot all) → At true room s 0 0 c no_spans → Deep (λ x d. At true room s 0 0 d (in_method x)) (t6.method_after_accessor_word i f at setter) (t6.method_after_accessor_word j f at setter) c
   unfolding t6.method_after_accessor_word
@@ -232,7 +232,7 @@ module _ {all : List Filled} (i j : Inner) (room : ℕ) (h : Deeper all i j room
 
   method : {s : Spot all} {b : Bool} (f : Flags) (c : Spot all) → At b room s 0 0 c no_spans → Deep (λ x d. At true room s 0 0 d (in_method x)) (t6.method i f) (t6.method j f) c
   unfolding t6.method
-  method f c a = next a-star _ _ _ _ a (λ t d k b. generator_method f _ d b) (next accessor-word _ _ _ _ a (λ setter d k b. accessor_word f _ setter d b) (bind _ _ (key f c (ready a)) λ k d b. method_after_key _ false _ k d (less (and a b) (λ at. omega arith))))
+  method f c a = next a-star _ _ _ _ a (λ t d k b. generator_method f _ d b) (next accessor-word _ _ _ _ a (λ setter d k b. accessor_word f _ setter d b) (bind _ _ (key f c (ready a)) λ k d b. method_after_key _ false _ k d (recount (and a b) (λ at. omega arith))))
 
   pub member : (f : Flags) (s : Spot all) → Ready room 0 s → Deep (λ x c. At true room s 0 0 c (in_class_member x)) (t6.one_member i f) (t6.one_member j f) s
   unfolding t6.one_member t6.member_after_static
@@ -242,12 +242,12 @@ module _ {all : List Filled} (i j : Inner) (room : ℕ) (h : Deeper all i j room
   members : (f : Flags) {n m : ℕ} (w : Both n m) (s : Spot all) → Ready room 1 s → Deep (λ xs c. At true room s 1 0 c (sum_of in_class_member xs)) (t6.members i f n) (t6.members j f m) s
   unfolding t6.members
   members f over s r = fault
-  members f (turn {n = n} {m = m} w) s r = let a = begin s r in ends right-brace _ _ _ _ a (λ t c b. took _ (less b (λ at. omega arith))) (next semicolon-mark _ _ _ _ a (λ t c k b. weaken (members f w c (ready b)) λ xs d m. less (and b m) (λ at. omega arith))
-      (bind _ _ (h.member f s r) λ m c b. bind _ _ (members f w c (ready b)) λ ms d e. took _ (less (and b e) (λ at. omega arith))))
+  members f (turn {n = n} {m = m} w) s r = let a = begin s r in ends right-brace _ _ _ _ a (λ t c b. took _ (recount b (λ at. omega arith))) (next semicolon-mark _ _ _ _ a (λ t c k b. weaken (members f w c (ready b)) λ xs d m. recount (and b m) (λ at. omega arith))
+      (bind _ _ (h.member f s r) λ m c b. bind _ _ (members f w c (ready b)) λ ms d e. took _ (recount (and b e) (λ at. omega arith))))
 
   heritage : {s : Spot all} (f : Flags) (c : Spot all) → At true room s 0 0 c no_spans → Deep (λ x d. At true room s 0 0 d (in_some with_expression x)) (t6.heritage i f) (t6.heritage j f) c
   unfolding t6.heritage
-  heritage f c a = next (a-word (codes "extends")) _ _ _ _ a (λ t d k b. bind _ _ (h.heritage f d (ready b)) λ x e m. took _ (less (and b m) (λ at. omega arith))) (took _ (less a (λ at. omega arith)))
+  heritage f c a = next (a-word (codes "extends")) _ _ _ _ a (λ t d k b. bind _ _ (h.heritage f d (ready b)) λ x e m. took _ (recount (and b m) (λ at. omega arith))) (took _ (recount a (λ at. omega arith)))
 
   rest_of_class : {s : Spot all} (f : Flags) (name : Option Identifier) (c : Spot all) → At true room s 0 0 c no_spans → Deep (λ x d. At true room s 0 0 d (in_class x) × Within s d (spans_class x).span) (t6.rest_of_class i f (begin_of s.input.tokens) name) (t6.rest_of_class j f (begin_of s.input.tokens) name) c
   unfolding t6.rest_of_class

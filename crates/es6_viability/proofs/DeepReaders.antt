@@ -11,7 +11,7 @@ use Rattle.es6_ast.specs.declared.settings.Stand.TheVariants.{Listed, Under, Lab
 use Rattle.es6_ast.specs.declared.settings.Stop.TheVariants.{Depth}
 use Rattle.es6_ast.specs.declared.tree.Statement.{Statement}
 use Rattle.es6_ast.specs.Tokens.{Filling, Read, Filled}
-use Rattle.es6_reading.specs.Parser.{Outcome, Fault, Parser, Reading, fails, choose, next_is, if_next, next_mark, no_expression, no_number, Inner}
+use Rattle.es6_reading.specs.Parser.{Input, Outcome, Fault, Parser, Reading, fails, choose, next_is, if_next, next_mark, no_expression, no_number, Inner}
 use Rattle.es6_reading.specs.Words.{begins_operand, begins_unary, begins_expression, unary_operators}
 use Rattle.es6_reading.specs.Parts as t6
 use Rattle.es6_reading.specs.Expressions as e
@@ -23,7 +23,8 @@ use Rattle.es6_reading.proofs.Follows.{plus}
 use Rattle.es6_reading.proofs.LocalLimits.{no_statement, operand-limit, heritage-limit, unary-limit, power-limit, assignment-limit, statement-limit}
 use Rattle.es6_reading.proofs.SpanCounts.{one, spans_block, spans_expression, spans_statement, in_block, in_expression, in_statement}
 use Rattle.es6_viability.proofs.Beside.{both}
-use Rattle.es6_viability.proofs.Deep.{Limit, Mode, still, gone, Spot, Claim, At, Ready, Within, Opened, Deep, Runs, fault, weaken, no-number-holds, no-expression-holds, looks, inside, surround, one-around, went-on, by-itself}
+use Rattle.es6_reading.proofs.Shallow.{Sorted, stay}
+use Rattle.es6_viability.proofs.Deep.{Limit, Mode, still, gone, Spot, Claim, Walked, At, Ready, Within, Opened, Deep, Runs, fault, weaken, no-number-holds, no-expression-holds, looks, inside, surround, one-around, round-before, round-behind, stays-gone, went-on, by-itself}
 use Rattle.es6_viability.proofs.DeepParts.{Deeper, binding, initialized, one_part, object_part, block, member}
 use Rattle.es6_viability.proofs.DeepExpressions.{chain}
 use Rattle.es6_viability.proofs.DeepLevels.{unary, power, assignment, sequence, property}
@@ -32,21 +33,21 @@ use Rattle.es6_viability.proofs.DeepStatements.{statement}
 -- ## Where the first reader has stopped
 
 module _ {all : List Filled} (l : Limit all) where
-  gone-of : (room : ℕ) (s : Spot all) (g last : ℕ) (D : ℕ → ℕ) (sm cm : Mode all) → sm ≡ gone l → Claim room s g sm cm last D → cm ≡ gone l
-  gone-of room s g last D still cm k c = absurd (cc)
-  gone-of room s g last D (gone l') cm k c = c ∙ k
-
   claim-gone : (room : ℕ) (s : Spot all) (g last : ℕ) (D : ℕ → ℕ) (sm cm : Mode all) → sm ≡ gone l → cm ≡ gone l → Claim room s g sm cm last D
   claim-gone room s g last D still cm k c = absurd (cc)
   claim-gone room s g last D (gone l') cm k c = c ∙ sym k
+
+  walked-gone : (room : ℕ) (D : ℕ → ℕ) (s : Input) (g : ℕ) (c : Input) (h : ℕ) (sm cm : Mode all) → sm ≡ gone l → Walked room D s g c h sm cm
+  walked-gone room D s g c h still cm k = absurd (cc)
+  walked-gone room D s g c h (gone l') cm k = tt
 
   never-still : {m : Mode all} → m ≡ still → m ≡ gone l → ⊥
   never-still k c = absurd (cc)
 
   -- there nothing is claimed
-  relax : {room room' h : ℕ} {s c : Spot all} {D : ℕ → ℕ} (E : ℕ → ℕ) → s.mode ≡ gone l → h ≤ s.groups → At true room s 0 0 c D → At true room' s h h c E
-  relax {room = room} {room' = room'} {h = h} {s = s} {c = c} {D = D} E k o a =
-      let u = gone-of room s 0 c.input.last D s.mode c.mode k a.claim in
+  relax : {room room' h : ℕ} {s c : Spot all} {D : ℕ → ℕ} (E : ℕ → ℕ) → ((at : ℕ) → at < s.input.last → E at ≡ 0) → ((at : ℕ) → c.input.last ≤ at → E at ≡ 0) → s.mode ≡ gone l → h ≤ s.groups → At true room s 0 0 c D → At true room' s h h c E
+  relax {room = room} {room' = room'} {h = h} {s = s} {c = c} {D = D} E before behind k o a =
+      let u = stays-gone room s 0 c.input.last D s.mode c.mode a.claim l k in
       record {
         balance = omega (arith, a.balance);
         enough = o;
@@ -57,12 +58,15 @@ module _ {all : List Filled} (l : Limit all) where
         steps = a.steps;
         moved = a.moved;
         fits = λ v. absurd (never-still v u);
+        before = before;
+        behind = behind;
+        walk = walked-gone room' E s.input h c.input h s.mode c.mode k;
         claim = claim-gone room' s h c.input.last E s.mode c.mode k u;
       }
 
-  relax-opened : (h : ℕ) {room : ℕ} (room' : ℕ) {s c : Spot all} {D : ℕ → ℕ} (E W : ℕ → ℕ) → s.mode ≡ gone l → h ≤ s.groups → At true room s 0 0 c D → Opened room' h s c E W
-  relax-opened zero room' E W k o a = relax W k o a
-  relax-opened (suc h) room' E W k o a = relax E k (omega (arith, o)) a
+  relax-opened : (h : ℕ) {room : ℕ} (room' : ℕ) {s c : Spot all} {D : ℕ → ℕ} (span : Span) → Sorted s.input.last s.input.tokens → s.mode ≡ gone l → h ≤ s.groups → At true room s 0 0 c D × Within s c span → Opened room' h s c D (λ at. one span at + D at)
+  relax-opened zero room' span sorted k o a = relax _ (round-before a.1 sorted (a.0.moved refl) a.0.before) (round-behind a.1 a.0.behind) k o a.0
+  relax-opened (suc h) room' {D = D} span sorted k o a = relax D a.0.before a.0.behind k (omega (arith, o)) a.0
 
   alone-of : {A : Type 0} {P Q : A → Spot all → Type 0} (p' : Parser A) (s : Spot all) (o : Outcome A) → s.mode ≡ gone l → Deep P p' p' s → ((x : A) (c : Spot all) → P x c → Q x c) → Runs Q s.mode o (p' s.input)
   alone-of {Q = Q} p' s o k h f = subst (λ m. Runs Q m o (p' s.input)) (sym k) (by-itself o (subst (λ m. Runs Q m (p' s.input) (p' s.input)) k (weaken h f)))
@@ -83,10 +87,10 @@ module _ {all : List Filled} {A : Type 0} (k : ℕ) (D : A → ℕ → ℕ) (spa
 
       counted : (x : A) (c : Spot all) → At true k there 0 0 c (D x) → Within there c (span x) → At true 0 here 0 0 c (λ at. one (span x) at + D x at)
       counted x c a w =
-          let u = gone-of limit k there 0 c.input.last (D x) (gone limit) c.mode refl a.claim in
+          let u = stays-gone k there 0 c.input.last (D x) (gone limit) c.mode a.claim limit refl in
           let long : t.span.begin < t.span.end = r.sorted.1 inner in
           let past : t.span.end ≤ c.input.last = a.moved refl in
-          let counts = one-around t.span.begin (span x) w.begins (omega (arith, long, past, w.ends)) in
+          let counts = one-around t.span.begin (span x) (omega (arith, w.begins)) (omega (arith, long, past, w.ends)) in
           record {
             balance = a.balance;
             enough = a.enough;
@@ -97,6 +101,9 @@ module _ {all : List Filled} {A : Type 0} (k : ℕ) (D : A → ℕ → ℕ) (spa
             steps = a.steps;
             moved = a.moved;
             fits = λ v. absurd (never-still limit v u);
+            before = round-before w r.sorted past a.before;
+            behind = round-behind w a.behind;
+            walk = subst (λ m. Walked 0 (λ at. one (span x) at + D x at) here.input 0 c.input 0 still m) (sym u) (0, stay);
             claim = subst (λ m. Claim 0 here 0 still m c.input.last (λ at. one (span x) at + D x at)) (sym u) (record { deep = omega (arith, counts); comes = λ m o. o; ends = omega (arith, long, past) });
           }
 
@@ -109,7 +116,7 @@ module _ {all : List Filled} {A : Type 0} (k : ℕ) (D : A → ℕ → ℕ) (spa
     stops-at still n t ts last zero e r = stops-here n t ts last (inner t e) r
     stops-at still n t ts last (suc h) e r = absurd (omega (arith, r.fits refl))
     stops-at (gone l) n t ts last h e r = alone-of l p' (record { mode = gone l; groups = n; input = record { tokens = t ∷ ts; last = last } }) (Fault Depth (t ∷ ts)) refl (same (record { mode = gone l; groups = n; input = record { tokens = t ∷ ts; last = last } }) (record { enough = omega arith; stands = r.stands; sorted = r.sorted; fits = λ v. absurd (never-still l v refl) }))
-        (λ x c q. relax-opened l h 0 (D x) (λ at. one (span x) at + D x at) refl r.enough q.0)
+        (λ x c q. relax-opened l h 0 (span x) r.sorted refl r.enough q)
 
     module _ (q : Parser A) (none : (ts : List Filled) (last : ℕ) → next_is test ts ≡ false → p' (record { tokens = ts; last = last }) ≡ q (record { tokens = ts; last = last })) (stops : (h : ℕ) (s : Spot all) → Deep (λ x c. Opened 0 h s c (D x) (λ at. one (span x) at + D x at)) q q s) where
       else-stops : (h : ℕ) (s : Spot all) → next_is test s.input.tokens ≡ false → Deep (λ x c. Opened 0 h s c (D x) (λ at. one (span x) at + D x at)) q p' s
@@ -132,7 +139,7 @@ module _ {all : List Filled} {A : Type 0} (k : ℕ) (D : A → ℕ → ℕ) (spa
 module _ {all : List Filled} {A : Type 0} (k : ℕ) (D : A → ℕ → ℕ) (p p' : Parser A) (same : (s : Spot all) → Ready k 0 s → Deep (λ x c. At true k s 0 0 c (D x)) p' p' s) where
   unreached-by : (m : Mode all) (s : Spot all) → s.mode ≡ m → Ready 0 1 s → Deep (λ x c. At true 0 s 1 1 c (D x)) p p' s
   unreached-by still s u r = absurd (omega (arith, r.fits u))
-  unreached-by (gone l) s u r = alone-of l p' s (p s.input) u (same s (record { enough = omega arith; stands = r.stands; sorted = r.sorted; fits = λ v. absurd (never-still l v u) })) (λ x c q. relax l (D x) u r.enough q)
+  unreached-by (gone l) s u r = alone-of l p' s (p s.input) u (same s (record { enough = omega arith; stands = r.stands; sorted = r.sorted; fits = λ v. absurd (never-still l v u) })) (λ x c q. relax l (D x) q.before q.behind u r.enough q)
 
   pub unreached : (s : Spot all) → Ready 0 1 s → Deep (λ x c. At true 0 s 1 1 c (D x)) p p' s
   unreached s r = unreached-by s.mode s refl r
@@ -197,8 +204,8 @@ module _ {all : List Filled} where
   fresh r = record { enough = omega arith; stands = r.stands; sorted = r.sorted; fits = λ u. omega arith }
 
   opened : {room : ℕ} (h : ℕ) {s c : Spot all} {D : ℕ → ℕ} (span : Span) → Ready (suc room) h s → At true room s 0 0 c D → Within s c span → Opened (suc room) h s c D (λ at. one span at + D at)
-  opened zero span r a w = surround span (omega arith) w a
-  opened (suc h) span r a w = inside (omega arith) (omega arith) (omega (arith, r.enough)) a
+  opened zero span r a w = surround span refl r.sorted w a
+  opened (suc h) span r a w = inside refl (omega arith) (omega (arith, r.enough)) a
 
 module _ {all : List Filled} (mode : Bool) (fuel : ℕ) where
   one-more : (a b : ℕ) → Deeper all (m6.readers mode fuel a) (m6.readers mode fuel b) a → Deeper all (m6.readers mode fuel (suc a)) (m6.readers mode fuel (suc b)) (suc a)
@@ -210,19 +217,19 @@ module _ {all : List Filled} (mode : Bool) (fuel : ℕ) where
         opens = record { none = λ u v. absurd (true≢false u); both = λ u. refl; some = λ u. omega arith };
         mode = refl;
         turns = both fuel;
-        sequence = λ f s r. weaken (sequence i j a d f s (fresh r)) (λ x c q. inside (omega arith) (omega arith) r.enough q.0);
+        sequence = λ f s r. weaken (sequence i j a d f s (fresh r)) (λ x c q. inside refl (omega arith) r.enough q.0);
         assignment = λ f {h} s r. weaken (assignment i j a d f s (fresh r)) (λ x c q. opened h (spans_expression x.value).span r q.0 q.1);
         power = λ f {h} s r. weaken (power i j a d f Among s (fresh r)) (λ x c q. opened h (spans_expression x.value).span r q.0 q.1);
         unary = λ f {h} s r. weaken (unary i j a d f s (fresh r)) (λ x c q. opened h (spans_expression x.value).span r q.0 q.1);
         callee = λ f {h} s r. weaken (chain i j a d f Callee s (fresh r)) (λ x c q. opened h (spans_expression x.value).span r q.0 q.1);
         heritage = λ f {h} s r. weaken (chain i j a d f Heritage s (fresh r)) (λ x c q. opened h (spans_expression x.value).span r q.0 q.1);
         block = λ f {h} s u r. weaken (block i j a d f s (fresh r)) (λ x c q. opened h (spans_block x).span r q.0 q.1);
-        property = λ f s r. weaken (property i j a d f s (fresh r)) (λ x c q. inside (omega arith) (omega arith) r.enough q);
-        target = λ f s r. weaken (binding i j a d f s (fresh r)) (λ x c q. inside (omega arith) (omega arith) r.enough q);
-        part = λ f s r. weaken (one_part i j a d f s (fresh r)) (λ x c q. inside (omega arith) (omega arith) r.enough q);
-        object_part = λ f s r. weaken (object_part i j a d f s (fresh r)) (λ x c q. inside (omega arith) (omega arith) r.enough q);
-        variable = λ f s r. weaken (initialized i j a d f f s (fresh r)) (λ x c q. inside (omega arith) (omega arith) r.enough q);
-        member = λ f s r. weaken (member i j a d f s (fresh r)) (λ x c q. inside (omega arith) (omega arith) r.enough q);
+        property = λ f s r. weaken (property i j a d f s (fresh r)) (λ x c q. inside refl (omega arith) r.enough q);
+        target = λ f s r. weaken (binding i j a d f s (fresh r)) (λ x c q. inside refl (omega arith) r.enough q);
+        part = λ f s r. weaken (one_part i j a d f s (fresh r)) (λ x c q. inside refl (omega arith) r.enough q);
+        object_part = λ f s r. weaken (object_part i j a d f s (fresh r)) (λ x c q. inside refl (omega arith) r.enough q);
+        variable = λ f s r. weaken (initialized i j a d f f s (fresh r)) (λ x c q. inside refl (omega arith) r.enough q);
+        member = λ f s r. weaken (member i j a d f s (fresh r)) (λ x c q. inside refl (omega arith) r.enough q);
         statement = λ f stand {h} n s r. weaken (statement i j a d f stand s (fresh r)) (λ x c q. opened h (spans_statement x).span r q.0 q.1);
       }
 
@@ -278,7 +285,7 @@ module _ {all : List Filled} (mode : Bool) (fuel : ℕ) where
     statement-listed : (f : Flags) (m : Mode all) (h : ℕ) (s : Spot all) → s.mode ≡ m → 1 ≤ h → Ready 0 h s → Deep (λ x c. Opened 0 h s c (in_statement x) (λ at. one (spans_statement x).span at + in_statement x at)) (s6.statement_at_limit f Listed) (s6.statement (m6.readers mode fuel k) f Listed) s
     statement-listed f still h s u o r = absurd (omega (arith, r.fits u, o))
     statement-listed f (gone l) h s u o r = alone-of l (s6.statement (m6.readers mode fuel k) f Listed) s (s6.statement_at_limit f Listed s.input) u (statement (m6.readers mode fuel k) (m6.readers mode fuel k) k (same k) f Listed s (record { enough = omega arith; stands = r.stands; sorted = r.sorted; fits = λ v. absurd (never-still l v u) }))
-        (λ x c q. relax-opened l h 0 (in_statement x) (λ at. one (spans_statement x).span at + in_statement x at) u r.enough q.0)
+        (λ x c q. relax-opened l h 0 (spans_statement x).span r.sorted u r.enough q)
 
     statement-limited : (f : Flags) (stand : Stand) {h : ℕ} → (stand ≡ Listed → 1 ≤ h) → (s : Spot all) → Ready 0 h s → Deep (λ x c. Opened 0 h s c (in_statement x) (λ at. one (spans_statement x).span at + in_statement x at)) (s6.statement_at_limit f stand) (s6.statement (m6.readers mode fuel k) f stand) s
     statement-limited f Listed {h = h} n s r = statement-listed f s.mode h s refl (n refl) r

@@ -33,11 +33,11 @@ use Rattle.es6_reading.specs.Statements.{Header, ForHeader, OfHeader}
 use Rattle.es6_reading.proofs.SpanCounts.{sum_of, in_some, spans_statement, in_block, in_case, in_catch, in_condition, in_expression, in_for_first, in_for_target, in_part, in_pattern, in_statement, with_statement, with_expression}
 use Rattle.es6_reading.proofs.SpanSums.{in-name, in-part}
 use Rattle.es6_reading.proofs.SpanSumsOfStatements as laws
-use Rattle.es6_viability.proofs.Deep.{Spot, At, Ready, ready, begin, and, less, finish, first, forget, no_spans, Within, within, same-span, Deep, took, fault, bind, weaken, refused-holds, next, ends, take, close, either, either-by, looks, group}
+use Rattle.es6_viability.proofs.Deep.{Spot, At, Ready, ready, begin, and, recount, finish, first, forget, no_spans, Within, within, same-span, Deep, took, fault, bind, weaken, refused-holds, next, ends, take, close, either, either-by, looks, group}
 use Rattle.es6_reading.proofs.ShallowTokens.{a-word, comma, colon, semicolon-mark, right-parenthesis, right-brace, label, kind-word, lexical-word}
 use Rattle.es6_viability.proofs.Beside.{Both, over, turn, both-same}
 use Rattle.es6_viability.proofs.DeepParts.{Deeper, semicolon_, do_while_end, block, initialized, function, named_function, class}
-use Rattle.es6_viability.proofs.DeepRefined.{before-above, expression-is}
+use Rattle.es6_viability.proofs.DeepRefined.{before-recounted, expression-is}
 use Rattle.es6_viability.proofs.DeepLevels.{fitting, sequence}
 
 -- a statement, from its first token to its last one
@@ -61,8 +61,8 @@ none-counts : (o : Option Expression) → is_some o ≡ false → (at : ℕ) →
 none-counts None h at = refl
 none-counts (Some x) h at = absurd (cc)
 
-pattern-above : (q : Part) → is_some q.default ≡ false → (at : ℕ) → in_part q at ≤ in_pattern q.pattern at
-pattern-above q h at = omega (arith, ap (λ z. in_part z at) (sym (roll-out-Part q)), in-part q.span q.pattern q.default at, none-counts q.default h at)
+pattern-alone : (q : Part) → is_some q.default ≡ false → (at : ℕ) → in_part q at ≡ in_pattern q.pattern at
+pattern-alone q h at = omega (arith, ap (λ z. in_part z at) (sym (roll-out-Part q)), in-part q.span q.pattern q.default at, none-counts q.default h at)
 
 -- a label holds no construct
 name-none : (x : Expression) (l : Open Expression-F) → out-Expression x ≡ l → is_some (s6.name_in l) ≡ true → (at : ℕ) → in_expression x at ≡ 0
@@ -85,7 +85,7 @@ one_variable one one' k s r = bind _ _ (k s r) λ q c a. either (s6.is_whole q) 
 variables : {all : List Filled} {room g : ℕ} (one one' : Parser Part) (k : (s : Spot all) → Ready room g s → Deep (λ x c. At true room s g g c (in_part x)) one one' s) {n m : ℕ} (w : Both n m) (s : Spot all) → Ready room g s → Deep (λ xs c. At true room s g g c (sum_of in_part xs)) (s6.variables one n) (s6.variables one' m) s
 unfolding s6.variables
 variables one one' k over s r = fault
-variables one one' k (turn {n = n} {m = m} w) s r = bind _ _ (one_variable one one' k s r) λ q c a. next comma _ _ _ _ a (λ t d u b. bind _ _ (variables one one' k w d (ready b)) λ xs m o. took _ (less (and b o) (λ at. omega arith))) (took _ (less a (λ at. omega arith)))
+variables one one' k (turn {n = n} {m = m} w) s r = bind _ _ (one_variable one one' k s r) λ q c a. next comma _ _ _ _ a (λ t d u b. bind _ _ (variables one one' k w d (ready b)) λ xs m o. took _ (recount (and b o) (λ at. omega arith))) (took _ (recount a (λ at. omega arith)))
 
 module _ {all : List Filled} (i j : Inner) (room : ℕ) (h : Deeper all i j room) where
   pub variables_statement : {s : Spot all} (f : Flags) (kind : VariableKind) (c : Spot all) → At true room s 0 0 c no_spans → Deep (StatementAt room s) (s6.variables_statement i f (begin_of s.input.tokens) kind) (s6.variables_statement j f (begin_of s.input.tokens) kind) c
@@ -103,8 +103,8 @@ module _ {all : List Filled} (i j : Inner) (room : ℕ) (h : Deeper all i j room
   otherwise : (f : Flags) {n m : ℕ} (w : Both n m) (s : Spot all) → Ready room 0 s → Deep (λ x c. At false room s 0 0 c (λ at. sum_of in_condition x.more at + in_some with_statement x.last at)) (s6.otherwise i f n) (s6.otherwise j f m) s
   unfolding s6.otherwise
   otherwise f over s r = fault
-  otherwise f (turn {n = n} {m = m} w) s r = next (a-word (codes "else")) _ _ _ _ (begin s r) (λ t c k a. looks _ _ _ _ _ c (bind _ _ (condition f c (ready a)) λ x d b. bind _ _ (otherwise f w d (ready b)) λ y m o. took _ (forget (less (and (and a b) o) (λ at. omega arith))))
-      (bind _ _ (h.statement f Under (λ u. absurd (cc)) c (ready a)) λ x d b. took _ (forget (less (and a b) (λ at. omega arith))))) (took _ (less (begin s r) (λ at. omega arith)))
+  otherwise f (turn {n = n} {m = m} w) s r = next (a-word (codes "else")) _ _ _ _ (begin s r) (λ t c k a. looks _ _ _ _ _ c (bind _ _ (condition f c (ready a)) λ x d b. bind _ _ (otherwise f w d (ready b)) λ y m o. took _ (forget (recount (and (and a b) o) (λ at. omega arith))))
+      (bind _ _ (h.statement f Under (λ u. absurd (cc)) c (ready a)) λ x d b. took _ (forget (recount (and a b) (λ at. omega arith))))) (took _ (recount (begin s r) (λ at. omega arith)))
 
   if_statement : (f : Flags) (s : Spot all) → Ready room 0 s → Deep (StatementAt room s) (s6.if_statement i f (begin_of s.input.tokens)) (s6.if_statement j f (begin_of s.input.tokens)) s
   unfolding s6.if_statement
@@ -122,19 +122,19 @@ module _ {all : List Filled} (i j : Inner) (room : ℕ) (h : Deeper all i j room
 
   optional : {s : Spot all} {D : ℕ → ℕ} (f : Flags) (c : Spot all) → At true room s 0 1 c D → Deep (λ x d. At true room s 0 1 d (λ at. D at + in_some in_expression x at)) (s6.optional i f (mark marks.Semicolon)) (s6.optional j f (mark marks.Semicolon)) c
   unfolding s6.optional
-  optional f c a = next semicolon-mark _ _ _ _ a (λ t d k b. took _ (less b (λ at. omega arith))) (bind _ _ (h.sequence (with_in f) c (ready a)) λ x d b. bind _ _ (take semicolon-mark (and a b)) λ t m n. took _ (less n (λ at. omega arith)))
+  optional f c a = next semicolon-mark _ _ _ _ a (λ t d k b. took _ (recount b (λ at. omega arith))) (bind _ _ (h.sequence (with_in f) c (ready a)) λ x d b. bind _ _ (take semicolon-mark (and a b)) λ t m n. took _ (recount n (λ at. omega arith)))
 
   optional_last : {s : Spot all} {D : ℕ → ℕ} (f : Flags) (c : Spot all) → At true room s 0 1 c D → Deep (λ x d. At true room s 0 0 d (λ at. D at + in_some in_expression x at)) (s6.optional i f (mark marks.RightParenthesis)) (s6.optional j f (mark marks.RightParenthesis)) c
   unfolding s6.optional
-  optional_last f c a = ends right-parenthesis _ _ _ _ a (λ t d b. took _ (less b (λ at. omega arith))) (bind _ _ (h.sequence (with_in f) c (ready a)) λ x d b. bind _ _ (close right-parenthesis (and a b)) λ t m n. took _ (less n (λ at. omega arith)))
+  optional_last f c a = ends right-parenthesis _ _ _ _ a (λ t d b. took _ (recount b (λ at. omega arith))) (bind _ _ (h.sequence (with_in f) c (ready a)) λ x d b. bind _ _ (close right-parenthesis (and a b)) λ t m n. took _ (recount n (λ at. omega arith)))
 
   rest_of_for : {s : Spot all} (f : Flags) (x : ForFirst) (c : Spot all) → At true room s 0 1 c (in_for_first x) → Deep (λ y d. At true room s 0 0 d (in_header y)) (s6.rest_of_for i f x) (s6.rest_of_for j f x) c
   unfolding s6.rest_of_for
-  rest_of_for f x c a = bind _ _ (optional f c a) λ y d b. bind _ _ (optional_last f d b) λ z m n. took _ (less n (λ at. omega arith))
+  rest_of_for f x c a = bind _ _ (optional f c a) λ y d b. bind _ _ (optional_last f d b) λ z m n. took _ (recount n (λ at. omega arith))
 
   rest_of_of : {s : Spot all} (f : Flags) (x : ForTarget) (c : Spot all) → At true room s 0 1 c (in_for_target x) → Deep (λ y d. At true room s 0 0 d (in_header y)) (s6.rest_of_of i f x) (s6.rest_of_of j f x) c
   unfolding s6.rest_of_of
-  rest_of_of f x c a = bind _ _ (h.assignment (with_in f) c (ready a)) λ y d b. bind _ _ (close right-parenthesis (and a b)) λ t m n. took _ (less n (λ at. omega arith))
+  rest_of_of f x c a = bind _ _ (h.assignment (with_in f) c (ready a)) λ y d b. bind _ _ (close right-parenthesis (and a b)) λ t m n. took _ (recount n (λ at. omega arith))
 
   first_variables : {s : Spot all} (f : Flags) (at : ℕ) (kind : VariableKind) (qs : List Part) (c : Spot all) → At true room s 0 1 c (sum_of in_part qs) → Deep (λ y d. At true room s 0 0 d (in_header y)) (s6.first_variables i f at kind qs) (s6.first_variables j f at kind qs) c
   unfolding s6.first_variables
@@ -142,16 +142,16 @@ module _ {all : List Filled} (i j : Inner) (room : ℕ) (h : Deeper all i j room
 
   after_first : {s : Spot all} (f : Flags) (at : ℕ) (kind : VariableKind) (q : Part) (c : Spot all) → At true room s 0 1 c (in_part q) → Deep (λ y d. At true room s 0 0 d (in_header y)) (s6.after_first_variable i f at kind q) (s6.after_first_variable j f at kind q) c
   unfolding s6.after_first_variable
-  after_first f at kind q c a = either (s6.is_whole q) _ _ _ _ c (next comma _ _ _ _ a (λ t d k b. bind _ _ (variables _ _ (λ m o. h.variable (without_in f) m o) h.turns d (ready b)) λ qs m n. first_variables f at kind _ m (less (and b n) (λ k. omega arith)))
-      (first_variables f at kind _ c (less a (λ k. omega arith)))) (refused-holds c)
+  after_first f at kind q c a = either (s6.is_whole q) _ _ _ _ c (next comma _ _ _ _ a (λ t d k b. bind _ _ (variables _ _ (λ m o. h.variable (without_in f) m o) h.turns d (ready b)) λ qs m n. first_variables f at kind _ m (recount (and b n) (λ k. omega arith)))
+      (first_variables f at kind _ c (recount a (λ k. omega arith)))) (refused-holds c)
 
   after_bare : {s : Spot all} (f : Flags) (at : ℕ) (kind : VariableKind) (q : Part) (c : Spot all) → is_some q.default ≡ false → At true room s 0 1 c (in_part q) → Deep (λ y d. At true room s 0 0 d (in_header y)) (s6.after_bare_variable i f at kind q) (s6.after_bare_variable j f at kind q) c
   unfolding s6.after_bare_variable
-  after_bare f at kind q c none a = looks _ _ _ _ _ c fault (looks _ _ _ _ _ c (bind _ _ (take (a-word (codes "of")) a) λ t d b. rest_of_of f _ d (finish b (laws.in-declared _ _ _) (λ k. omega (arith, pattern-above q none k)))) (after_first f at kind q c a))
+  after_bare f at kind q c none a = looks _ _ _ _ _ c fault (looks _ _ _ _ _ c (bind _ _ (take (a-word (codes "of")) a) λ t d b. rest_of_of f _ d (finish b (laws.in-declared _ _ _) (λ k. omega (arith, pattern-alone q none k)))) (after_first f at kind q c a))
 
   for_variables : {s : Spot all} (f : Flags) (at : ℕ) (kind : VariableKind) (c : Spot all) → At true room s 0 1 c no_spans → Deep (λ y d. At true room s 0 0 d (in_header y)) (s6.for_variables i f at kind) (s6.for_variables j f at kind) c
   unfolding s6.for_variables
-  for_variables f at kind c a = bind _ _ (h.variable (without_in f) c (ready a)) λ q d b. let m = less (and a b) (λ k. omega arith) in either-by (is_some q.default) _ _ _ _ d (λ u. after_first f at kind q d m) (λ u. after_bare f at kind q d u m)
+  for_variables f at kind c a = bind _ _ (h.variable (without_in f) c (ready a)) λ q d b. let m = recount (and a b) (λ k. omega arith) in either-by (is_some q.default) _ _ _ _ d (λ u. after_first f at kind q d m) (λ u. after_bare f at kind q d u m)
 
   first_expression : {s : Spot all} (f : Flags) (x : Expression) (c : Spot all) → At true room s 0 1 c (in_expression x) → Deep (λ y d. At true room s 0 0 d (in_header y)) (s6.first_expression i f x) (s6.first_expression j f x) c
   unfolding s6.first_expression
@@ -159,11 +159,11 @@ module _ {all : List Filled} (i j : Inner) (room : ℕ) (h : Deeper all i j room
 
   assigned_in_turn : {s : Spot all} (f : Flags) (x : Expression) (c : Spot all) → At true room s 0 1 c (in_expression x) → Deep (λ y d. At true room s 0 0 d (in_header y)) (s6.assigned_in_turn i f x) (s6.assigned_in_turn j f x) c
   unfolding s6.assigned_in_turn
-  assigned_in_turn {s = s} f x c a = bind _ _ (subst (λ n. Deep (λ p d. At true room s 0 1 d (in_pattern p)) (e.fitting (target_before i.fuel assign.Assign x)) (e.fitting (target_before n assign.Assign x)) c) (both-same h.turns) (fitting i j room h (target_before i.fuel assign.Assign x) c a (before-above i.fuel assign.Assign x))) λ p d b. rest_of_of f _ d (finish b (laws.in-assigned _) (λ k. omega arith))
+  assigned_in_turn {s = s} f x c a = bind _ _ (subst (λ n. Deep (λ p d. At true room s 0 1 d (in_pattern p)) (e.fitting (target_before i.fuel assign.Assign x)) (e.fitting (target_before n assign.Assign x)) c) (both-same h.turns) (fitting i j room h (target_before i.fuel assign.Assign x) c a (before-recounted i.fuel assign.Assign x))) λ p d b. rest_of_of f _ d (finish b (laws.in-assigned _) (λ k. omega arith))
 
   for_expression : {s : Spot all} (f : Flags) (c : Spot all) → At true room s 0 1 c no_spans → Deep (λ y d. At true room s 0 0 d (in_header y)) (s6.for_expression i f) (s6.for_expression j f) c
   unfolding s6.for_expression
-  for_expression f c a = bind _ _ (h.sequence (without_in f) c (ready a)) λ x d b. let m = less (and a b) (λ k. omega arith) in either (is_left x.shape) _ _ _ _ d (looks _ _ _ _ _ d fault (next (a-word (codes "of")) _ _ _ _ m (λ t o k n. assigned_in_turn f _ o n) (first_expression f _ d m))) (first_expression f _ d m)
+  for_expression f c a = bind _ _ (h.sequence (without_in f) c (ready a)) λ x d b. let m = recount (and a b) (λ k. omega arith) in either (is_left x.shape) _ _ _ _ d (looks _ _ _ _ _ d fault (next (a-word (codes "of")) _ _ _ _ m (λ t o k n. assigned_in_turn f _ o n) (first_expression f _ d m))) (first_expression f _ d m)
 
   for_header : {s : Spot all} (f : Flags) (c : Spot all) → At true room s 0 1 c no_spans → Deep (λ y d. At true room s 0 0 d (in_header y)) (s6.for_header i f) (s6.for_header j f) c
   unfolding s6.for_header
@@ -185,7 +185,7 @@ module _ {all : List Filled} (i j : Inner) (room : ℕ) (h : Deeper all i j room
 
   returned : {s : Spot all} (f : Flags) (c : Spot all) → At true room s 0 0 c no_spans → Deep (λ x d. At true room s 0 0 d (in_some in_expression x)) (s6.returned i f) (s6.returned j f) c
   unfolding s6.returned
-  returned f c a = looks _ _ _ _ _ c (bind _ _ (sequence i j room h (with_in f) c (ready a)) λ x d b. took _ (less (and a b.0) (λ at. omega arith))) (took _ (less a (λ at. omega arith)))
+  returned f c a = looks _ _ _ _ _ c (bind _ _ (sequence i j room h (with_in f) c (ready a)) λ x d b. took _ (recount (and a b.0) (λ at. omega arith))) (took _ (recount a (λ at. omega arith)))
 
   return_statement : {s : Spot all} (f : Flags) (c : Spot all) → At true room s 0 0 c no_spans → Deep (StatementAt room s) (s6.return_statement i f (begin_of s.input.tokens)) (s6.return_statement j f (begin_of s.input.tokens)) c
   unfolding s6.return_statement
@@ -198,7 +198,7 @@ module _ {all : List Filled} (i j : Inner) (room : ℕ) (h : Deeper all i j room
   in_case_clause : (f : Flags) {n m : ℕ} (w : Both n m) (s : Spot all) → Ready room 1 s → Deep (λ xs c. At false room s 1 1 c (sum_of in_statement xs)) (s6.in_case i f n) (s6.in_case j f m) s
   unfolding s6.in_case
   in_case_clause f over s r = fault
-  in_case_clause f (turn {n = n} {m = m} w) s r = looks _ _ _ _ _ s (took _ (less (begin s r) (λ at. omega arith))) (bind _ _ (h.statement f Listed (λ u. omega arith) s r) λ x c a. bind _ _ (in_case_clause f w c (ready a)) λ xs d b. took _ (forget (less (and a b) (λ at. omega arith))))
+  in_case_clause f (turn {n = n} {m = m} w) s r = looks _ _ _ _ _ s (took _ (recount (begin s r) (λ at. omega arith))) (bind _ _ (h.statement f Listed (λ u. omega arith) s r) λ x c a. bind _ _ (in_case_clause f w c (ready a)) λ xs d b. took _ (forget (recount (and a b) (λ at. omega arith))))
 
   case_clause : {s : Spot all} (f : Flags) (at : ℕ) (c : Spot all) → At true room s 1 1 c no_spans → Deep (λ x d. At true room s 1 1 d (in_case x)) (s6.case_clause i f at) (s6.case_clause j f at) c
   unfolding s6.case_clause
@@ -211,9 +211,9 @@ module _ {all : List Filled} (i j : Inner) (room : ℕ) (h : Deeper all i j room
   cases : (f : Flags) (may : Bool) {n m : ℕ} (w : Both n m) (s : Spot all) → Ready room 1 s → Deep (λ xs c. At true room s 1 0 c (sum_of in_case xs)) (s6.cases i f may n) (s6.cases j f may m) s
   unfolding s6.cases
   cases f may over s r = fault
-  cases f may (turn {n = n} {m = m} w) s r = let a = begin s r in ends right-brace _ _ _ _ a (λ t c b. took _ (less b (λ at. omega arith)))
-      (next (a-word (codes "case")) _ _ _ _ a (λ t c k b. bind _ _ (case_clause f _ c b) λ x d m. bind _ _ (cases f may w d (ready m)) λ xs o p. took _ (less (and m p) (λ at. omega arith)))
-      (either may _ _ _ _ s (next (a-word (codes "default")) _ _ _ _ a (λ t c k b. bind _ _ (default_clause f _ c b) λ x d m. bind _ _ (cases f false w d (ready m)) λ xs o p. took _ (less (and m p) (λ at. omega arith))) (refused-holds s)) (refused-holds s)))
+  cases f may (turn {n = n} {m = m} w) s r = let a = begin s r in ends right-brace _ _ _ _ a (λ t c b. took _ (recount b (λ at. omega arith)))
+      (next (a-word (codes "case")) _ _ _ _ a (λ t c k b. bind _ _ (case_clause f _ c b) λ x d m. bind _ _ (cases f may w d (ready m)) λ xs o p. took _ (recount (and m p) (λ at. omega arith)))
+      (either may _ _ _ _ s (next (a-word (codes "default")) _ _ _ _ a (λ t c k b. bind _ _ (default_clause f _ c b) λ x d m. bind _ _ (cases f false w d (ready m)) λ xs o p. took _ (recount (and m p) (λ at. omega arith))) (refused-holds s)) (refused-holds s)))
 
   switch_statement : {s : Spot all} (f : Flags) (c : Spot all) → At true room s 0 0 c no_spans → Deep (StatementAt room s) (s6.switch_statement i f (begin_of s.input.tokens)) (s6.switch_statement j f (begin_of s.input.tokens)) c
   unfolding s6.switch_statement
@@ -223,7 +223,7 @@ module _ {all : List Filled} (i j : Inner) (room : ℕ) (h : Deeper all i j room
 
   catch_parameter : {s : Spot all} (f : Flags) (c : Spot all) → At true room s 0 1 c no_spans → Deep (λ x d. At true room s 0 0 d (in_pattern x)) (s6.catch_parameter i f) (s6.catch_parameter j f) c
   unfolding s6.catch_parameter
-  catch_parameter f c a = bind _ _ (h.target (with_in f) c (ready a)) λ x d b. bind _ _ (close right-parenthesis (and a b)) λ t m n. took _ (less n (λ at. omega arith))
+  catch_parameter f c a = bind _ _ (h.target (with_in f) c (ready a)) λ x d b. bind _ _ (close right-parenthesis (and a b)) λ t m n. took _ (recount n (λ at. omega arith))
 
   handler : (f : Flags) (s : Spot all) → Ready room 0 s → Deep (λ x c. At true room s 0 0 c (in_catch x)) (s6.handler i f) (s6.handler j f) s
   unfolding s6.handler
@@ -239,7 +239,7 @@ module _ {all : List Filled} (i j : Inner) (room : ℕ) (h : Deeper all i j room
 
   try_statement : {s : Spot all} (f : Flags) (c : Spot all) → At true room s 0 0 c no_spans → Deep (StatementAt room s) (s6.try_statement i f (begin_of s.input.tokens)) (s6.try_statement j f (begin_of s.input.tokens)) c
   unfolding s6.try_statement
-  try_statement f c a = bind _ _ (block i j room h f c (ready a)) λ b d m. let n = less (and a m.0) (λ at. omega arith) in looks _ _ _ _ _ d (bind _ _ (handler f d (ready n)) λ x o p. after_handler f b x o (and n p)) (only_finally f b d n)
+  try_statement f c a = bind _ _ (block i j room h f c (ready a)) λ b d m. let n = recount (and a m.0) (λ at. omega arith) in looks _ _ _ _ _ d (bind _ _ (handler f d (ready n)) λ x o p. after_handler f b x o (and n p)) (only_finally f b d n)
 
   debugger_statement : {s : Spot all} (c : Spot all) → At true room s 0 0 c no_spans → Deep (StatementAt room s) (s6.debugger_statement i (begin_of s.input.tokens)) (s6.debugger_statement j (begin_of s.input.tokens)) c
   unfolding s6.debugger_statement
@@ -256,7 +256,7 @@ module _ {all : List Filled} (i j : Inner) (room : ℕ) (h : Deeper all i j room
   labelled f n c a = bind _ _ (h.statement f Labelled (λ u. absurd (cc)) c (ready a)) λ x d b. took _ (finish (and a b) (laws.in-labelled _ _ _) (λ at. omega arith), within (laws.span-labelled _ _ _))
 
   label_or_end : {s : Spot all} (f : Flags) (n : Option Identifier) (x : Expression) (c : Spot all) → (is_some n ≡ true → (at : ℕ) → in_expression x at ≡ 0) → At true room s 0 0 c (in_expression x) → Deep (StatementAt room s) (s6.label_or_end i f (begin_of s.input.tokens) n x) (s6.label_or_end j f (begin_of s.input.tokens) n x) c
-  label_or_end f (Some n) x c none a = next colon _ _ _ _ a (λ t d k b. labelled f n d (less b (λ at. omega (arith, none refl at)))) (expression_end x c a)
+  label_or_end f (Some n) x c none a = next colon _ _ _ _ a (λ t d k b. labelled f n d (recount b (λ at. omega (arith, none refl at)))) (expression_end x c a)
   label_or_end f None x c none a = expression_end x c a
 
   expression_statement : (f : Flags) (s : Spot all) → Ready room 0 s → Deep (StatementAt room s) (s6.expression_statement i f (begin_of s.input.tokens)) (s6.expression_statement j f (begin_of s.input.tokens)) s

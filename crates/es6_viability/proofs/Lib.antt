@@ -21,8 +21,10 @@ pub mod DeepLevels
 pub mod DeepStatements
 pub mod DeepReaders
 pub mod DeepItems
+pub mod Texts
 pub mod DeepLaws
 pub mod ShallowLaws
+pub mod FewOpen
 pub mod Longer
 pub mod LongerExpressions
 pub mod LongerModules

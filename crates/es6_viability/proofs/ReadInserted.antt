@@ -46,7 +46,7 @@ rest_ a b c n h = omega arith
 one-up : (a b : ℕ) → a ≤ b → a ≤ suc b
 one-up a b h = omega arith
 
-ended-true : (fuel room : ℕ) (row : List Filled) (m : Module) (c : Input) → whole_module (readers true fuel room) (record { tokens = row; last = 0 }) ≡ Took m c → c.tokens ≡ []
+pub ended-true : (fuel room : ℕ) (row : List Filled) (m : Module) (c : Input) → whole_module (readers true fuel room) (record { tokens = row; last = 0 }) ≡ Took m c → c.tokens ≡ []
 ended-true fuel room row m c h = of_took {Q = λ m c. c.tokens ≡ []} {x = m} (subst (λ o. Holds (λ m c. c.tokens ≡ []) o) h (whole-ends (readers true fuel room) (record { tokens = row; last = 0 })))
 
 pub read-spelled : IsComplete → SpelledModulesAreRead

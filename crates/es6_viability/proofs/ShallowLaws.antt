@@ -1,25 +1,27 @@
--- At each token of an expression or a statement that is read, at most as many constructs are open in it as may be.
-use Rattle.std.proofs.Common.{◌≡◌, ◌∙◌, ℕ, suc, ◌+◌, ◌-◌, ◌≤◌, true, List, [], ◌∷◌, ◌++◌, length, map, ap, sym, refl, subst, arith}
+-- At each token of an expression, a statement or a module that is read, at most as many constructs are open in it as may be.
+use Rattle.std.proofs.Common.{◌≡◌, ◌∙◌, ℕ, suc, ◌+◌, ◌-◌, ◌<◌, ◌≤◌, true, List, [], ◌∷◌, ◌++◌, length, length-append, map, take, ap, sym, refl, subst, arith}
 use Rattle.std.proofs.lemmas.List.{map-append}
 use Rattle.es6_lexer.specs.declared.token.Token.{Token}
 use Rattle.es6_ast.specs.Depth.{begin_of_last, closes_group, expression_spans, open_groups, opens_group, statement_spans}
 use Rattle.es6_ast.specs.Tokens.{Filled, read}
 use Rattle.es6_reading.specs.Expressions.{sequence}
-use Rattle.es6_reading.specs.Modules.{readers}
+use Rattle.es6_reading.specs.Modules.{most_open, read_module, readers, whole_module}
 use Rattle.es6_reading.specs.Parser.{Input, Parser, Reading}
 use Rattle.es6_reading.specs.Statements.{statement}
 use Rattle.es6_reading.proofs.Posts.{Holds, of_took, weaken}
 use Rattle.es6_reading.proofs.Shallow.{opens_of, closes_of, Sorted, Walk, stay, step, Ready}
 use Rattle.es6_reading.proofs.ShallowItems.{shallow}
+use Rattle.es6_reading.proofs.ShallowModules.{depth}
 use Rattle.es6_reading.proofs.ShallowLevels as levels'
 use Rattle.es6_reading.proofs.ShallowStatements as statements'
 use Rattle.es6_reading.proofs.ShallowStatements.{StatementAt}
 use Rattle.es6_reading.proofs.SpanCounts.{around-is, in_expression, in_statement}
-use Rattle.es6_viability.specs.TooDeep.{IsShallowIn, open_in_expression, open_in_statement, ExpressionsAreShallow, StatementsAreShallow}
-use Rattle.es6_viability.proofs.DeepLaws.{begin-last, head-of, length-more, sorted, tail-of}
+use Rattle.es6_viability.specs.TooDeep.{IsShallowIn, open_in_expression, open_in_module, open_in_statement, ExpressionsAreShallow, StatementsAreShallow}
+use Rattle.es6_viability.proofs.Passed.{take-next}
+use Rattle.es6_viability.proofs.Texts.{begin-last, head-of, length-more, sorted, tail-of}
 
 module _ {room low high : ℕ} {D : ℕ → ℕ} where
-  bounded : {g n : ℕ} {ts vs : List Filled} → Walk room D low high g ts n vs → (front : List Token) (t : Token) (us : List Filled) → ts ≡ map read front ++ read t ∷ us → length vs ≤ length us → open_groups g (front ++ t ∷ []) + D t.span.begin ≤ room
+  pub bounded : {g n : ℕ} {ts vs : List Filled} → Walk room D low high g ts n vs → (front : List Token) (t : Token) (us : List Filled) → ts ≡ map read front ++ read t ∷ us → length vs ≤ length us → open_groups g (front ++ t ∷ []) + D t.span.begin ≤ room
   bounded (stay {ts = ts}) front t us e l = absurd (too-long (length us) (length ts) (length (map read front ++ read t ∷ us)) (ap length e) (length-more front (read t ∷ us)) l)
     where
       too-long : (a b c : ℕ) → b ≡ c → suc a ≤ c → b ≤ a → ⊥
@@ -67,3 +69,14 @@ expressions-are-shallow fuel room f = shallow-in (λ (x : Reading). open_in_expr
 pub statements-are-shallow : StatementsAreShallow
 statements-are-shallow fuel room f stand = shallow-in open_in_statement in_statement (λ x tokens. ap (λ n. open_groups 0 tokens + n) (around-is (statement_spans x) (begin_of_last tokens))) room (statement (readers true fuel room) f stand)
     (λ tokens w. weaken (statements'.statement (readers true fuel room) room (shallow true fuel room) f stand (begin-of tokens) (ready-of tokens room w)) (λ x c a. (0, c.last, 0, a.0.walk)))
+
+module-read : (fuel : ℕ) (tokens : List Filled) → read_module fuel tokens ≡ whole_module (readers true fuel most_open) (record { tokens = tokens; last = 0 })
+unfolding read_module
+module-read fuel tokens = refl
+
+-- of a module it is law of es6_reading, by the number of the token
+pub modules-are-shallow : (fuel : ℕ) → IsShallowIn most_open open_in_module (whole_module (readers true fuel most_open))
+modules-are-shallow fuel tokens a x after h front behind t e l =
+    let next : length front + 1 ≡ suc (length front) = omega arith in
+    let here : take (length front + 1) tokens ≡ front ++ t ∷ [] = ap (λ n. take n tokens) next ∙ ap (λ ts. take (suc (length front)) ts) e ∙ take-next front t behind in
+    subst (λ ts. open_in_module x ts ≤ most_open) here (depth fuel tokens x after a.placed (module-read fuel (map read tokens) ∙ h) (length front) (subst (λ ts. length front < length ts) (sym e) (omega (arith, length-append front (t ∷ behind)))))

@@ -1,5 +1,5 @@
 -- What a fault for depth means: more constructs are open at its token than may be.
-use Rattle.std.specs.Prelude.{◌≡◌, ℕ, ◌+◌, ◌<◌, ◌≤◌, true, List, [], ◌∷◌, ◌++◌, length, map, count_by}
+use Rattle.std.specs.Prelude.{◌≡◌, ℕ, suc, ◌+◌, ◌<◌, ◌≤◌, true, List, [], ◌∷◌, ◌++◌, length, map, count_by}
 use Rattle.es_text.specs.declared.Span.{Span}
 use Rattle.es6_lexer.specs.declared.token.Token.{Token}
 use Rattle.es6_lexer.specs.declared.token.TokenKind.TheVariants.{End}
@@ -7,16 +7,16 @@ use Rattle.es6_ast.specs.declared.module.Module.{Module}
 use Rattle.es6_ast.specs.declared.settings.Flags.{Flags}
 use Rattle.es6_ast.specs.declared.settings.Stand.{Stand}
 use Rattle.es6_ast.specs.declared.settings.Stand.TheVariants.{Listed}
-use Rattle.es6_ast.specs.declared.settings.Stop.TheVariants.{Depth}
+use Rattle.es6_ast.specs.declared.settings.Stop.TheVariants.{Depth, Endless}
 use Rattle.es6_ast.specs.declared.tree.Expression.{Expression}
 use Rattle.es6_ast.specs.declared.tree.Statement.{Statement}
-use Rattle.es6_ast.specs.Dead.{AreInOrder}
+use Rattle.es6_ast.specs.Dead.{AreInOrder, IsTooDeep}
 use Rattle.es6_ast.specs.Depth.{begin_of_last, expression_spans, is_around, open_constructs, open_groups, statement_spans}
 use Rattle.es6_ast.specs.Semicolons.{SpellsModule}
 use Rattle.es6_ast.specs.Tokens.{read}
 use Rattle.es6_reading.specs.Expressions.{sequence}
-use Rattle.es6_reading.specs.Modules.{readers, whole_module}
-use Rattle.es6_reading.specs.Parser.{Input, Parser, Reading, Took, Fault}
+use Rattle.es6_reading.specs.Modules.{read_module, readers, whole_module}
+use Rattle.es6_reading.specs.Parser.{Input, Outcome, Parser, Reading, Took, Fault}
 use Rattle.es6_reading.specs.Statements.{statement}
 use Rattle.es6_viability.specs.Fronts.{BeginWithExpression, BeginWithStatement}
 
@@ -72,3 +72,24 @@ ExpressionsAreShallow = (fuel room : ℕ) (f : Flags) → IsShallowIn room (λ (
 
 abbrev pub StatementsAreShallow : Type 0
 StatementsAreShallow = (fuel room : ℕ) (f : Flags) (stand : Stand) → IsShallowIn room open_in_statement (statement (readers true fuel room) f stand)
+
+-- A reader passes a token, behind which so many are left: it takes that one, and what it stops for behind it isn't want of turns.
+abbrev pub Passes : {A : Type 0} → ℕ → Outcome A → Type 0
+Passes behind (Took x after) = length after.tokens ≤ behind
+Passes behind (Fault stop rest) = (stop ≡ Endless → ⊥) × (length rest ≤ behind)
+
+-- At each token that a reader passes at most `room` constructs are open, in whatever tokens of a text spell that begin with those up
+-- to it.
+abbrev pub PassesWhereFewAreOpen : {A B : Type 0} → ℕ → (A → List Token → ℕ) → (List Token → A → Type 0) → Parser B → Type 0
+PassesWhereFewAreOpen {A = A} room count Spell p = (front behind : List Token) (t : Token) → Passes (length behind) (p (record { tokens = map read (front ++ t ∷ behind); last = 0 }))
+    → (others : List Token) → AreOfText (front ++ t ∷ others) → (x : A) → Spell (front ++ t ∷ others) x → count x (front ++ t ∷ []) ≤ room
+
+abbrev pub ExpressionsPassNoDeepToken : Type 0
+ExpressionsPassNoDeepToken = (fuel room : ℕ) (f : Flags) → PassesWhereFewAreOpen room open_in_expression (BeginWithExpression f) (sequence (readers true fuel room) f)
+
+abbrev pub StatementsPassNoDeepToken : Type 0
+StatementsPassNoDeepToken = (fuel room : ℕ) (f : Flags) → PassesWhereFewAreOpen room open_in_statement (BeginWithStatement f) (statement (readers true fuel room) f Listed)
+
+-- So no token that a reader of a module passes is too deep.
+abbrev pub NoDeepTokenIsPassed : Type 0
+NoDeepTokenIsPassed = (fuel : ℕ) (tokens : List Token) (p behind : ℕ) → p + suc behind ≡ length tokens → Passes behind (read_module fuel (map read tokens)) → IsTooDeep tokens p → ⊥

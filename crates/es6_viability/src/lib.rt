@@ -7,6 +7,7 @@ ghost use Rattle.es6_viability.specs.Alive.{TokensBeforeFaultsBeginExpressions, 
 ghost use Rattle.es6_viability.specs.Fronts.{NoExpressionGoesOn, NoStatementGoesOn, SpelledExpressionsAreRead, SpelledStatementsAreRead};
 ghost use Rattle.es6_viability.specs.Spelled.{FaultsAreDead, LexicalFaultsAreReported, NoneIsSpelledPastFaults, ReadModulesAreSpelled, SpelledModulesAreRead, SpelledModulesAreReadOrLimited};
 ghost use Rattle.es6_viability.specs.TooDeep.{ExpressionsAreShallow, ExpressionsAreTooDeep, ModulesAreTooDeep};
+ghost use Rattle.es6_viability.specs.TooDeep.{ExpressionsPassNoDeepToken, NoDeepTokenIsPassed, StatementsPassNoDeepToken};
 ghost use Rattle.es6_viability.specs.TooDeep.{StatementsAreShallow, StatementsAreTooDeep};
 
 /// Some module begins with the tokens that stand before a fault, unless that is for want of turns.
@@ -86,6 +87,22 @@ pub fn expressions_are_shallow()
 /// At each token of a statement or declaration that is read, no more constructs are open in it than may be.
 pub fn statements_are_shallow()
     ensures { StatementsAreShallow }
+{}
+
+/// At each token that a reader of expressions passes, no more constructs are open than may be, in whatever expression tokens of a text
+/// spell that begin with those up to it.
+pub fn expressions_pass_no_deep_token()
+    ensures { ExpressionsPassNoDeepToken }
+{}
+
+/// The same of a reader of a statement or declaration.
+pub fn statements_pass_no_deep_token()
+    ensures { StatementsPassNoDeepToken }
+{}
+
+/// No token that a reader of a module passes is too deep.
+pub fn no_deep_token_is_passed()
+    ensures { NoDeepTokenIsPassed }
 {}
 
 /// Some expression begins with the tokens that stand before a fault of a reader of expressions.
