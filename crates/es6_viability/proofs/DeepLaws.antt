@@ -1,20 +1,18 @@
 -- Where a reader stops for depth at a token, more constructs than may be open are open there, in whatever a reader reads of tokens that
 -- begin so of which more may be open.
-use Rattle.std.proofs.Common.{◌≡◌, ◌∙◌, ℕ, zero, suc, ◌+◌, ◌-◌, ◌<◌, ◌≤◌, true, false, List, [], ◌∷◌, ◌++◌, length, map, ap, sym, refl, subst, arith}
-use Rattle.std.proofs.lemmas.Bool.{true≢false, false≢true}
+use Rattle.std.proofs.Common.{◌≡◌, ◌∙◌, ℕ, zero, suc, ◌+◌, ◌<◌, true, false, List, [], ◌∷◌, ◌++◌, map, ap, sym, refl, subst, arith}
+use Rattle.std.proofs.lemmas.Bool.{false≢true}
 use Rattle.std.proofs.lemmas.List.{append_cancel_right, map-append}
 use Rattle.es6_lexer.specs.declared.token.Token.{Token}
-use Rattle.es6_lexer.specs.declared.token.TokenKind.TheVariants.{End}
 use Rattle.es6_ast.specs.declared.module.Item.{Item}
 use Rattle.es6_ast.specs.declared.settings.Flags.{Flags}
 use Rattle.es6_ast.specs.declared.settings.Stand.{Stand}
 use Rattle.es6_ast.specs.declared.settings.Stop.{Stop}
 use Rattle.es6_ast.specs.declared.settings.Stop.TheVariants.{Depth}
-use Rattle.es6_ast.specs.Dead.{AreInOrder}
-use Rattle.es6_ast.specs.Depth.{begin_of_last, closes_group, expression_spans, item_spans, joined, module_spans, open_groups, opens_group, statement_spans}
-use Rattle.es6_ast.specs.Tokens.{Filled, Read, read}
+use Rattle.es6_ast.specs.Depth.{begin_of_last, expression_spans, item_spans, joined, module_spans, open_groups, opens_group, statement_spans}
+use Rattle.es6_ast.specs.Tokens.{Filled, read}
 use Rattle.es6_reading.specs.Expressions.{sequence}
-use Rattle.es6_reading.specs.Modules.{is_end, is_end_kind, readers, whole_module}
+use Rattle.es6_reading.specs.Modules.{readers, whole_module}
 use Rattle.es6_reading.specs.Parser.{Input, Outcome, Took, Fault, Parser, Reading, Inner}
 use Rattle.es6_reading.specs.Statements.{statement}
 use Rattle.es6_reading.proofs.Follows.{plus, SameHead, same}
@@ -22,13 +20,12 @@ use Rattle.es6_reading.proofs.LocalExpressions as x'
 use Rattle.es6_reading.proofs.LocalModules as m'
 use Rattle.es6_reading.proofs.LocalReaders.{gain, grown}
 use Rattle.es6_reading.proofs.Locality.{Local, LocalOf, took_so, stops_so, too_deep, too_long, not_inserted, same_mode}
-use Rattle.es6_reading.proofs.Ordered.{Behind}
-use Rattle.es6_reading.proofs.Shallow.{opens_of, closes_of, Sorted}
+use Rattle.es6_reading.proofs.Shallow.{opens_of, Sorted}
 use Rattle.es6_reading.proofs.ShallowItems.{in_item}
 use Rattle.es6_reading.proofs.SpanCounts.{around, around-append, around-is, sum_of, in_expression, in_statement}
 use Rattle.es6_viability.specs.TooDeep.{AreOfText, open_in_expression, open_in_module, open_in_statement}
 use Rattle.es6_viability.proofs.BesideStatements.{no-slack}
-use Rattle.es6_viability.proofs.Deep.{Stands, start, further, Limit, Mode, still, gone, Spot, Claim, Bound, At, Ready, held, stops, Runs, alike, went, alone}
+use Rattle.es6_viability.proofs.Deep.{start, Limit, Mode, still, gone, Spot, Claim, Bound, At, Ready, held, stops, Runs, alike, went, alone}
 use Rattle.es6_viability.proofs.DeepExpressions as expressions'
 use Rattle.es6_viability.proofs.DeepItems as items'
 use Rattle.es6_viability.proofs.DeepLevels as levels'

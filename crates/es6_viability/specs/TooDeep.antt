@@ -78,11 +78,13 @@ abbrev pub Passes : {A : Type 0} → ℕ → Outcome A → Type 0
 Passes behind (Took x after) = length after.tokens ≤ behind
 Passes behind (Fault stop rest) = (stop ≡ Endless → ⊥) × (length rest ≤ behind)
 
--- At each token that a reader passes at most `room` constructs are open, in whatever tokens of a text spell that begin with those up
--- to it.
+-- At most `room` constructs are open at the token behind the front, in whatever tokens of a text spell that begin with those up to it.
+abbrev pub FewAreOpen : {A : Type 0} → ℕ → (A → List Token → ℕ) → (List Token → A → Type 0) → List Token → Token → Type 0
+FewAreOpen {A = A} room count Spell front t = (others : List Token) → AreOfText (front ++ t ∷ others) → (x : A) → Spell (front ++ t ∷ others) x → count x (front ++ t ∷ []) ≤ room
+
+-- So it is at each token that a reader passes.
 abbrev pub PassesWhereFewAreOpen : {A B : Type 0} → ℕ → (A → List Token → ℕ) → (List Token → A → Type 0) → Parser B → Type 0
-PassesWhereFewAreOpen {A = A} room count Spell p = (front behind : List Token) (t : Token) → Passes (length behind) (p (record { tokens = map read (front ++ t ∷ behind); last = 0 }))
-    → (others : List Token) → AreOfText (front ++ t ∷ others) → (x : A) → Spell (front ++ t ∷ others) x → count x (front ++ t ∷ []) ≤ room
+PassesWhereFewAreOpen room count Spell p = (front behind : List Token) (t : Token) → Passes (length behind) (p (record { tokens = map read (front ++ t ∷ behind); last = 0 })) → FewAreOpen room count Spell front t
 
 abbrev pub ExpressionsPassNoDeepToken : Type 0
 ExpressionsPassNoDeepToken = (fuel room : ℕ) (f : Flags) → PassesWhereFewAreOpen room open_in_expression (BeginWithExpression f) (sequence (readers true fuel room) f)
