@@ -30,6 +30,7 @@ pub mod LongerExpressions
 pub mod LongerModules
 pub mod LongerReaders
 pub mod TooDeep
+pub mod NoStop
 pub mod SpelledAlone
 pub mod AliveAlone
 pub mod DeadAlone

@@ -1,5 +1,5 @@
 -- What a fault for depth means: more constructs are open at its token than may be.
-use Rattle.std.specs.Prelude.{◌≡◌, ℕ, suc, ◌+◌, ◌<◌, ◌≤◌, true, List, [], ◌∷◌, ◌++◌, length, map, count_by}
+use Rattle.std.specs.Prelude.{◌≡◌, ℕ, suc, ◌+◌, ◌<◌, ◌≤◌, ◌⊎◌, true, List, [], ◌∷◌, ◌++◌, length, map, count_by}
 use Rattle.es_text.specs.declared.Span.{Span}
 use Rattle.es6_lexer.specs.declared.token.Token.{Token}
 use Rattle.es6_lexer.specs.declared.token.TokenKind.TheVariants.{End}
@@ -7,13 +7,14 @@ use Rattle.es6_ast.specs.declared.module.Module.{Module}
 use Rattle.es6_ast.specs.declared.settings.Flags.{Flags}
 use Rattle.es6_ast.specs.declared.settings.Stand.{Stand}
 use Rattle.es6_ast.specs.declared.settings.Stand.TheVariants.{Listed}
+use Rattle.es6_ast.specs.declared.settings.Stop.{Stop}
 use Rattle.es6_ast.specs.declared.settings.Stop.TheVariants.{Depth, Endless}
 use Rattle.es6_ast.specs.declared.tree.Expression.{Expression}
 use Rattle.es6_ast.specs.declared.tree.Statement.{Statement}
-use Rattle.es6_ast.specs.Dead.{AreInOrder, IsTooDeep}
+use Rattle.es6_ast.specs.Dead.{AreInOrder, IsDead, IsTooDeep}
 use Rattle.es6_ast.specs.Depth.{begin_of_last, expression_spans, is_around, open_constructs, open_groups, statement_spans}
 use Rattle.es6_ast.specs.Semicolons.{SpellsModule}
-use Rattle.es6_ast.specs.Tokens.{read}
+use Rattle.es6_ast.specs.Tokens.{Filled, read}
 use Rattle.es6_reading.specs.Expressions.{sequence}
 use Rattle.es6_reading.specs.Modules.{read_module, readers, whole_module}
 use Rattle.es6_reading.specs.Parser.{Input, Outcome, Parser, Reading, Took, Fault}
@@ -95,3 +96,11 @@ StatementsPassNoDeepToken = (fuel room : ℕ) (f : Flags) → PassesWhereFewAreO
 -- So no token that a reader of a module passes is too deep.
 abbrev pub NoDeepTokenIsPassed : Type 0
 NoDeepTokenIsPassed = (fuel : ℕ) (tokens : List Token) (p behind : ℕ) → p + suc behind ≡ length tokens → Passes behind (read_module fuel (map read tokens)) → IsTooDeep tokens p → ⊥
+
+-- So no token before a fault, but one for want of turns, is one at which a reader is to stop, dead or too deep, and none of a module that
+-- is read.
+abbrev pub NoStopIsPassed : Type 0
+NoStopIsPassed = (fuel : ℕ) (tokens : List Token) (stop : Stop) (rest : List Filled) → read_module fuel (map read tokens) ≡ Fault stop rest → (stop ≡ Endless → ⊥) → (p : ℕ) → p + length rest < length tokens → (IsDead tokens p ⊎ IsTooDeep tokens p) → ⊥
+
+abbrev pub ReadModulesHaveNoStop : Type 0
+ReadModulesHaveNoStop = (fuel : ℕ) (tokens : List Token) (m : Module) (after : Input) → read_module fuel (map read tokens) ≡ Took m after → (p : ℕ) → p < length tokens → (IsDead tokens p ⊎ IsTooDeep tokens p) → ⊥

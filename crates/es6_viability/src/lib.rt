@@ -8,6 +8,7 @@ ghost use Rattle.es6_viability.specs.Fronts.{NoExpressionGoesOn, NoStatementGoes
 ghost use Rattle.es6_viability.specs.Spelled.{FaultsAreDead, LexicalFaultsAreReported, NoneIsSpelledPastFaults, ReadModulesAreSpelled, SpelledModulesAreRead, SpelledModulesAreReadOrLimited};
 ghost use Rattle.es6_viability.specs.TooDeep.{ExpressionsAreShallow, ExpressionsAreTooDeep, ModulesAreTooDeep};
 ghost use Rattle.es6_viability.specs.TooDeep.{ExpressionsPassNoDeepToken, NoDeepTokenIsPassed, StatementsPassNoDeepToken};
+ghost use Rattle.es6_viability.specs.TooDeep.{NoStopIsPassed, ReadModulesHaveNoStop};
 ghost use Rattle.es6_viability.specs.TooDeep.{StatementsAreShallow, StatementsAreTooDeep};
 
 /// Some module begins with the tokens that stand before a fault, unless that is for want of turns.
@@ -103,6 +104,16 @@ pub fn statements_pass_no_deep_token()
 /// No token that a reader of a module passes is too deep.
 pub fn no_deep_token_is_passed()
     ensures { NoDeepTokenIsPassed }
+{}
+
+/// A reader of a module stops no later than at the first token that is dead or too deep.
+pub fn no_stop_is_passed()
+    ensures { NoStopIsPassed }
+{}
+
+/// No token of a module that is read is dead or too deep.
+pub fn read_modules_have_no_stop()
+    ensures { ReadModulesHaveNoStop }
 {}
 
 /// Some expression begins with the tokens that stand before a fault of a reader of expressions.
