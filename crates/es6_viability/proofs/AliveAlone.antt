@@ -1,4 +1,4 @@
--- Some expression, or some statement or declaration, begins with the tokens before a fault.
+-- Some expression, or some statement or declaration, begins with the tokens before a fault, and with the token at which one stands for depth.
 use Rattle.std.specs.Prelude.{codes}
 use Rattle.std.proofs.Common.{◌≡◌, ◌∙◌, ℕ, suc, true, false, List, [], ◌∷◌, ◌++◌, map, refl, sym, ap, subst, append_assoc}
 use Rattle.std.proofs.lemmas.List.{append_cancel_right, map-append}
@@ -9,7 +9,7 @@ use Rattle.es6_lexer.specs.declared.token.Punctuator.TheVariants as marks
 use Rattle.es6_ast.specs.declared.tree.Statement.{Statement}
 use Rattle.es6_ast.specs.declared.settings.Stand.TheVariants.{Listed}
 use Rattle.es6_ast.specs.declared.settings.Stop.{Stop}
-use Rattle.es6_ast.specs.declared.settings.Stop.TheVariants.{Endless}
+use Rattle.es6_ast.specs.declared.settings.Stop.TheVariants.{Depth, Endless}
 use Rattle.es6_ast.specs.Grammar.{level_sequence}
 use Rattle.es6_ast.specs.Semicolons.{SpellsExpression, SpellsStatement}
 use Rattle.es6_ast.specs.Tokens.{Filled, Read, read}
@@ -20,13 +20,13 @@ use Rattle.es6_reading.specs.Statements.{statement}
 use Rattle.es6_reading.proofs.Follows.{plus}
 use Rattle.es6_reading.specs.Laws.{BeginWith}
 use Rattle.es6_reading_laws.specs.Fronts.{EndsThere, parenthesis as ended}
-use Rattle.es6_viability.specs.Alive.{IsBegun, TokensBeforeFaultsBeginExpressions, TokensBeforeFaultsBeginStatements}
+use Rattle.es6_viability.specs.Alive.{DepthFaultsBeginExpressions, DepthFaultsBeginStatements, IsBegun, TokensBeforeFaultsBeginExpressions, TokensBeforeFaultsBeginStatements}
 use Rattle.es6_viability.proofs.Completions.{Closer, parenthesis, Behind, behind_end}
 use Rattle.es6_viability.proofs.Expressions as expressions'
-use Rattle.es6_viability.proofs.Readers.{better, lasting}
+use Rattle.es6_viability.proofs.Readers.{better, deepest, deepest-completed, lasting}
 use Rattle.es6_viability.proofs.SpelledAlone.{Spelled, expression-spelled, statement-spelled}
 use Rattle.es6_viability.proofs.Statements as statements'
-use Rattle.es6_viability.proofs.Viable.{fill, fills, left, Any, Fresh, Half, stands, some, gives_up}
+use Rattle.es6_viability.proofs.Viable.{fill, fills, left, Any, Stays, Ends as Completed, Fresh, Half, stands, some, beyond, gives_up}
 
 -- a token that is put in
 abbrev token_of : TokenKind → Token
@@ -56,32 +56,57 @@ read-same t u e =
 head-of : {t u : Filled} {ts us : List Filled} → t ∷ ts ≡ u ∷ us → t ≡ u
 head-of e = cc
 
+nothing-there : {t : Filled} {ts : List Filled} → t ∷ ts ≡ [] → ⊥
+nothing-there e = absurd (cc)
+
+fault-rest : {A : Type 0} {stop other : Stop} {us vs : List Filled} → ◌≡◌ {A = Outcome A} (Fault stop us) (Fault other vs) → us ≡ vs
+fault-rest e = cc
+
 -- one token is left
 last-left : (rest : List Token) (k : TokenKind) → fill k ∷ [] ≡ map read rest → rest ≡ token_of k ∷ []
 last-left [] k e = absurd (cc)
 last-left (t ∷ []) k e = ap (λ u. u ∷ []) (read-same t (token_of k) (sym (head-of e)))
 last-left (t ∷ u ∷ rest) k e = absurd (cc)
 
-module _ {A : Type 0} (Spells : A → List Token → List Token → Type 0) (k : TokenKind) (run : List Filled → Outcome A) (spelled : (tokens : List Token) (x : A) (last : ℕ) → run (map read tokens) ≡ Took x (record { tokens = fill k ∷ []; last = last }) → Spelled (Spells x) tokens (fill k ∷ [])) (F : A → List Filled → Type 0) (ends : (x : A) → F x (fill k ∷ [])) (front behind : List Token) where
-  alive-with : (more : List TokenKind) (x : A) (last : ℕ) → run (map read front ++ (fills more ++ fill k ∷ [])) ≡ Took x (record { tokens = fill k ∷ []; last = last }) → IsBegun Spells front
-  alive-with more x last r =
+module _ {A : Type 0} (Spells : A → List Token → List Token → Type 0) (k : TokenKind) (run : List Filled → Outcome A) (spelled : (tokens : List Token) (x : A) (last : ℕ) → run (map read tokens) ≡ Took x (record { tokens = fill k ∷ []; last = last }) → Spelled (Spells x) tokens (fill k ∷ [])) (F : A → List Filled → Type 0) (ends : (x : A) → F x (fill k ∷ [])) where
+  alive-with : (front : List Token) (more : List TokenKind) (x : A) (last : ℕ) → run (map read front ++ (fills more ++ fill k ∷ [])) ≡ Took x (record { tokens = fill k ∷ []; last = last }) → IsBegun Spells front
+  alive-with front more x last r =
       let tokens : List Token = (front ++ map token_of more) ++ token_of k ∷ [] in
       let s = spelled tokens x last (ap run (sym (row-of front more k)) ∙ r) in
       record { more = map token_of more; rest = token_of k ∷ []; value = x; spelled = subst (λ ts. Spells x ts (token_of k ∷ [])) (append_assoc front (map token_of more) (token_of k ∷ [])) (subst (λ ts. Spells x tokens ts) (last-left s.rest k s.left_) s.spelled) }
 
-  alive-by : {fuel : ℕ} {S : List Filled → Type 0} (stop : Stop) {o : Outcome A} → (stop ≡ Endless → ⊥) → o ≡ Fault stop (map read behind) → Half (lasting true fuel) F Any run (map read (front ++ behind)) o → Fresh F Any S run → IsBegun Spells front
-  alive-by stop {o = o} final h (stands e t) f = alive-with f.more f.value f.last (ap (λ us. run (us ++ (fills f.more ++ fill k ∷ []))) none ∙ f.reads (fill k ∷ []) (ends f.value))
+  alive-beyond : (front behind : List Token) (t : Token) (taken : List Filled) {u : Filled} {us : List Filled} → map read (front ++ t ∷ behind) ≡ taken ++ u ∷ us → u ∷ us ≡ map read (t ∷ behind) → Completed F Any run (taken ++ u ∷ []) → IsBegun Spells (front ++ t ∷ [])
+  alive-beyond front behind t taken {u = u} e h more =
+      let same-front : map read front ≡ taken = append_cancel_right (map read front) taken (map read (t ∷ behind)) (sym (map-append read front (t ∷ behind)) ∙ e ∙ ap (λ vs. taken ++ vs) h) in
+      let row : map read (front ++ t ∷ []) ≡ taken ++ u ∷ [] = map-append read front (t ∷ []) ∙ ap (λ vs. vs ++ read t ∷ []) same-front ∙ ap (λ v. taken ++ v ∷ []) (sym (head-of h)) in
+      alive-with (front ++ t ∷ []) more.more more.value more.last (ap (λ vs. run (vs ++ (fills more.more ++ fill k ∷ []))) row ∙ more.reads (fill k ∷ []) (ends more.value))
+
+  alive-seen : (front behind : List Token) (taken : List Filled) {u : Filled} {us : List Filled} → map read (front ++ behind) ≡ taken ++ u ∷ us → u ∷ us ≡ map read behind → Completed F Any run (taken ++ u ∷ []) → IsBegun Spells front
+  alive-seen front [] taken e h more = absurd (nothing-there h)
+  alive-seen front (t ∷ behind) taken e h more =
+      let b = alive-beyond front behind t taken e h more in
+      record { more = t ∷ b.more; rest = b.rest; value = b.value; spelled = subst (λ ts. Spells b.value ts b.rest) (append_assoc front (t ∷ []) (b.more ++ b.rest)) b.spelled }
+
+  alive-by : {fuel : ℕ} {S : List Filled → Type 0} (front behind : List Token) (stop : Stop) {o : Outcome A} → (stop ≡ Endless → ⊥) → o ≡ Fault stop (map read behind) → Half (lasting true fuel) F Any run (map read (front ++ behind)) o → Fresh F Any S run → IsBegun Spells front
+  alive-by front behind stop {o = o} final h (stands e t) f = alive-with front f.more f.value f.last (ap (λ us. run (us ++ (fills f.more ++ fill k ∷ []))) none ∙ f.reads (fill k ∷ []) (ends f.value))
     where
       none : map read front ≡ []
       none = append_cancel_right (map read front) [] (map read behind) (sym (map-append read front behind) ∙ e ∙ ap left h)
-  alive-by stop {o = o} final h (some t before e l n) f = alive-with n.more n.value n.last (ap (λ us. run (us ++ (fills n.more ++ fill k ∷ []))) whole ∙ n.reads (fill k ∷ []) (ends n.value))
+  alive-by front behind stop {o = o} final h (some t before e l n) f = alive-with front n.more n.value n.last (ap (λ us. run (us ++ (fills n.more ++ fill k ∷ []))) whole ∙ n.reads (fill k ∷ []) (ends n.value))
     where
       whole : map read front ≡ t ∷ before
       whole = append_cancel_right (map read front) (t ∷ before) (map read behind) (sym (map-append read front behind) ∙ e ∙ ap (λ us. (t ∷ before) ++ us) (ap left h))
-  alive-by stop final h (gives_up a) f = absurd (final (stop-of h))
+  alive-by front behind stop final h (beyond taken e more) f = alive-seen front behind taken e (fault-rest h) more
+  alive-by front behind stop final h (gives_up a) f = absurd (final (stop-of h))
     where
       stop-of : {us vs : List Filled} → ◌≡◌ {A = Outcome A} (Fault Endless us) (Fault stop vs) → stop ≡ Endless
       stop-of e = cc
+
+  alive-deep : {fuel : ℕ} (front behind : List Token) (t : Token) {o : Outcome A} → o ≡ Fault Depth (map read (t ∷ behind)) → Half (deepest true fuel) F Any run (map read (front ++ t ∷ behind)) o → IsBegun Spells (front ++ t ∷ [])
+  alive-deep {fuel = fuel} front behind t h (stands e l) = absurd (subst (λ o. Stays (deepest true fuel) run [] o) h l refl)
+  alive-deep {fuel = fuel} front behind t h (some u before e l more) = absurd (subst (λ o. Stays (deepest true fuel) run (u ∷ before) o) h l refl)
+  alive-deep front behind t h (beyond taken e more) = alive-beyond front behind t taken e (fault-rest h) more
+  alive-deep front behind t h (gives_up a) = absurd (cc)
 
 -- one token ends what is spelled before it
 abbrev Ends : {A : Type 0} → (A → List Token → List Token → Type 0) → (List Filled → Type 0) → A → List Token → List Token → Type 0
@@ -107,3 +132,18 @@ statements-begin fuel room f front behind stop h final =
     alive-by (Ends (λ (x : Statement) tokens rest. SpellsStatement f tokens x rest) (λ us. BeginWith (Read (kinds.Word (codes "finally"))) us → ⊥)) kinds.End (λ us. statement (readers true (suc fuel) (plus room 3)) f Listed (record { tokens = us; last = 0 }))
     (λ tokens x last e. with-end (λ (y : Statement) ts rest. SpellsStatement f ts y rest) (λ us. BeginWith (Read (kinds.Word (codes "finally"))) us → ⊥) x no-finally (statement-spelled (suc fuel) (plus room 3) f tokens x (record { tokens = fill kinds.End ∷ []; last = last }) e))
     (λ x us. Behind us) (λ x. behind_end) front behind stop final h g.half g.fresh
+
+pub depth-begins-expressions : DepthFaultsBeginExpressions
+depth-begins-expressions fuel room f front behind t h =
+    let g = expressions'.sequence (readers true fuel room) (readers true (suc (suc (suc fuel))) (plus room 6)) (deepest-completed true fuel room) f (record { tokens = map read (front ++ t ∷ behind); last = 0 }) in
+    let b = alive-deep (Ends (λ (x : Reading) tokens rest. SpellsExpression f level_sequence tokens x.value rest) EndsThere) (kinds.Punctuator marks.RightParenthesis) (λ us. sequence (readers true (suc (suc (suc fuel))) (plus room 6)) f (record { tokens = us; last = 0 }))
+    (λ tokens x last e. with-end (λ (y : Reading) ts rest. SpellsExpression f level_sequence ts y.value rest) EndsThere x (ended refl) (expression-spelled (suc (suc (suc fuel))) (plus room 6) f tokens x (record { tokens = fill (kinds.Punctuator marks.RightParenthesis) ∷ []; last = last }) e))
+    (λ x us. Closer false us) (λ x. parenthesis) front behind t h g.half in
+    record { more = b.more; rest = b.rest; value = b.value.value; spelled = b.spelled }
+
+pub depth-begins-statements : DepthFaultsBeginStatements
+depth-begins-statements fuel room f front behind t h =
+    let g = statements'.statement (readers true fuel room) (readers true (suc (suc (suc fuel))) (plus room 6)) (deepest-completed true fuel room) f Listed (record { tokens = map read (front ++ t ∷ behind); last = 0 }) in
+    alive-deep (Ends (λ (x : Statement) tokens rest. SpellsStatement f tokens x rest) (λ us. BeginWith (Read (kinds.Word (codes "finally"))) us → ⊥)) kinds.End (λ us. statement (readers true (suc (suc (suc fuel))) (plus room 6)) f Listed (record { tokens = us; last = 0 }))
+    (λ tokens x last e. with-end (λ (y : Statement) ts rest. SpellsStatement f ts y rest) (λ us. BeginWith (Read (kinds.Word (codes "finally"))) us → ⊥) x no-finally (statement-spelled (suc (suc (suc fuel))) (plus room 6) f tokens x (record { tokens = fill kinds.End ∷ []; last = last }) e))
+    (λ x us. Behind us) (λ x. behind_end) front behind t h g.half

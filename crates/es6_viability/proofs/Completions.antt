@@ -1,6 +1,7 @@
 -- What completes constructs, and what may follow what is completed.
 use Rattle.std.specs.Prelude.{codes, is_some, not}
-use Rattle.std.proofs.Common.{◌≡◌, ℕ, suc, ◌≤◌, Bool, true, false, List, [], ◌∷◌, Some, None, refl}
+use Rattle.std.proofs.Common.{◌≡◌, ◌∙◌, ◌⊎◌, inl, inr, ℕ, suc, ◌≤◌, Bool, true, false, List, [], ◌∷◌, Some, None, refl, sym}
+use Rattle.std.proofs.lemmas.Bool.{false≢true}
 use Rattle.es_outside.specs.HostNames.{reserved_words}
 use Rattle.es6_lexer.specs.declared.token.TokenKind.{TokenKind}
 use Rattle.es6_lexer.specs.declared.token.TokenKind.TheVariants.{Word, Punctuator, Template, End}
@@ -15,14 +16,14 @@ use Rattle.es6_ast.specs.declared.tree.Parameter.{Parameter}
 use Rattle.es6_ast.specs.declared.tree.Part.{Part}
 use Rattle.es6_ast.specs.Settings.{is_leading}
 use Rattle.es6_ast.specs.Tokens.{Filled, begin_of}
-use Rattle.es6_reading.specs.Parser.{Input, next_is, mark, word, next_mark, Reading, Inner}
+use Rattle.es6_reading.specs.Parser.{Input, Outcome, next_is, mark, word, next_mark, Reading, Inner}
 use Rattle.es6_reading.specs.Refine.{Fits, refine_parameters}
 use Rattle.es6_reading.specs.Words.{free_name, stretch_at, after_at, assign_at, assign_operators, binary_at, binary_operators, is_arrow, unary_at, unary_operators}
 use Rattle.es6_reading.specs.Expressions.{star_at, ends_yield}
 use Rattle.es6_reading.proofs.Derived.{Sound}
 use Rattle.es6_reading.proofs.Locality.{Turns}
 use Rattle.es6_reading.proofs.Posts.{Misses}
-use Rattle.es6_viability.proofs.Viable.{fill, Head, head, Any, Viable, Limit}
+use Rattle.es6_viability.proofs.Viable.{fill, Goes, Head, head, Any, Partly, Viable, Limit, goes-within}
 
 -- a name
 abbrev pub x_ : TokenKind
@@ -124,6 +125,18 @@ HasDefault q = is_some q.default ≡ true
 
 -- ## Readers of what stands one construct deeper
 
+-- the limit of what stands in a group, which a reader doesn't come to that may open none
+abbrev pub inside : Limit → Bool → Limit
+inside lim b = record { allows = lim.allows; grows = lim.grows; shallow = lim.shallow ⊎ (b ≡ false) }
+
+pub opened : (A : Type 0) (b : Bool) → b ≡ true → A ⊎ (b ≡ false) → A
+opened A b e (inl a) = a
+opened A b e (inr n) = absurd (false≢true (sym n ∙ e))
+
+-- what is read anywhere is read in a group
+pub into : {A : Type 0} {F : A → List Filled → Type 0} {P : A → Type 0} {S : List Filled → Type 0} {run : List Filled → Outcome A} {ts : List Filled} {o : Outcome A} {lim : Limit} {b : Bool} → Goes lim F P S run ts o → Goes (inside lim b) F P S run ts o
+into g = goes-within (λ n a. a) inl g
+
 pub record Better (lim : Limit) (l : ℕ) (i j : Inner) : Type 0 where
   pub sound : i.inserting ≡ false → Sound i
   -- a reader gives up only what has more tokens than loops have turns
@@ -137,13 +150,13 @@ pub record Better (lim : Limit) (l : ℕ) (i j : Inner) : Type 0 where
   pub unary : (f : Flags) (s : Input) → Viable lim (λ y us. After us) Any (λ us. Head x_ us) (i.unary f) (j.unary f) s
   pub callee : (f : Flags) (s : Input) → Viable lim (λ y us. After us) Any (λ us. Head x_ us) (i.callee f) (j.callee f) s
   pub heritage : (f : Flags) (s : Input) → Viable lim (λ y us. After us) Any (λ us. Head x_ us) (i.heritage f) (j.heritage f) s
-  pub block : (f : Flags) (s : Input) → Viable lim Free Any (λ us. Head (Punctuator marks.LeftBrace) us) (i.block f) (j.block f) s
-  pub property : (f : Flags) (s : Input) → Viable lim (λ y us. Head (Punctuator marks.RightBrace) us) Any (λ us. Head x_ us) (i.property f) (j.property f) s
-  pub target : (f : Flags) (s : Input) → Viable lim Free Any (λ us. Head x_ us) (i.target f) (j.target f) s
-  pub part : (f : Flags) (s : Input) → Viable lim (λ y us. Closer false us) Any (λ us. Head x_ us) (i.part f) (j.part f) s
-  pub object_part : (f : Flags) (s : Input) → Viable lim (λ y us. Head (Punctuator marks.RightBrace) us) Any (λ us. Head x_ us) (i.object_part f) (j.object_part f) s
-  pub variable : (f : Flags) (s : Input) → Viable lim (λ y us. Closer false us) HasDefault (λ us. Head x_ us) (i.variable f) (j.variable f) s
-  pub member : (f : Flags) (s : Input) → Viable lim Free Any (λ us. Head x_ us) (i.member f) (j.member f) s
+  pub block : (f : Flags) (s : Input) → next_is (next_mark marks.LeftBrace) s.tokens ≡ true → Partly lim Free Any (i.block f) (j.block f) s
+  pub property : (f : Flags) (s : Input) → Viable (inside lim i.may_open) (λ y us. Head (Punctuator marks.RightBrace) us) Any (λ us. Head x_ us) (i.property f) (j.property f) s
+  pub target : (f : Flags) (s : Input) → Viable (inside lim i.may_open) Free Any (λ us. Head x_ us) (i.target f) (j.target f) s
+  pub part : (f : Flags) (s : Input) → Viable (inside lim i.may_open) (λ y us. Closer false us) Any (λ us. Head x_ us) (i.part f) (j.part f) s
+  pub object_part : (f : Flags) (s : Input) → Viable (inside lim i.may_open) (λ y us. Head (Punctuator marks.RightBrace) us) Any (λ us. Head x_ us) (i.object_part f) (j.object_part f) s
+  pub variable : (f : Flags) (s : Input) → Viable (inside lim i.may_open) (λ y us. Closer false us) HasDefault (λ us. Head x_ us) (i.variable f) (j.variable f) s
+  pub member : (f : Flags) (s : Input) → Viable (inside lim i.may_open) Free Any (λ us. Head x_ us) (i.member f) (j.member f) s
   pub statement : (f : Flags) (stand : Stand) (s : Input) → Viable lim (λ y us. Behind us) Any (λ us. Head (Punctuator marks.Semicolon) us) (i.statement f stand) (j.statement f stand) s
 
 -- ## Tests of what follows

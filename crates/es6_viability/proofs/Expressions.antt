@@ -42,11 +42,11 @@ use Rattle.es6_reading.proofs.Derived.{Sound}
 use Rattle.es6_reading.proofs.Locality.{Turns, over, turn, Deeper, as_before, nested_less, deeper}
 use Rattle.es6_reading.proofs.Posts.{Holds, took, fault, of_took, on-holds, if-holds, any as any-holds, bind as holds-bind}
 use Rattle.es6_reading.proofs.RefineMore.{kept-before, kept-parameters-of, kept-parameters-before}
-use Rattle.es6_viability.proofs.Viable.{Limit, half-within, goes-within, bind-by, allowed-before, fill, Head, head, Any, Begins, Viable, Partly, Onward, used_up, past, done, done-ok, rests, stops, nowhere, number-by, expression-by, bind, bind-if, bind-half, half-bind, fresh-bind, may, must, fresh-may, fresh-must, half-on, either, half-either, looks-no, looks-yes, half-looks, fresh-no, fresh-yes, begins, half-begins, half-group, group-may, endless, weaken, head-zero, on-head, finished, finished-ok, free, half-choice-no, fresh-choice-no, on-missed, no-next, nothing-more, bind-seen}
+use Rattle.es6_viability.proofs.Viable.{Limit, half-within, goes-within, bind-by, allowed-before, fill, Head, head, Any, Begins, Viable, Partly, Onward, used_up, past, done, done-ok, rests, stops, nowhere, number-by, expression-by, bind, bind-if, bind-half, half-bind, fresh-bind, may, must, fresh-may, fresh-must, half-on, either, half-either, looks-no, looks-no-seen, looks-yes, half-looks, fresh-no, fresh-yes, begins, half-begins, half-group, half-group-in, group-may, endless, weaken, head-zero, on-head, finished, finished-ok, free, half-choice-no, fresh-choice-no, on-missed, no-next, nothing-more, bind-seen}
 use Rattle.es6_viability.proofs.LeftSides.{LeftIn}
 use Rattle.es6_viability.proofs.LeftSides.{conditional as left-conditional}
 use Rattle.es6_viability.proofs.Nesting.{deep-has-tokens}
-use Rattle.es6_viability.proofs.Completions.{x_, Free, Closer, After, FollowOf, Follow, EndOf, End_, end-follow, follow-after, Refines, AllowedOf, Allowed, Better, no-dot, no-index, no-call, no-template, no-parted, no-postfix, no-power, no-binary, no-question, no-arrow, no-assign, no-comma, no-star, no-value, x-free, x-no-unary}
+use Rattle.es6_viability.proofs.Completions.{x_, Free, Closer, After, FollowOf, Follow, EndOf, End_, end-follow, follow-after, Refines, AllowedOf, Allowed, Better, inside, opened, no-dot, no-index, no-call, no-template, no-parted, no-postfix, no-power, no-binary, no-question, no-arrow, no-assign, no-comma, no-star, no-value, x-free, x-no-unary}
 use Rattle.es6_viability.proofs.Parts.{closing, bracket-closes, brace-closes, colon-closes, identifier, any-name, take-mark, take-word, function, class, half-template, method-after-key, generator-method, accessor, key}
 
 -- ## Parentheses
@@ -135,8 +135,8 @@ module _ (role : Role) (n : ℕ) where
       by : {r r' : Refined (List Parameter)} → Deeper l r r' → parameters_of n (k.first ∷ k.more) ≡ r' → Partly lim Follow (Allowed role n) (e.rest_after at dots (e.whole inside k) r) (e.rest_after at dots (e.whole inside k) r') s
       by {r = Fits es} as_before h = half-on _ _ _ _ _ s (λ t c. past (covered-rest leads at dots (Some (e.whole inside k)) (λ rest span. held-refines n inside k rest span es h) c)) (nowhere s)
       by {r = Misfit place} as_before h = nowhere s
-      by {r = TooNested} as_before h = stops
-      by (nested_less m) h = stops
+      by {r = TooNested} as_before h = stops (λ e. absurd (cc))
+      by (nested_less m) h = stops (λ e. absurd (cc))
 
 abbrev NonEmpty : {A : Type 0} → List A → Type 0
 NonEmpty [] = ⊥
@@ -199,7 +199,7 @@ unsettled-grows lim n x m k l (inl a) = inl (lim.grows m k l a)
 unsettled-grows lim n x m k l (inr u) = inr u
 
 abbrev pub unsettled : Limit → ℕ → Reading → Limit
-unsettled lim n x = record { allows = λ m. lim.allows m ⊎ Unsettled n x; grows = unsettled-grows lim n x }
+unsettled lim n x = record { allows = λ m. lim.allows m ⊎ Unsettled n x; grows = unsettled-grows lim n x; shallow = lim.shallow }
 
 module _ {lim : Limit} {l : ℕ} (i j : Inner) (h : Better lim l i j) where
   argument : (f : Flags) (s : Input) → Viable lim (λ y us. Closer false us) Any (λ us. Head x_ us) (e.argument i f) (e.argument j f) s
@@ -224,7 +224,7 @@ module _ {lim : Limit} {l : ℕ} (i j : Inner) (h : Better lim l i j) where
   unfolding e.arguments
   arguments f s = must (mark marks.RightParenthesis) (Punctuator marks.RightParenthesis) (fill (Punctuator marks.RightParenthesis)) refl _ _ _ _ s (λ t c. done) (more-arguments f h.turns s).half
 
-  properties : (f : Flags) {n m : ℕ} (w : Turns (suc l) n m) (s : Input) → Viable lim Free Any (λ us. Head (Punctuator marks.RightBrace) us) (e.properties i f n) (e.properties j f m) s
+  properties : (f : Flags) {n m : ℕ} (w : Turns (suc l) n m) (s : Input) → Viable (inside lim i.may_open) Free Any (λ us. Head (Punctuator marks.RightBrace) us) (e.properties i f n) (e.properties j f m) s
   unfolding e.properties
   properties f over s = endless (record { more = Punctuator marks.RightBrace ∷ []; value = []; last = 0; ok = tt; reads = λ us h. refl; starts = λ us h. head })
   properties f (turn w) s = must (mark marks.RightBrace) (Punctuator marks.RightBrace) (fill (Punctuator marks.RightBrace)) refl _ _ _ _ s (λ t c. done)
@@ -276,13 +276,13 @@ module _ {lim : Limit} {l : ℕ} (i j : Inner) (h : Better lim l i j) where
 
   bracketed : (f : Flags) (role : Role) (at : ℕ) (s : Input) → Partly lim Follow (Allowed role j.fuel) (e.bracketed i f role at) (e.bracketed j f role at) s
   unfolding e.bracketed
-  bracketed f role at s = half-group i j h.opens marks.LeftBracket _ _ _ _ s (λ c. past (bind _ _ (elements f h.turns c) (λ k d. done-ok tt) (λ y us t. tt)))
-      (half-group i j h.opens marks.LeftBrace _ _ _ _ s (λ c. past (bind _ _ (properties f h.turns c) (λ x d. done-ok tt) (λ y us t. tt))) (no-operand role (e.no_operand role) s))
+  bracketed f role at s = half-group i j h.opens marks.LeftBracket _ _ _ _ s (λ c. bind _ _ (elements f h.turns c) (λ k d. done-ok tt) (λ y us t. tt))
+      (half-group-in i j h.opens (λ n a. a) (opened lim.shallow i.may_open) marks.LeftBrace _ _ _ _ s (λ c. bind _ _ (properties f h.turns c) (λ x d. done-ok tt) (λ y us t. tt)) (no-operand role (e.no_operand role) s))
 
   composed : (f : Flags) (role : Role) (at : ℕ) (s : Input) → Partly lim Follow (Allowed role j.fuel) (e.composed i f role at) (e.composed j f role at) s
   unfolding e.composed
   composed f role at s = half-on _ _ _ _ _ s (λ t c. past (bind _ _ (function i j h true at c) (λ x d. done-ok tt) (λ y us t. tt))) (half-on _ _ _ _ _ s (λ t c. past (bind _ _ (class i j h f true at c) (λ x d. done-ok tt) (λ y us t. tt)))
-      (half-template i j h f at _ _ _ _ s (λ m c. done-ok tt) (half-group i j h.opens marks.LeftParenthesis _ _ _ _ s (λ c. past (grouped f role at c)) (bracketed f role at s))))
+      (half-template i j h f at _ _ _ _ s (λ m c. done-ok tt) (half-group i j h.opens marks.LeftParenthesis _ _ _ _ s (λ c. grouped f role at c) (bracketed f role at s))))
 
   primary : (f : Flags) (role : Role) (at : ℕ) (s : Input) → Viable lim Follow (Allowed role j.fuel) (λ us. Head x_ us) (e.primary i f role at) (e.primary j f role at) s
   unfolding e.primary
@@ -291,13 +291,13 @@ module _ {lim : Limit} {l : ℕ} (i j : Inner) (h : Better lim l i j) where
   after-new : (f : Flags) (role : Role) (at : ℕ) (s : Input) → Viable lim Follow (Allowed role j.fuel) (λ us. Head x_ us) (e.after_new i f at) (e.after_new j f at) s
   unfolding e.after_new e.after_callee
   after-new f role at s = may _ _ _ _ _ s (λ t c. past (bind _ _ (take-word {F = Free} (codes "target") refl c) (λ u d. done-ok tt) (λ y us t. tt)))
-      (bind _ _ (h.callee f s) (λ x c. group-may i j h.opens marks.LeftParenthesis _ _ _ _ c (λ d. past (bind _ _ (arguments f d) (λ y k. done-ok tt) (λ y us t. tt))) (done-ok tt) no-call) (λ y us t. t)) (on-head _ (λ us. refl))
+      (bind _ _ (h.callee f s) (λ x c. group-may i j h.opens marks.LeftParenthesis _ _ _ _ c (λ d. bind _ _ (arguments f d) (λ y k. done-ok tt) (λ y us t. tt)) (done-ok tt) no-call) (λ y us t. t)) (on-head _ (λ us. refl))
 
   after-super : (f : Flags) (role : Role) (at : ℕ) (s : Input) → Viable lim Follow (Allowed role j.fuel) (λ us. Head (Punctuator marks.Dot) us) (e.after_super i f role at) (e.after_super j f role at) s
   unfolding e.after_super e.super_call
   after-super f role at s = must (mark marks.Dot) (Punctuator marks.Dot) (fill (Punctuator marks.Dot)) refl _ _ _ _ s (λ t c. bind _ _ (any-name c) (λ n d. done-ok tt) (λ y us t. tt))
-      (half-group i j h.opens marks.LeftBracket _ _ _ _ s (λ c. past (bind _ _ (h.sequence (with_in f) c) (λ x d. bind _ _ (take-mark {F = Free} marks.RightBracket refl d) (λ t k. done-ok tt) (λ y us t. tt)) bracket-closes))
-      (half-either (has_calls role) _ _ _ _ s (half-group i j h.opens marks.LeftParenthesis _ _ _ _ s (λ c. past (bind _ _ (arguments f c) (λ x d. done-ok tt) (λ y us t. tt))) (nowhere s)) (nowhere s)))
+      (half-group i j h.opens marks.LeftBracket _ _ _ _ s (λ c. bind _ _ (h.sequence (with_in f) c) (λ x d. bind _ _ (take-mark {F = Free} marks.RightBracket refl d) (λ t k. done-ok tt) (λ y us t. tt)) bracket-closes)
+      (half-either (has_calls role) _ _ _ _ s (half-group i j h.opens marks.LeftParenthesis _ _ _ _ s (λ c. bind _ _ (arguments f c) (λ x d. done-ok tt) (λ y us t. tt)) (nowhere s)) (nowhere s)))
 
   head_ : (f : Flags) (role : Role) (at : ℕ) (s : Input) → Viable lim Follow (Allowed role j.fuel) (λ us. Head x_ us) (e.head i f role at) (e.head j f role at) s
   unfolding e.head
@@ -319,8 +319,8 @@ module _ {lim : Limit} {l : ℕ} (i j : Inner) (h : Better lim l i j) where
 
   on-link : {F : List Link → List Filled → Type 0} {P : List Link → Type 0} {S : Link → List Filled → Type 0} (f : Flags) (calls : Bool) (at : ℕ) (p p' : Link → Parser (List Link)) (q q' : Parser (List Link)) (s : Input)
       → ((x : Link) (c : Input) → Viable lim F P (S x) (p x) (p' x) c) → Partly lim F P q q' s → Partly lim F P (e.on_link i f calls at p q) (e.on_link j f calls at p' q') s
-  on-link f calls at p p' q q' s k g = half-on _ _ _ _ _ s (λ t c. past (bind _ _ (member-link _ c) (λ x d. k x d) (λ y us t. tt))) (half-group i j h.opens marks.LeftBracket _ _ _ _ s (λ c. past (bind _ _ (index f _ c) (λ x d. k x d) (λ y us t. tt)))
-      (half-template i j h f _ _ _ _ _ s (λ m c. k _ c) (half-either calls _ _ _ _ s (half-group i j h.opens marks.LeftParenthesis _ _ _ _ s (λ c. past (bind _ _ (call f _ c) (λ x d. k x d) (λ y us t. tt))) g) g)))
+  on-link f calls at p p' q q' s k g = half-on _ _ _ _ _ s (λ t c. past (bind _ _ (member-link _ c) (λ x d. k x d) (λ y us t. tt))) (half-group i j h.opens marks.LeftBracket _ _ _ _ s (λ c. bind _ _ (index f _ c) (λ x d. k x d) (λ y us t. tt))
+      (half-template i j h f _ _ _ _ _ s (λ m c. k _ c) (half-either calls _ _ _ _ s (half-group i j h.opens marks.LeftParenthesis _ _ _ _ s (λ c. bind _ _ (call f _ c) (λ x d. k x d) (λ y us t. tt)) g) g)))
 
   links : (f : Flags) (calls : Bool) {n m : ℕ} (w : Turns (suc l) n m) (s : Input) → Viable lim (λ y us. After us) Any (λ us. After us) (e.links i f calls n) (e.links j f calls m) s
   unfolding e.links
@@ -333,7 +333,7 @@ module _ {lim : Limit} {l : ℕ} (i j : Inner) (h : Better lim l i j) where
   -- behind one there are some
   links-some : (f : Flags) (calls : Bool) {n m : ℕ} (w : Turns (suc l) n m) (s : Input) → Partly lim (λ y us. After us) NonEmpty (e.links i f calls n) (e.links j f calls m) s
   unfolding e.links
-  links-some f calls over s = stops
+  links-some f calls over s = stops (λ e. absurd (cc))
   links-some f calls (turn {n = n} {m = m} w) s = half-begins (primary'.links_from i f calls (e.links i f calls n)) (primary'.links_from j f calls (e.links j f calls m)) s (λ place. on-link f calls _ _ _ _ _ s (λ x c. bind _ _ (links f calls w c) (λ ls d. done-ok tt) (λ y us t. t)) rests)
 
   chained-fresh : (role : Role) (at : ℕ) (x : Reading) (ls : List Link) (last : ℕ) → NonEmpty ls → Begins Follow (Allowed role j.fuel) (λ us. After us) (made at (e.chained x ls)) last
@@ -386,7 +386,7 @@ module _ {lim : Limit} {l : ℕ} (i j : Inner) (h : Better lim l i j) where
 
     operands-some : {n m : ℕ} (w : Turns (suc l) n m) (s : Input) → Partly lim (λ y us. After us) NonEmpty (e.operands q f level n) (e.operands q' f level m) s
     unfolding e.operands
-    operands-some over s = stops
+    operands-some over s = stops (λ e. absurd (cc))
     operands-some (turn w) s = half-on _ _ _ _ _ s (λ op c. past (bind _ _ (k c) (λ x d. bind _ _ (operands w d) (λ y z. done-ok tt) (λ y us t. t)) (λ y us t. t))) rests
 
     operands-end : (role : Role) (at : ℕ) (x : Reading) {n m : ℕ} → Turns (suc l) n m → (last : ℕ) → Allowed role j.fuel x → Begins Follow (Allowed role j.fuel) (λ us. Follow x us) (◌>>=◌ (e.operands q' f level m) (λ os. made at (e.operated x os))) last
@@ -417,18 +417,18 @@ module _ {lim : Limit} {l : ℕ} (i j : Inner) (h : Better lim l i j) where
 
   arrow-body : (f : Flags) (at : ℕ) (es : List Parameter) (s : Input) → Viable lim (λ y us. Closer false us) Any (λ us. Head x_ us) (e.arrow_body i f at es) (e.arrow_body j f at es) s
   unfolding e.arrow_body
-  arrow-body f at es s = looks-no _ _ _ _ _ s (bind-half _ _ (h.block (of_function false) s).half (λ b c. done) (λ y us t. tt)) (bind _ _ (h.assignment (of_arrow f) s) (λ x c. done) (λ y us t. t)) (on-head _ (λ us. refl))
+  arrow-body f at es s = looks-no-seen _ _ _ _ _ s (λ seen. bind-half _ _ (h.block (of_function false) s seen) (λ b c. done) (λ y us t. tt)) (bind _ _ (h.assignment (of_arrow f) s) (λ x c. done) (λ y us t. t)) (on-head _ (λ us. refl))
 
   arrow-if : (f : Flags) (at : ℕ) (x : Reading) {r r' : Refined (List Parameter)} → Deeper (suc l) r r' → (s : Input) → Partly lim (λ y us. Closer false us) Any (e.arrow_if i f at x r) (e.arrow_if j f at x r') s
   arrow-if f at x {r = Fits es} as_before s = half-on _ _ _ _ _ s (λ t c. past (arrow-body f at es c)) (nowhere s)
   arrow-if f at x {r = Misfit place} as_before s = half-either (is_covered x.shape) _ _ _ _ s (nowhere s) rests
-  arrow-if f at x {r = TooNested} as_before s = stops
-  arrow-if f at x (nested_less m) s = stops
+  arrow-if f at x {r = TooNested} as_before s = stops (λ e. absurd (cc))
+  arrow-if f at x (nested_less m) s = stops (λ e. absurd (cc))
 
   -- where what nests too far is given up
   assigned-by : (f : Flags) (at : ℕ) (x : Reading) (op : AssignOperator) {r r' : Refined Pattern} → Deeper (suc l) r r' → is_left x.shape ≡ true → target_before i.fuel op x.value ≡ r → (s : Input)
       → Onward (unsettled lim i.fuel x) (λ y us. Closer false us) Any (◌>>=◌ (e.fitting r) (λ q. ◌>>=◌ (i.assignment f) (λ y. made at (λ span. e.other (expr.Assign span op q y.value))))) (◌>>=◌ (e.fitting r') (λ q. ◌>>=◌ (j.assignment f) (λ y. made at (λ span. e.other (expr.Assign span op q y.value))))) s
-  assigned-by f at x op {r = Fits q} as_before left k s = past (goes-within (λ n a. inl a) (bind _ _ (h.assignment f s) (λ y d. done) (λ y us t. t)))
+  assigned-by f at x op {r = Fits q} as_before left k s = past (goes-within (λ n a. inl a) (λ z. z) (bind _ _ (h.assignment f s) (λ y d. done) (λ y us t. t)))
   assigned-by f at x op {r = Misfit place} as_before left k s = absurd (never-misfit i.fuel op x.value place k)
   assigned-by f at x op {r = TooNested} as_before left k s = used_up (inr (left, (op, k)))
   assigned-by f at x op (nested_less m) left k s = used_up (inr (left, (op, k)))
@@ -439,7 +439,7 @@ module _ {lim : Limit} {l : ℕ} (i j : Inner) (h : Better lim l i j) where
 
   after-half : (f : Flags) (at : ℕ) (x : Reading) (s : Input) → Partly (unsettled lim i.fuel x) (λ y us. Closer false us) Any (e.after_conditional i f at x) (e.after_conditional j f at x) s
   unfolding e.after_conditional
-  after-half f at x s = half-looks _ _ _ _ _ s (half-within (λ n a. inl a) (arrow-if f at x (deeper (λ n. e.parameters_before n x.shape x.value) (λ k more. kept-parameters-before k more x.shape x.value) h.turns) s)) (by (is_left x.shape) refl)
+  after-half f at x s = half-looks _ _ _ _ _ s (half-within (λ n a. inl a) (λ z. z) (arrow-if f at x (deeper (λ n. e.parameters_before n x.shape x.value) (λ k more. kept-parameters-before k more x.shape x.value) h.turns) s)) (by (is_left x.shape) refl)
     where
       by : (v : Bool) → is_left x.shape ≡ v → Partly (unsettled lim i.fuel x) (λ y us. Closer false us) Any (choose v (on assign_at (λ op. e.assigned_with i f at x.value op) (returns x)) (returns x)) (choose v (on assign_at (λ op. e.assigned_with j f at x.value op) (returns x)) (returns x)) s
       by true k = half-on _ _ _ _ _ s (λ op c. assigned-with f at x op k c) rests
@@ -469,7 +469,7 @@ module _ {lim : Limit} {l : ℕ} (i j : Inner) (h : Better lim l i j) where
 
   without-yield : (f : Flags) (at : ℕ) (s : Input) → Viable lim (λ y us. Closer false us) Any (λ us. Head x_ us) (e.without_yield i f at) (e.without_yield j f at) s
   unfolding e.without_yield
-  without-yield f at s = bind-by _ _ (conditional f s) (λ x c seen. after-half f at x c) (λ x c front seen k a. given-up f s x c front seen k a) (λ y last ok. after-fresh f at y.value y.shape last ok) (λ y us ok k. k)
+  without-yield f at s = bind-by _ _ (conditional f s) (λ x c seen. after-half f at x c) (λ x c front seen k a. given-up f s x c front seen k a) (λ x z. z) (λ y last ok. after-fresh f at y.value y.shape last ok) (λ y us ok k. k)
 
   pub assignment : (f : Flags) (s : Input) → Viable lim (λ y us. Closer false us) Any (λ us. Head x_ us) (e.assignment i f) (e.assignment j f) s
   unfolding e.assignment

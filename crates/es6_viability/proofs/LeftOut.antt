@@ -13,7 +13,7 @@ use Rattle.es6_reading.specs.Parser.{Input, Outcome, Took, Fault, Parser}
 use Rattle.es6_reading.proofs.Follows.{plus, semi, SameHead, same}
 use Rattle.es6_reading.proofs.LocalReaders.{gain}
 use Rattle.es6_reading.proofs.Locality.{Local, LocalOf, Modes, took_so, stops_so, too_deep, too_long, not_inserted, same_mode}
-use Rattle.es6_viability.proofs.Viable.{left, fills, Any, Half, stands, some, gives_up, run_of}
+use Rattle.es6_viability.proofs.Viable.{left, fills, Any, Half, stands, some, beyond, gives_up, run_of}
 use Rattle.es6_viability.proofs.Readers.{lasting}
 use Rattle.es6_viability.proofs.Beside.{Gap, Loss, BesideBy, Rows, here, later, Agree, took_all, joined, first_stops, aside, lost, Elsewhere, early, beyond}
 use Rattle.es6_viability.proofs.BesideStatements.{no-slack}
@@ -196,6 +196,7 @@ module _ {A : Type 0} (p : Bool → ℕ → ℕ → Parser A) (Full : List Fille
           let whole : short ≡ u ∷ front = e ∙ ap (λ us. (u ∷ front) ++ us) n ∙ append-nil (u ∷ front) in
           let row : short ++ (fills more.more ++ []) ≡ (u ∷ front) ++ (fills more.more ++ []) = ap (λ us. us ++ (fills more.more ++ [])) whole in
           dead (fills more.more ++ [], full (suc fuel) (plus (suc room) 3) (short ++ (fills more.more ++ [])) more.value more.last (ap (run false (suc fuel) (plus (suc room) 3)) row ∙ more.reads [] (ends more.value)))
+      completed n (beyond front e more) = absurd (cc)
       completed n (gives_up a) = few (length short) fuel turns (a refl)
         where
           few : (n m : ℕ) → suc (suc n) ≤ m → m ≤ suc n → ⊥

@@ -1,5 +1,6 @@
 pub mod LeftSides
 pub mod Nesting
+pub mod Begun
 pub mod Viable
 pub mod Completions
 pub mod Parts

@@ -1,6 +1,7 @@
 -- Names, patterns, functions and classes can be completed wherever their readers stop.
-use Rattle.std.specs.Prelude.{codes}
+use Rattle.std.specs.Prelude.{codes, is_some}
 use Rattle.std.proofs.Common.{◌≡◌, ℕ, suc, Bool, true, false, List, [], ◌∷◌, Option, Some, None, refl}
+use Rattle.std.proofs.lemmas.Bool.{false≢true}
 use Rattle.es6_lexer.specs.declared.token.TokenKind.TheVariants.{Word, Punctuator, Template}
 use Rattle.es6_lexer.specs.declared.token.Punctuator.{Punctuator as Mark}
 use Rattle.es6_lexer.specs.declared.token.Punctuator.TheVariants as marks
@@ -19,9 +20,9 @@ use Rattle.es6_reading.specs.Words.{free_name, any_name, key_at, WordToken, stre
 use Rattle.es6_reading.specs.Parts as t6
 use Rattle.es6_reading.proofs.FollowParts as parts'
 use Rattle.es6_reading.proofs.Locality.{Turns, over, turn}
-use Rattle.es6_viability.proofs.Viable.{Limit, fill, Head, head, Any, Anything, Viable, Partly, past, done, done-ok, rests, nowhere, number, bind, bind-half, fresh-bind, may, must, fresh-may, fresh-must, half-on, take, either, looks-no, looks-yes, half-looks, begins, half-group, group-must, endless, head-zero, half-opened, half-mode, half-insertable, on-head, finished, begins-fresh, anywhere}
+use Rattle.es6_viability.proofs.Viable.{Limit, fill, Head, head, Any, Anything, Viable, Partly, past, done, done-ok, rests, nowhere, number, bind, bind-half, fresh-bind, may, must, fresh-may, fresh-must, half-on, take, either, looks-no, looks-yes, half-looks, begins, half-group, half-group-in, half-opening, group-must, group-must-in, endless, head-zero, half-mode, half-insertable, on-head, finished, begins-fresh, anywhere}
 use Rattle.es6_reading.proofs.Posts.{Misses}
-use Rattle.es6_viability.proofs.Completions.{x_, Free, Closer, parenthesis, bracket, brace, semicolon as semicolon_follows, colon, tail, After, closes, opening, HasDefault, Better, Behind, behind_brace, no-initializer, x-free}
+use Rattle.es6_viability.proofs.Completions.{x_, Free, Closer, parenthesis, bracket, brace, semicolon as semicolon_follows, colon, tail, After, closes, opening, HasDefault, Better, inside, opened, Behind, behind_brace, no-initializer, x-free}
 
 abbrev tail-stretch : Stretch
 tail-stretch = record { span = record { begin = 0; end = 0 }; cooked = []; raw = [] }
@@ -93,13 +94,17 @@ pub do-while-end : {lim : Limit} (i j : Inner) → j.inserting ≡ i.inserting �
 unfolding p.semicolon_of_do_while
 do-while-end i j e s = must _ (Punctuator marks.Semicolon) (fill (Punctuator marks.Semicolon)) refl _ _ _ _ s (λ t c. done) (half-mode i.inserting j.inserting e _ _ s (half-looks _ _ _ _ _ s rests (nowhere s)))
 
+known-some : {A : Type 0} (o : Option A) → is_some o ≡ true → (x : A) × (o ≡ Some x)
+known-some (Some x) e = (x, refl)
+known-some None e = absurd (false≢true e)
+
 module _ {lim : Limit} {l : ℕ} (i j : Inner) (h : Better lim l i j) where
   pub key : (f : Flags) (s : Input) → Viable lim Free Any (λ us. Head x_ us) (t6.key i f) (t6.key j f) s
   unfolding t6.key t6.computed_key
   key f s = begins (parts'.key_from i f) (parts'.key_from j f) s head-zero (λ place. must key_at x_ (WordToken (codes "x")) refl _ _ _ _ s (λ k c. done)
-      (half-group i j h.opens marks.LeftBracket _ _ _ _ s (λ c. past (bind _ _ (h.assignment (with_in f) c) (λ x d. bind _ _ (take-mark {F = Free} marks.RightBracket refl d) (λ t k. done) (λ y us t. tt)) bracket-closes)) (number s)))
+      (half-group i j h.opens marks.LeftBracket _ _ _ _ s (λ c. bind _ _ (h.assignment (with_in f) c) (λ x d. bind _ _ (take-mark {F = Free} marks.RightBracket refl d) (λ t k. done) (λ y us t. tt)) bracket-closes) (number s)))
 
-  array-parts : (f : Flags) {n m : ℕ} (w : Turns (suc l) n m) (s : Input) → Viable lim Free Any (λ us. Head (Punctuator marks.RightBracket) us) (t6.array_parts i f n) (t6.array_parts j f m) s
+  array-parts : (f : Flags) {n m : ℕ} (w : Turns (suc l) n m) (s : Input) → Viable (inside lim i.may_open) Free Any (λ us. Head (Punctuator marks.RightBracket) us) (t6.array_parts i f n) (t6.array_parts j f m) s
   unfolding t6.array_parts
   array-parts f over s = endless (record { more = Punctuator marks.RightBracket ∷ []; value = []; last = 0; ok = tt; reads = λ us h. refl; starts = λ us h. head })
   array-parts f (turn {n = n} {m = m} w) s = begins (parts'.array_parts_from i f (t6.array_parts i f n)) (parts'.array_parts_from j f (t6.array_parts j f m)) s head-zero (λ place.
@@ -108,7 +113,7 @@ module _ {lim : Limit} {l : ℕ} (i j : Inner) (h : Better lim l i j) where
       (half-on _ _ _ _ _ s (λ t c. past (rest-part _ c))
       (bind-half _ _ (h.part f s).half (λ q c. may _ _ _ _ _ c (λ t d. past (bind _ _ (array-parts f w d) (λ x k. done) (λ y us t. tt))) (bind _ _ (take-mark {F = Free} marks.RightBracket refl c) (λ t d. done) (λ y us t. tt)) (on-head _ (λ us. refl))) bracket-closes))))
 
-  object-parts : (f : Flags) {n m : ℕ} (w : Turns (suc l) n m) (s : Input) → Viable lim Free Any (λ us. Head (Punctuator marks.RightBrace) us) (t6.object_parts i f n) (t6.object_parts j f m) s
+  object-parts : (f : Flags) {n m : ℕ} (w : Turns (suc l) n m) (s : Input) → Viable (inside lim i.may_open) Free Any (λ us. Head (Punctuator marks.RightBrace) us) (t6.object_parts i f n) (t6.object_parts j f m) s
   unfolding t6.object_parts
   object-parts f over s = endless (record { more = Punctuator marks.RightBrace ∷ []; value = []; last = 0; ok = tt; reads = λ us h. refl; starts = λ us h. head })
   object-parts f (turn w) s = must (mark marks.RightBrace) (Punctuator marks.RightBrace) (fill (Punctuator marks.RightBrace)) refl _ _ _ _ s (λ t c. done)
@@ -116,8 +121,8 @@ module _ {lim : Limit} {l : ℕ} (i j : Inner) (h : Better lim l i j) where
 
   binding-pattern : (f : Flags) (at : ℕ) (s : Input) → Partly lim Free Any (t6.binding_pattern i f at) (t6.binding_pattern j f at) s
   unfolding t6.binding_pattern
-  binding-pattern f at s = half-group i j h.opens marks.LeftBracket _ _ _ _ s (λ c. past (bind _ _ (array-parts f h.turns c) (λ x d. done) (λ y us t. tt)))
-      (half-group i j h.opens marks.LeftBrace _ _ _ _ s (λ c. past (bind _ _ (object-parts f h.turns c) (λ x d. done) (λ y us t. tt))) (nowhere s))
+  binding-pattern f at s = half-group-in i j h.opens (λ n a. a) (opened lim.shallow i.may_open) marks.LeftBracket _ _ _ _ s (λ c. bind _ _ (array-parts f h.turns c) (λ x d. done) (λ y us t. tt))
+      (half-group-in i j h.opens (λ n a. a) (opened lim.shallow i.may_open) marks.LeftBrace _ _ _ _ s (λ c. bind _ _ (object-parts f h.turns c) (λ x d. done) (λ y us t. tt)) (nowhere s))
 
   pub binding : (f : Flags) (s : Input) → Viable lim Free Any (λ us. Head x_ us) (t6.binding i f) (t6.binding j f) s
   unfolding t6.binding
@@ -151,7 +156,7 @@ module _ {lim : Limit} {l : ℕ} (i j : Inner) (h : Better lim l i j) where
       (λ name c. may _ _ _ _ _ c (λ t d. past (keyed-part f _ _ d)) (named-part f _ _ c) (on-head _ (λ us. refl)))
       (bind-half _ _ (key f s).half (λ k c. bind _ _ (take-mark {F = Free} marks.Colon refl c) (λ t d. keyed-part f _ k d) (λ y us t. tt)) (λ y us t. tt)))
 
-  more-parameters : (f : Flags) {n m : ℕ} (w : Turns (suc l) n m) (s : Input) → Viable lim Free Any (λ us. Head x_ us) (t6.more_parameters i f n) (t6.more_parameters j f m) s
+  more-parameters : (f : Flags) {n m : ℕ} (w : Turns (suc l) n m) (s : Input) → Viable (inside lim i.may_open) Free Any (λ us. Head x_ us) (t6.more_parameters i f n) (t6.more_parameters j f m) s
   unfolding t6.more_parameters
   more-parameters f over s = endless (begins-fresh (parts'.more_parameters_from j f (t6.more_parameters j f l)) s.last head-zero (fresh-may (mark marks.Ellipsis) _ _ s.last
       (fresh-bind _ (λ q last u. fresh-may (mark marks.Comma) _ _ last (fresh-bind _ (λ t k v. finished) (λ y us v z. tt) (take-mark {lim = lim} {F = Free} marks.RightParenthesis refl (record { tokens = []; last = last })).fresh) (on-head _ (λ us. refl))) (λ y us v z. closing y us z) (h.part f s).fresh)
@@ -160,7 +165,7 @@ module _ {lim : Limit} {l : ℕ} (i j : Inner) (h : Better lim l i j) where
       (bind _ _ (h.part f s) (λ q c. may _ _ _ _ _ c (λ t d. past (bind _ _ (more-parameters f w d) (λ x k. done) (λ y us t. tt))) (bind _ _ (take-mark {F = Free} marks.RightParenthesis refl c) (λ t d. done) (λ y us t. tt)) (on-head _ (λ us. refl))) closing)
       (on-head _ (λ us. refl)))
 
-  parameters : (f : Flags) (s : Input) → Viable lim Free Any (λ us. Head (Punctuator marks.RightParenthesis) us) (t6.parameters i f) (t6.parameters j f) s
+  parameters : (f : Flags) (s : Input) → Viable (inside lim i.may_open) Free Any (λ us. Head (Punctuator marks.RightParenthesis) us) (t6.parameters i f) (t6.parameters j f) s
   unfolding t6.parameters
   parameters f s = must (mark marks.RightParenthesis) (Punctuator marks.RightParenthesis) (fill (Punctuator marks.RightParenthesis)) refl _ _ _ _ s (λ t c. done) (more-parameters f h.turns s).half
 
@@ -180,7 +185,7 @@ module _ {lim : Limit} {l : ℕ} (i j : Inner) (h : Better lim l i j) where
 
   signature : (generator : Bool) (s : Input) → Viable lim Free Any (λ us. Head (Punctuator marks.LeftParenthesis) us) (t6.signature i generator) (t6.signature j generator) s
   unfolding t6.signature
-  signature generator s = bind _ _ (group-must i j h.opens marks.LeftParenthesis refl _ _ _ _ s (λ c. parameters (of_function generator) c) (nowhere s)) (λ x c. bind _ _ (function-body generator c) (λ y d. done) (λ y us t. tt)) (λ y us t. tt)
+  signature generator s = bind _ _ (group-must-in i j h.opens (λ n a. a) (opened lim.shallow i.may_open) marks.LeftParenthesis refl _ _ _ _ s (λ c. parameters (of_function generator) c) (nowhere s)) (λ x c. bind _ _ (function-body generator c) (λ y d. done) (λ y us t. tt)) (λ y us t. tt)
 
   rest-of-function : (at : ℕ) (generator : Bool) (name : Option Identifier) (s : Input) → Viable lim Free Any (λ us. Head (Punctuator marks.LeftParenthesis) us) (t6.rest_of_function i at generator name) (t6.rest_of_function j at generator name) s
   unfolding t6.rest_of_function
@@ -198,14 +203,14 @@ module _ {lim : Limit} {l : ℕ} (i j : Inner) (h : Better lim l i j) where
   unfolding t6.method_after_key
   method-after-key kind generator at k s = begins (parts'.method_parameters_from i kind generator at k) (parts'.method_parameters_from j kind generator at k) s head-zero (λ place. bind _ _ (signature generator s) (λ x c. done) (λ y us t. tt))
 
-  accessor-parameters : (setter : Bool) (s : Input) → Viable lim Free Any Anything (t6.accessor_parameters i setter) (t6.accessor_parameters j setter) s
+  accessor-parameters : (setter : Bool) (s : Input) → Viable (inside lim i.may_open) Free Any Anything (t6.accessor_parameters i setter) (t6.accessor_parameters j setter) s
   unfolding t6.one_parameter t6.accessor_parameters
   accessor-parameters true s = anywhere (bind _ _ (h.part (of_function false) s) (λ q c. bind _ _ (take-mark {F = Free} marks.RightParenthesis refl c) (λ t d. done) (λ y us t. tt)) closing)
   accessor-parameters false s = anywhere (no-parameter s)
 
   pub accessor : (f : Flags) (at : ℕ) (setter : Bool) (s : Input) → Viable lim Free Any (λ us. Head x_ us) (t6.accessor i f at setter) (t6.accessor j f at setter) s
   unfolding t6.accessor
-  accessor f at setter s = bind _ _ (key f s) (λ k c. begins (parts'.accessor_parameters_from i at setter k) (parts'.accessor_parameters_from j at setter k) c head-zero (λ place. bind _ _ (group-must i j h.opens marks.LeftParenthesis refl _ _ _ _ c (λ d. accessor-parameters setter d) (nowhere c)) (λ x d. bind _ _ (function-body false d) (λ y m. done) (λ y us t. tt)) (λ y us t. tt))) (λ y us t. tt)
+  accessor f at setter s = bind _ _ (key f s) (λ k c. begins (parts'.accessor_parameters_from i at setter k) (parts'.accessor_parameters_from j at setter k) c head-zero (λ place. bind _ _ (group-must-in i j h.opens (λ n a. a) (opened lim.shallow i.may_open) marks.LeftParenthesis refl _ _ _ _ c (λ d. accessor-parameters setter d) (nowhere c)) (λ x d. bind _ _ (function-body false d) (λ y m. done) (λ y us t. tt)) (λ y us t. tt))) (λ y us t. tt)
 
   pub generator-method : (f : Flags) (at : ℕ) (s : Input) → Viable lim Free Any (λ us. Head x_ us) (t6.generator_method i f at) (t6.generator_method j f at) s
   unfolding t6.generator_method
@@ -223,7 +228,7 @@ module _ {lim : Limit} {l : ℕ} (i j : Inner) (h : Better lim l i j) where
   unfolding t6.one_member t6.member_after_static
   member f s = begins (parts'.member_from i f) (parts'.member_from j f) s head-zero (λ place. may _ _ _ _ _ s (λ t c. past (looks-yes _ _ _ _ _ c (bind _ _ (method-after-key _ false _ _ c) (λ m d. done) (λ y us t. tt)) (bind-half _ _ (method f c).half (λ m d. done) (λ y us t. tt)) (on-head _ (λ us. refl)))) (bind _ _ (method f s) (λ m c. done) (λ y us t. tt)) (on-head _ (λ us. refl)))
 
-  members : (f : Flags) {n m : ℕ} (w : Turns (suc l) n m) (s : Input) → Viable lim Free Any (λ us. Head (Punctuator marks.RightBrace) us) (t6.members i f n) (t6.members j f m) s
+  members : (f : Flags) {n m : ℕ} (w : Turns (suc l) n m) (s : Input) → Viable (inside lim i.may_open) Free Any (λ us. Head (Punctuator marks.RightBrace) us) (t6.members i f n) (t6.members j f m) s
   unfolding t6.members
   members f over s = endless (record { more = Punctuator marks.RightBrace ∷ []; value = []; last = 0; ok = tt; reads = λ us h. refl; starts = λ us h. head })
   members f (turn w) s = must (mark marks.RightBrace) (Punctuator marks.RightBrace) (fill (Punctuator marks.RightBrace)) refl _ _ _ _ s (λ t c. done) (half-on _ _ _ _ _ s (λ t c. past (members f w c)) (bind-half _ _ (h.member f s).half (λ m c. bind _ _ (members f w c) (λ ms d. done) (λ y us t. tt)) (λ y us t. tt)))
@@ -234,7 +239,7 @@ module _ {lim : Limit} {l : ℕ} (i j : Inner) (h : Better lim l i j) where
 
   rest-of-class : (f : Flags) (at : ℕ) (name : Option Identifier) (s : Input) → Viable lim Free Any (λ us. Head (Punctuator marks.LeftBrace) us) (t6.rest_of_class i f at name) (t6.rest_of_class j f at name) s
   unfolding t6.rest_of_class
-  rest-of-class f at name s = bind _ _ (heritage f s) (λ x c. bind _ _ (group-must i j h.opens marks.LeftBrace refl _ _ _ _ c (λ d. members f h.turns d) (nowhere c)) (λ ms d. done) (λ y us t. tt)) (λ y us t. t)
+  rest-of-class f at name s = bind _ _ (heritage f s) (λ x c. bind _ _ (group-must-in i j h.opens (λ n a. a) (opened lim.shallow i.may_open) marks.LeftBrace refl _ _ _ _ c (λ d. members f h.turns d) (nowhere c)) (λ ms d. done) (λ y us t. tt)) (λ y us t. t)
 
   named-class : (f : Flags) (at : ℕ) (s : Input) → Viable lim Free Any (λ us. Head x_ us) (t6.named_class i f at) (t6.named_class j f at) s
   unfolding t6.named_class
@@ -256,4 +261,4 @@ module _ {lim : Limit} {l : ℕ} (i j : Inner) (h : Better lim l i j) where
 
   pub half-template : {A : Type 0} {F : A → List Filled → Type 0} {P : A → Type 0} {S : Template' → List Filled → Type 0} (f : Flags) (at : ℕ) (p p' : Template' → Parser A) (q q' : Parser A) (s : Input) → ((m : Template') (c : Input) → Viable lim F P (S m) (p m) (p' m) c) → Partly lim F P q q' s
       → Partly lim F P (t6.on_template i f at p q) (t6.on_template j f at p' q') s
-  half-template {F = F} {P = P} f at p p' q q' s k g = half-on _ _ _ _ _ s (λ r c. past (k _ c)) (half-looks _ _ _ _ _ s (half-opened i.may_open j.may_open _ _ s h.opens (half-on _ _ _ _ _ s (λ r c. past (bind _ _ (parted f at r c) (λ m d. k m d) (λ y us t. tt))) g)) g)
+  half-template {F = F} {P = P} f at p p' q q' s k g = half-on _ _ _ _ _ s (λ r c. past (k _ c)) (half-opening {S = λ r us. Head x_ us} i j h.opens (λ n a. a) (λ e z. z) (stretch_at true false) (λ t. is_some (stretch_at true false t)) (λ t e. known-some (stretch_at true false t) e) _ _ _ _ s (λ r c. bind _ _ (parted f at r c) (λ m d. k m d) (λ y us t. tt)) g)

@@ -39,8 +39,8 @@ use Rattle.es6_reading.proofs.Derived.{ReadWhole, Sound}
 use Rattle.es6_reading.proofs.Locality.{Turns, over, turn, Deeper, as_before, nested_less, deeper}
 use Rattle.es6_reading.proofs.Posts.{Holds, of_took, Misses}
 use Rattle.es6_reading.proofs.RefineMore.{kept-before}
-use Rattle.es6_viability.proofs.Viable.{Limit, goes-within, bind-by, allowed-before, fill, Head, head, Any, Goes, Begins, Viable, Partly, Onward, used_up, past, done, rests, stops, nowhere, bind, bind-if, bind-half, fresh-bind, may, must, fresh-may, half-on, take, half-either, looks-no, looks-yes, half-looks, fresh-yes, begins, half-group, group-must, endless, weaken, head-zero, on-head, finished, fresh-choice-yes}
-use Rattle.es6_viability.proofs.Completions.{x_, Free, Closer, HasDefault, Better, Behind, behind_while, behind_end, no-comma, no-else, no-finally}
+use Rattle.es6_viability.proofs.Viable.{Limit, goes-within, bind-by, allowed-before, fill, Head, head, Any, Goes, Begins, Viable, Partly, Onward, used_up, past, done, rests, stops, nowhere, bind, bind-if, bind-half, fresh-bind, may, must, fresh-may, half-on, take, half-either, looks-no, looks-yes, half-looks, fresh-yes, begins, half-group, group-must, group-must-in, endless, weaken, head-zero, on-head, finished, fresh-choice-yes}
+use Rattle.es6_viability.proofs.Completions.{x_, Free, Closer, HasDefault, Better, inside, into, opened, Behind, behind_while, behind_end, no-comma, no-else, no-finally}
 use Rattle.es6_viability.proofs.Parts.{closing, brace-behind, semicolon-closes, colon-closes, identifier, any-name, take-mark, take-word, semicolon_, do-while-end, with-default, block, named-function, function, class}
 use Rattle.es6_viability.proofs.Expressions.{assignment, sequence, never-misfit, unsettled}
 use Rattle.es6_viability.proofs.Nesting.{deep-has-tokens}
@@ -148,10 +148,10 @@ module _ {lim : Limit} {l : ℕ} (i j : Inner) (h : Better lim l i j) where
   unfolding s6.first_variables
   first-variables f at kind qs s = bind _ _ (take-mark {F = Free} marks.Semicolon refl s) (λ t c. rest-of-for f _ c) (λ y us t. tt)
 
-  whole-first : (f : Flags) (at : ℕ) (kind : VariableKind) (q : Part) (s : Input) → Viable lim Free Any (λ us. Head (Punctuator marks.Semicolon) us) (more_first i f at kind q) (more_first j f at kind q) s
-  whole-first f at kind q s = may _ _ _ _ _ s (λ t c. past (bind _ _ (variables _ _ (λ d. h.variable (without_in f) d) h.turns c) (λ qs d. first-variables f at kind _ d) semicolon-closes)) (first-variables f at kind _ s) (on-head _ (λ us. refl))
+  whole-first : (f : Flags) (at : ℕ) (kind : VariableKind) (q : Part) (s : Input) → Viable (inside lim i.may_open) Free Any (λ us. Head (Punctuator marks.Semicolon) us) (more_first i f at kind q) (more_first j f at kind q) s
+  whole-first f at kind q s = may _ _ _ _ _ s (λ t c. past (bind _ _ (variables _ _ (λ d. h.variable (without_in f) d) h.turns c) (λ qs d. into (first-variables f at kind _ d)) semicolon-closes)) (into (first-variables f at kind _ s)) (on-head _ (λ us. refl))
 
-  after-first : (f : Flags) (at : ℕ) (kind : VariableKind) (q : Part) (s : Input) → Partly lim Free Any (s6.after_first_variable i f at kind q) (s6.after_first_variable j f at kind q) s
+  after-first : (f : Flags) (at : ℕ) (kind : VariableKind) (q : Part) (s : Input) → Partly (inside lim i.may_open) Free Any (s6.after_first_variable i f at kind q) (s6.after_first_variable j f at kind q) s
   unfolding s6.after_first_variable
   after-first f at kind q s = half-either (s6.is_whole q) _ _ _ _ s (whole-first f at kind q s).half (nowhere s)
 
@@ -159,11 +159,11 @@ module _ {lim : Limit} {l : ℕ} (i j : Inner) (h : Better lim l i j) where
   unfolding s6.after_first_variable
   after-first-fresh f at kind q last e = fresh-choice-yes (s6.is_whole q) e _ _ last (whole-first f at kind q (record { tokens = []; last = last })).fresh
 
-  after-bare : (f : Flags) (at : ℕ) (kind : VariableKind) (q : Part) (s : Input) → Partly lim Free Any (s6.after_bare_variable i f at kind q) (s6.after_bare_variable j f at kind q) s
+  after-bare : (f : Flags) (at : ℕ) (kind : VariableKind) (q : Part) (s : Input) → Partly (inside lim i.may_open) Free Any (s6.after_bare_variable i f at kind q) (s6.after_bare_variable j f at kind q) s
   unfolding s6.after_bare_variable
-  after-bare f at kind q s = half-looks _ _ _ _ _ s stops (half-looks _ _ _ _ _ s (bind-half _ _ (take-word {F = Free} (codes "of") refl s).half (λ t c. rest-of-of f _ c) (λ y us t. tt)) (after-first f at kind q s))
+  after-bare f at kind q s = half-looks _ _ _ _ _ s (stops (λ e. absurd (cc))) (half-looks _ _ _ _ _ s (bind-half _ _ (take-word {F = Free} (codes "of") refl s).half (λ t c. into (rest-of-of f _ c)) (λ y us t. tt)) (after-first f at kind q s))
 
-  for-variables : (f : Flags) (at : ℕ) (kind : VariableKind) (s : Input) → Viable lim Free Any (λ us. Head x_ us) (s6.for_variables i f at kind) (s6.for_variables j f at kind) s
+  for-variables : (f : Flags) (at : ℕ) (kind : VariableKind) (s : Input) → Viable (inside lim i.may_open) Free Any (λ us. Head x_ us) (s6.for_variables i f at kind) (s6.for_variables j f at kind) s
   unfolding s6.for_variables
   for-variables f at kind s = bind-if _ _ (h.variable (without_in f) s) (λ q c. half-either (is_some q.default) _ _ _ _ c (after-first f at kind q c) (after-bare f at kind q c))
       (λ q last ok. fresh-choice-yes (is_some q.default) ok _ _ last (after-first-fresh f at kind q last (ap (λ b. b || s6.is_name_in (out-Pattern q.pattern)) ok))) (λ y us ok z. semicolon-closes y us z)
@@ -173,7 +173,7 @@ module _ {lim : Limit} {l : ℕ} (i j : Inner) (h : Better lim l i j) where
   first-expression f x s = bind _ _ (take-mark {F = Free} marks.Semicolon refl s) (λ t c. rest-of-for f _ c) (λ y us t. tt)
 
   assigned-by : (f : Flags) (x : Reading) {r r' : Refined Pattern} → Deeper (suc l) r r' → is_left x.shape ≡ true → target_before i.fuel assign.Assign x.value ≡ r → (s : Input) → Onward (unsettled lim i.fuel x) Free Any (◌>>=◌ (e6.fitting r) (λ q. s6.rest_of_of i f (Assigned q))) (◌>>=◌ (e6.fitting r') (λ q. s6.rest_of_of j f (Assigned q))) s
-  assigned-by f x {r = Fits q} as_before left k s = past (goes-within (λ n a. inl a) (rest-of-of f _ s))
+  assigned-by f x {r = Fits q} as_before left k s = past (goes-within (λ n a. inl a) (λ z. z) (rest-of-of f _ s))
   assigned-by f x {r = Misfit place} as_before left k s = absurd (never-misfit i.fuel assign.Assign x.value place k)
   assigned-by f x {r = TooNested} as_before left k s = used_up (inr (left, (assign.Assign, k)))
   assigned-by f x (nested_less m) left k s = used_up (inr (left, (assign.Assign, k)))
@@ -186,8 +186,8 @@ module _ {lim : Limit} {l : ℕ} (i j : Inner) (h : Better lim l i j) where
   after-expression : (f : Flags) (x : Reading) (v : Bool) → is_left x.shape ≡ v → (s : Input) → Viable (unsettled lim i.fuel x) Free Any (λ us. Head (Punctuator marks.Semicolon) us)
       (choose v (if_next (next_word (codes "in")) (fails (Outside 1)) (on (word (codes "of")) (λ t. s6.assigned_in_turn i f x.value) (s6.first_expression i f x.value))) (s6.first_expression i f x.value))
       (choose v (if_next (next_word (codes "in")) (fails (Outside 1)) (on (word (codes "of")) (λ t. s6.assigned_in_turn j f x.value) (s6.first_expression j f x.value))) (s6.first_expression j f x.value)) s
-  after-expression f x true k s = looks-no _ _ _ _ _ s stops (may (word (codes "of")) _ _ _ _ s (λ t d. assigned-in-turn f x k d) (goes-within (λ n a. inl a) (first-expression f _ s)) (on-head _ (λ us. refl))) (on-head _ (λ us. refl))
-  after-expression f x false k s = goes-within (λ n a. inl a) (first-expression f _ s)
+  after-expression f x true k s = looks-no _ _ _ _ _ s (stops (λ e. absurd (cc))) (may (word (codes "of")) _ _ _ _ s (λ t d. assigned-in-turn f x k d) (goes-within (λ n a. inl a) (λ z. z) (first-expression f _ s)) (on-head _ (λ us. refl))) (on-head _ (λ us. refl))
+  after-expression f x false k s = goes-within (λ n a. inl a) (λ z. z) (first-expression f _ s)
 
   given-up : (f : Flags) (s : Input) (x : Reading) (c : Input) (front : List Filled) → i.sequence (without_in f) s ≡ Took x c → s.tokens ≡ front ++ c.tokens → (unsettled lim i.fuel x).allows (length c.tokens) → lim.allows (length s.tokens)
   given-up f s x c front seen k (inl a) = allowed-before lim front c.tokens k a
@@ -198,16 +198,16 @@ module _ {lim : Limit} {l : ℕ} (i j : Inner) (h : Better lim l i j) where
 
   for-expression : (f : Flags) (s : Input) → Viable lim Free Any (λ us. Head x_ us) (s6.for_expression i f) (s6.for_expression j f) s
   unfolding s6.for_expression
-  for-expression f s = bind-by _ _ (h.sequence (without_in f) s) (λ x c seen. (after-expression f x (is_left x.shape) refl c).half) (λ x c front seen k a. given-up f s x c front seen k a)
+  for-expression f s = bind-by _ _ (h.sequence (without_in f) s) (λ x c seen. (after-expression f x (is_left x.shape) refl c).half) (λ x c front seen k a. given-up f s x c front seen k a) (λ x z. z)
       (λ y last ok. (after-expression f y (is_left y.shape) refl (record { tokens = []; last = last })).fresh) (λ y us ok t. semicolon-closes y us t)
 
-  for-header : (f : Flags) (s : Input) → Viable lim Free Any (λ us. Head (Punctuator marks.Semicolon) us) (s6.for_header i f) (s6.for_header j f) s
+  for-header : (f : Flags) (s : Input) → Viable (inside lim i.may_open) Free Any (λ us. Head (Punctuator marks.Semicolon) us) (s6.for_header i f) (s6.for_header j f) s
   unfolding s6.for_header
-  for-header f s = begins (statements'.header_from i f) (statements'.header_from j f) s head-zero (λ place. must (mark marks.Semicolon) (Punctuator marks.Semicolon) (fill (Punctuator marks.Semicolon)) refl _ _ _ _ s (λ t c. rest-of-for f _ c) (half-on _ _ _ _ _ s (λ kind c. past (for-variables f _ kind c)) (for-expression f s).half))
+  for-header f s = begins (statements'.header_from i f) (statements'.header_from j f) s head-zero (λ place. must (mark marks.Semicolon) (Punctuator marks.Semicolon) (fill (Punctuator marks.Semicolon)) refl _ _ _ _ s (λ t c. into (rest-of-for f _ c)) (half-on _ _ _ _ _ s (λ kind c. past (for-variables f _ kind c)) (into (for-expression f s)).half))
 
   for-statement : (f : Flags) (at : ℕ) (s : Input) → Viable lim (λ y us. Behind us) Any (λ us. Head (Punctuator marks.LeftParenthesis) us) (s6.for_statement i f at) (s6.for_statement j f at) s
   unfolding s6.for_statement
-  for-statement f at s = bind _ _ (group-must i j h.opens marks.LeftParenthesis refl _ _ _ _ s (λ c. for-header f c) (nowhere s)) (λ x c. bind _ _ (h.statement f Under c) (λ y d. done) (λ y us t. t)) (λ y us t. tt)
+  for-statement f at s = bind _ _ (group-must-in i j h.opens (λ n a. a) (opened lim.shallow i.may_open) marks.LeftParenthesis refl _ _ _ _ s (λ c. for-header f c) (nowhere s)) (λ x c. bind _ _ (h.statement f Under c) (λ y d. done) (λ y us t. t)) (λ y us t. tt)
 
   -- ## Jumps
 
@@ -258,13 +258,13 @@ module _ {lim : Limit} {l : ℕ} (i j : Inner) (h : Better lim l i j) where
   unfolding s6.switch_statement
   switch-statement f at s = bind _ _ (parenthesized f s) (λ x c. bind _ _ (group-must i j h.opens marks.LeftBrace refl _ _ _ _ c (λ d. cases f true h.turns d) (nowhere c)) (λ y d. done) (λ y us t. tt)) (λ y us t. tt)
 
-  catch-parameter : (f : Flags) (s : Input) → Viable lim Free Any (λ us. Head x_ us) (s6.catch_parameter i f) (s6.catch_parameter j f) s
+  catch-parameter : (f : Flags) (s : Input) → Viable (inside lim i.may_open) Free Any (λ us. Head x_ us) (s6.catch_parameter i f) (s6.catch_parameter j f) s
   unfolding s6.catch_parameter
   catch-parameter f s = bind _ _ (h.target (with_in f) s) (λ x c. bind _ _ (take-mark {F = Free} marks.RightParenthesis refl c) (λ t d. done) (λ y us t. tt)) (λ y us t. tt)
 
   handler : (f : Flags) (s : Input) → Viable lim Free Any (λ us. Head (Word (codes "catch")) us) (s6.handler i f) (s6.handler j f) s
   unfolding s6.handler
-  handler f s = begins (statements'.handler_from i f) (statements'.handler_from j f) s head-zero (λ place. bind _ _ (take-word {F = Free} (codes "catch") refl s) (λ t c. bind _ _ (group-must i j h.opens marks.LeftParenthesis refl _ _ _ _ c (λ d. catch-parameter f d) (nowhere c)) (λ x d. bind _ _ (block i j h f d) (λ b k. done) (λ y us t. tt)) (λ y us t. tt)) (λ y us t. tt))
+  handler f s = begins (statements'.handler_from i f) (statements'.handler_from j f) s head-zero (λ place. bind _ _ (take-word {F = Free} (codes "catch") refl s) (λ t c. bind _ _ (group-must-in i j h.opens (λ n a. a) (opened lim.shallow i.may_open) marks.LeftParenthesis refl _ _ _ _ c (λ d. catch-parameter f d) (nowhere c)) (λ x d. bind _ _ (block i j h f d) (λ b k. done) (λ y us t. tt)) (λ y us t. tt)) (λ y us t. tt))
 
   after-handler : (f : Flags) (at : ℕ) (b : Block) (x : Catch) (s : Input) → Viable lim (λ y us. Behind us) Any (λ us. Behind us) (s6.after_handler i f at b x) (s6.after_handler j f at b x) s
   unfolding s6.after_handler
@@ -329,7 +329,7 @@ module _ {lim : Limit} {l : ℕ} (i j : Inner) (h : Better lim l i j) where
 
   plain-statement : (f : Flags) (at : ℕ) (s : Input) → Partly lim (λ y us. Behind us) Any (s6.plain_statement i f at) (s6.plain_statement j f at) s
   unfolding s6.plain_statement
-  plain-statement f at s = half-looks _ _ _ _ _ s stops (half-looks _ _ _ _ _ s stops (expression-statement f at s).half)
+  plain-statement f at s = half-looks _ _ _ _ _ s (stops (λ e. absurd (cc))) (half-looks _ _ _ _ _ s (stops (λ e. absurd (cc))) (expression-statement f at s).half)
 
   jump-statement : (f : Flags) (stand : Stand) (at : ℕ) (s : Input) → Partly lim (λ y us. Behind us) Any (s6.jump_statement i f stand at) (s6.jump_statement j f stand at) s
   unfolding s6.jump_statement
@@ -358,7 +358,7 @@ module _ {lim : Limit} {l : ℕ} (i j : Inner) (h : Better lim l i j) where
 
   imported-names : (s : Input) → Viable lim Free Any (λ us. Head (Punctuator marks.Star) us) (m6.imported_names i) (m6.imported_names j) s
   unfolding m6.imported_names
-  imported-names s = must (mark marks.Star) (Punctuator marks.Star) (fill (Punctuator marks.Star)) refl _ _ _ _ s (λ t c. namespace c) (half-group i j h.opens marks.LeftBrace _ _ _ _ s (λ c. past (bind _ _ (imports h.turns c) (λ x d. done) (λ y us t. tt))) (nowhere s))
+  imported-names s = must (mark marks.Star) (Punctuator marks.Star) (fill (Punctuator marks.Star)) refl _ _ _ _ s (λ t c. namespace c) (half-group i j h.opens marks.LeftBrace _ _ _ _ s (λ c. bind _ _ (imports h.turns c) (λ x d. done) (λ y us t. tt)) (nowhere s))
 
   rest-of-import : (at : ℕ) (n : Option Identifier) (names : ImportedNames) (s : Input) → Viable lim Free Any (λ us. Head (Word (codes "from")) us) (m6.rest_of_import i at n names) (m6.rest_of_import j at n names) s
   unfolding m6.rest_of_import

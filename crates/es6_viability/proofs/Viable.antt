@@ -1,13 +1,18 @@
--- What a reader took can be completed: there are tokens with which a reader with more turns and more room reads the whole.
+-- What a reader took can be completed: there are tokens with which a reader with more turns and more room reads the whole. So can it
+-- with the token at which it stops for depth, but where a limit says that it needn't.
 use Rattle.std.proofs.Common.{◌≡◌, ◌∙◌, ℕ, suc, ◌≤◌, arith, Bool, true, false, List, [], ◌∷◌, ◌++◌, map, length, Option, Some, None, refl, sym, ap, subst, append_assoc}
+use Rattle.std.proofs.lemmas.Bool.{false≢true}
 use Rattle.std.proofs.lemmas.List.{map-append}
 use Rattle.es6_lexer.specs.declared.token.TokenKind.{TokenKind}
+use Rattle.es6_lexer.specs.declared.token.NumberToken.TheVariants.{TooLarge, Marked}
+use Rattle.es6_lexer.specs.declared.token.TokenKind.TheVariants as kinds
 use Rattle.es6_lexer.specs.declared.token.TokenKind.TheVariants.{Punctuator}
 use Rattle.es6_lexer.specs.declared.token.Punctuator.{Punctuator as Mark}
+use Rattle.es6_lexer.specs.declared.token.Punctuator.TheVariants as marks
 use Rattle.es6_ast.specs.declared.settings.Stop.{Stop}
 use Rattle.es6_ast.specs.declared.settings.Stop.TheVariants.{Depth, Endless}
-use Rattle.es6_ast.specs.Tokens.{Filled, Read, begin_of}
-use Rattle.es6_reading.specs.Parser.{Input, Outcome, Took, Fault, Parser, fails, after, on, on_taken, choose, next_is, if_next, from, take_as, mark, next_mark, refused, no_number, no_expression, Inner, on_group, kept_if, is_insertable}
+use Rattle.es6_ast.specs.Tokens.{Filled, Filling, Read, begin_of}
+use Rattle.es6_reading.specs.Parser.{Input, Outcome, Took, Fault, Parser, fails, after, stop_in, number_stop_in, expression_stop_in, stop_at, on, on_taken, choose, next_is, if_next, from, take_as, mark, next_mark, refused, no_number, no_expression, Inner, on_group, kept_if, is_insertable}
 use Rattle.es6_reading.proofs.Follows.{SameHead, nothing, same}
 use Rattle.es6_reading.proofs.Posts.{Misses}
 
@@ -32,16 +37,42 @@ Any x = Unit {0}
 fills-append : (ks ms : List TokenKind) (us : List Filled) → fills (ks ++ ms) ++ us ≡ fills ks ++ (fills ms ++ us)
 fills-append ks ms us = ap (λ vs. vs ++ us) (map-append fill ks ms) ∙ append_assoc (fills ks) (fills ms) us
 
+-- what stops a reader at a token isn't depth
+stop-deep : (k : Filling) → stop_in k ≡ Depth → ⊥
+stop-deep (Read (kinds.Fault kind)) e = absurd (cc)
+stop-deep k e = absurd (cc)
+
+number-deep : (k : Filling) → number_stop_in k ≡ Depth → ⊥
+number-deep (Read (kinds.Number TooLarge)) e = absurd (cc)
+number-deep (Read (kinds.Number Marked)) e = absurd (cc)
+number-deep k e = stop-deep k e
+
+expression-deep : (k : Filling) → expression_stop_in k ≡ Depth → ⊥
+expression-deep (Read (kinds.Punctuator marks.Slash)) e = absurd (cc)
+expression-deep (Read (kinds.Punctuator marks.SlashAssign)) e = absurd (cc)
+expression-deep k e = number-deep k e
+
+never-deep : {stop : Filling → Stop} → ((k : Filling) → stop k ≡ Depth → ⊥) → (ts : List Filled) → stop_at stop ts ≡ Depth → ⊥
+never-deep h [] e = absurd (cc)
+never-deep h (t ∷ ts) e = h t.kind e
+
 -- ## What a reader left
 
 abbrev pub left : {A : Type 0} → Outcome A → List Filled
 left (Took x c) = c.tokens
 left (Fault stop ts) = ts
 
+-- how many tokens may follow where a reader gives up what nests too far, and whether one that stops for depth may stop at a token that
+-- completes nothing
+pub record Limit : Type 1 where
+  pub allows : ℕ → Type 0
+  pub grows : (n m : ℕ) → n ≤ m → allows n → allows m
+  pub shallow : Type 0
+
 -- what was taken is taken so whatever follows the next token
-abbrev pub Stays : {A : Type 0} → (List Filled → Outcome A) → List Filled → Outcome A → Type 0
-Stays run front (Took x c) = (rest : List Filled) → SameHead c.tokens rest → run (front ++ rest) ≡ Took x (record { tokens = rest; last = c.last })
-Stays run front (Fault stop ts) = Unit {0}
+abbrev pub Stays : {A : Type 0} → Limit → (List Filled → Outcome A) → List Filled → Outcome A → Type 0
+Stays lim run front (Took x c) = (rest : List Filled) → SameHead c.tokens rest → run (front ++ rest) ≡ Took x (record { tokens = rest; last = c.last })
+Stays lim run front (Fault stop ts) = stop ≡ Depth → lim.shallow
 
 -- Completions: before any tokens that may follow their value, the whole is read.
 pub record Ends {A : Type 0} (F : A → List Filled → Type 0) (P : A → Type 0) (run : List Filled → Outcome A) (front : List Filled) : Type 0 where
@@ -60,15 +91,11 @@ pub record Fresh {A : Type 0} (F : A → List Filled → Type 0) (P : A → Type
   pub reads : (us : List Filled) → F value us → run (fills more ++ us) ≡ Took value (record { tokens = us; last = last })
   pub starts : (us : List Filled) → F value us → S (fills more ++ us)
 
--- how many tokens may follow where a reader gives up what nests too far
-pub record Limit : Type 1 where
-  pub allows : ℕ → Type 0
-  pub grows : (n m : ℕ) → n ≤ m → allows n → allows m
-
--- from where a reader stood, if it took a token; or it gave up what nests too far
+-- From where a reader stood, if it took a token, or with the token at which it stopped for depth; or it gave up what nests too far.
 pub data Half (lim : Limit) {A : Type 0} (F : A → List Filled → Type 0) (P : A → Type 0) (run : List Filled → Outcome A) (ts : List Filled) : Outcome A → Type 0 where
-  stands : {o : Outcome A} → ts ≡ left o → Stays run [] o → Half lim F P run ts o
-  some : {o : Outcome A} (t : Filled) (front : List Filled) → ts ≡ (t ∷ front) ++ left o → Stays run (t ∷ front) o → Ends F P run (t ∷ front) → Half lim F P run ts o
+  stands : {o : Outcome A} → ts ≡ left o → Stays lim run [] o → Half lim F P run ts o
+  some : {o : Outcome A} (t : Filled) (front : List Filled) → ts ≡ (t ∷ front) ++ left o → Stays lim run (t ∷ front) o → Ends F P run (t ∷ front) → Half lim F P run ts o
+  beyond : {t : Filled} {us : List Filled} (front : List Filled) → ts ≡ front ++ t ∷ us → Ends F P run (front ++ t ∷ []) → Half lim F P run ts (Fault Depth (t ∷ us))
   gives_up : {us : List Filled} → lim.allows (length ts) → Half lim F P run ts (Fault Endless us)
 
 pub record Goes (lim : Limit) {A : Type 0} (F : A → List Filled → Type 0) (P : A → Type 0) (S : List Filled → Type 0) (run : List Filled → Outcome A) (ts : List Filled) (o : Outcome A) : Type 0 where
@@ -99,6 +126,11 @@ Begins F P S p last = Fresh F P S (run_of p last)
 same-through : {ts : List Filled} (us : List Filled) (t : Filled) (front rest : List Filled) → ts ≡ (t ∷ front) ++ us → SameHead ts ((t ∷ front) ++ rest)
 same-through us t front rest e = subst (λ vs. SameHead vs (t ∷ front ++ rest)) (sym e) same
 
+-- tokens begin as those up to one of them
+same-up-to : {ts : List Filled} (front : List Filled) (t : Filled) (us rest : List Filled) → ts ≡ front ++ t ∷ us → SameHead ts ((front ++ t ∷ []) ++ rest)
+same-up-to [] t us rest e = subst (λ vs. SameHead vs (t ∷ rest)) (sym e) same
+same-up-to (u ∷ front) t us rest e = subst (λ vs. SameHead vs (u ∷ (front ++ t ∷ []) ++ rest)) (sym e) same
+
 up-one : (n : ℕ) → n ≤ suc n
 up-one n = omega arith
 
@@ -115,6 +147,10 @@ up-front (t ∷ front) us = up (length us) (length (front ++ us)) (up-front fron
 pub allowed-before : (lim : Limit) {ts : List Filled} (front us : List Filled) → ts ≡ front ++ us → lim.allows (length us) → lim.allows (length ts)
 allowed-before lim front us e k = subst (λ vs. lim.allows (length vs)) (sym e) (lim.grows (length us) (length (front ++ us)) (up-front front us) k)
 
+stays-within : {A : Type 0} (lim other : Limit) (run : List Filled → Outcome A) (front : List Filled) → (lim.shallow → other.shallow) → (o : Outcome A) → Stays lim run front o → Stays other run front o
+stays-within lim other run front v (Took x c) k = k
+stays-within lim other run front v (Fault stop us) k = λ e. v (k e)
+
 module _ {A : Type 0} {F : A → List Filled → Type 0} {P : A → Type 0} where
   pub free : {S : List Filled → Type 0} {run : List Filled → Outcome A} → Fresh F P S run → Fresh F P Anything run
   free f = record { more = f.more; value = f.value; last = f.last; ok = f.ok; reads = f.reads; starts = λ us h. tt }
@@ -130,37 +166,40 @@ module _ {A : Type 0} {F : A → List Filled → Type 0} {P : A → Type 0} wher
   -- other runs that agree where the tokens begin alike
   pub relay : {lim : Limit} {run run' : List Filled → Outcome A} {ts : List Filled} {o : Outcome A} → ((us : List Filled) → SameHead ts us → run' us ≡ run us) → Half lim F P run ts o → Half lim F P run' ts o
   relay h (stands {o = Took x c} e k) = stands e (λ rest m. h rest (subst (λ vs. SameHead vs rest) (sym e) m) ∙ k rest m)
-  relay h (stands {o = Fault stop us} e k) = stands e tt
+  relay h (stands {o = Fault stop us} e k) = stands e k
   relay {run' = run'} h (some {o = Took x c} t front e k n) = some t front e (λ rest m. h ((t ∷ front) ++ rest) (same-through c.tokens t front rest e) ∙ k rest m)
       (record { more = n.more; value = n.value; last = n.last; ok = n.ok; reads = λ us m. h ((t ∷ front) ++ (fills n.more ++ us)) (same-through c.tokens t front (fills n.more ++ us) e) ∙ n.reads us m })
-  relay {run' = run'} h (some {o = Fault stop vs} t front e k n) = some t front e tt
+  relay {run' = run'} h (some {o = Fault stop vs} t front e k n) = some t front e k
       (record { more = n.more; value = n.value; last = n.last; ok = n.ok; reads = λ us m. h ((t ∷ front) ++ (fills n.more ++ us)) (same-through vs t front (fills n.more ++ us) e) ∙ n.reads us m })
+  relay h (beyond {t = t} {us = vs} front e n) = beyond front e (record { more = n.more; value = n.value; last = n.last; ok = n.ok; reads = λ us m. h ((front ++ t ∷ []) ++ (fills n.more ++ us)) (same-up-to front t vs (fills n.more ++ us) e) ∙ n.reads us m })
   relay h (gives_up k) = gives_up k
 
   -- after a token that was taken
   behind-it : {lim : Limit} {run run' : List Filled → Outcome A} {ts : List Filled} {o : Outcome A} (t : Filled) → ((us : List Filled) → run' (t ∷ us) ≡ run us) → Past lim F P run ts o → Half lim F P run' (t ∷ ts) o
-  behind-it {run = run} {run' = run'} t h (goes (stands {o = o} e k) n) = some t [] (ap (λ vs. t ∷ vs) e) (stays-behind o k) (record { more = n.more; value = n.value; last = n.last; ok = n.ok; reads = λ us m. h (fills n.more ++ us) ∙ n.reads us m })
+  behind-it {lim = lim} {run = run} {run' = run'} t h (goes (stands {o = o} e k) n) = some t [] (ap (λ vs. t ∷ vs) e) (stays-behind o k) (record { more = n.more; value = n.value; last = n.last; ok = n.ok; reads = λ us m. h (fills n.more ++ us) ∙ n.reads us m })
     where
-      stays-behind : (o : Outcome A) → Stays run [] o → Stays run' (t ∷ []) o
+      stays-behind : (o : Outcome A) → Stays lim run [] o → Stays lim run' (t ∷ []) o
       stays-behind (Took x c) k = λ rest m. h rest ∙ k rest m
-      stays-behind (Fault stop us) k = tt
-  behind-it {run = run} {run' = run'} t h (goes (some {o = o} u front e k n) f) = some t (u ∷ front) (ap (λ vs. t ∷ vs) e) (stays-behind o k) (record { more = n.more; value = n.value; last = n.last; ok = n.ok; reads = λ us m. h ((u ∷ front) ++ (fills n.more ++ us)) ∙ n.reads us m })
+      stays-behind (Fault stop us) k = k
+  behind-it {lim = lim} {run = run} {run' = run'} t h (goes (some {o = o} u front e k n) f) = some t (u ∷ front) (ap (λ vs. t ∷ vs) e) (stays-behind o k) (record { more = n.more; value = n.value; last = n.last; ok = n.ok; reads = λ us m. h ((u ∷ front) ++ (fills n.more ++ us)) ∙ n.reads us m })
     where
-      stays-behind : (o : Outcome A) → Stays run (u ∷ front) o → Stays run' (t ∷ u ∷ front) o
+      stays-behind : (o : Outcome A) → Stays lim run (u ∷ front) o → Stays lim run' (t ∷ u ∷ front) o
       stays-behind (Took x c) k = λ rest m. h ((u ∷ front) ++ rest) ∙ k rest m
-      stays-behind (Fault stop us) k = tt
+      stays-behind (Fault stop us) k = k
+  behind-it t h (goes (beyond {t = u} front e n) f) = beyond (t ∷ front) (ap (λ vs. t ∷ vs) e) (record { more = n.more; value = n.value; last = n.last; ok = n.ok; reads = λ us m. h ((front ++ u ∷ []) ++ (fills n.more ++ us)) ∙ n.reads us m })
   behind-it {lim = lim} {ts = ts} t h (goes (gives_up k) f) = gives_up (lim.grows (length ts) (suc (length ts)) (up-one (length ts)) k)
   behind-it {lim = lim} {ts = ts} t h (used_up k) = gives_up (lim.grows (length ts) (suc (length ts)) (up-one (length ts)) k)
 
   -- ## Other limits
 
-  pub half-within : {lim other : Limit} {run : List Filled → Outcome A} {ts : List Filled} {o : Outcome A} → ((n : ℕ) → lim.allows n → other.allows n) → Half lim F P run ts o → Half other F P run ts o
-  half-within w (stands e k) = stands e k
-  half-within w (some t front e k n) = some t front e k n
-  half-within {ts = ts} w (gives_up k) = gives_up (w (length ts) k)
+  pub half-within : {lim other : Limit} {run : List Filled → Outcome A} {ts : List Filled} {o : Outcome A} → ((n : ℕ) → lim.allows n → other.allows n) → (lim.shallow → other.shallow) → Half lim F P run ts o → Half other F P run ts o
+  half-within {lim = lim} {other = other} {run = run} w v (stands {o = o} e k) = stands e (stays-within lim other run [] v o k)
+  half-within {lim = lim} {other = other} {run = run} w v (some {o = o} t front e k n) = some t front e (stays-within lim other run (t ∷ front) v o k) n
+  half-within w v (beyond front e n) = beyond front e n
+  half-within {ts = ts} w v (gives_up k) = gives_up (w (length ts) k)
 
-  pub goes-within : {lim other : Limit} {S : List Filled → Type 0} {run : List Filled → Outcome A} {ts : List Filled} {o : Outcome A} → ((n : ℕ) → lim.allows n → other.allows n) → Goes lim F P S run ts o → Goes other F P S run ts o
-  goes-within w g = record { half = half-within w g.half; fresh = g.fresh }
+  pub goes-within : {lim other : Limit} {S : List Filled → Type 0} {run : List Filled → Outcome A} {ts : List Filled} {o : Outcome A} → ((n : ℕ) → lim.allows n → other.allows n) → (lim.shallow → other.shallow) → Goes lim F P S run ts o → Goes other F P S run ts o
+  goes-within w v g = record { half = half-within w v g.half; fresh = g.fresh }
 
   -- ## Readers that take nothing
 
@@ -171,20 +210,20 @@ module _ {A : Type 0} {F : A → List Filled → Type 0} {P : A → Type 0} wher
   pub rests : {lim : Limit} {last : ℕ} {ts : List Filled} {x : A} → Half lim F P (λ us. Took x (record { tokens = us; last = last })) ts (Took x (record { tokens = ts; last = last }))
   rests = stands refl (λ rest k. refl)
 
-  pub stops : {lim : Limit} {run : List Filled → Outcome A} {ts : List Filled} {stop : Stop} → Half lim F P run ts (Fault stop ts)
-  stops = stands refl tt
+  pub stops : {lim : Limit} {run : List Filled → Outcome A} {ts : List Filled} {stop : Stop} → (stop ≡ Depth → lim.shallow) → Half lim F P run ts (Fault stop ts)
+  stops h = stands refl h
 
   pub nowhere-by : {lim : Limit} (p' : Parser A) (s : Input) → Partly lim F P refused p' s
   unfolding refused
-  nowhere-by p' s = stops
+  nowhere-by p' s = stops (λ e. absurd (never-deep stop-deep s.tokens e))
 
   pub number-by : {lim : Limit} (p' : Parser A) (s : Input) → Partly lim F P no_number p' s
   unfolding no_number
-  number-by p' s = stops
+  number-by p' s = stops (λ e. absurd (never-deep number-deep s.tokens e))
 
   pub expression-by : {lim : Limit} (p' : Parser A) (s : Input) → Partly lim F P no_expression p' s
   unfolding no_expression
-  expression-by p' s = stops
+  expression-by p' s = stops (λ e. absurd (never-deep expression-deep s.tokens e))
 
   pub nowhere : {lim : Limit} (s : Input) → Partly lim F P refused refused s
   nowhere s = nowhere-by refused s
@@ -229,60 +268,69 @@ module _ {A B : Type 0} {F : A → List Filled → Type 0} {P : A → Type 0} {G
 module _ {A B : Type 0} {F : A → List Filled → Type 0} {P : A → Type 0} {G : B → List Filled → Type 0} {Q : B → Type 0} {T : A → List Filled → Type 0} (run : List Filled → Outcome A) (q' : A → Parser B)
     (f : (y : A) (last : ℕ) → P y → Fresh G Q (T y) (run_of (q' y) last)) (k : (y : A) (us : List Filled) → P y → T y us → F y us) where
   -- a reader that took something, and one behind it, which took nothing more
-  some-then : {lim : Limit} {ts : List Filled} {x : A} {c : Input} (o : Outcome B) (t : Filled) (front : List Filled) → ts ≡ (t ∷ front) ++ c.tokens → Stays run (t ∷ front) (Took x c) → Ends F P run (t ∷ front) → c.tokens ≡ left o → Stays (run_of (q' x) c.last) [] o
+  some-then : {lim : Limit} {ts : List Filled} {x : A} {c : Input} (o : Outcome B) (t : Filled) (front : List Filled) → ts ≡ (t ∷ front) ++ c.tokens → Stays lim run (t ∷ front) (Took x c) → Ends F P run (t ∷ front) → c.tokens ≡ left o → Stays lim (run_of (q' x) c.last) [] o
       → Half lim G Q (λ us. after (run us) q') ts o
   some-then (Took y d) t front e l n i j = some t front (e ∙ ap (λ us. (t ∷ front) ++ us) i)
       (λ rest m. ap (λ o. after o q') (l rest (subst (λ us. SameHead us rest) (sym i) m)) ∙ j rest m) (ends-bind q' f k n)
-  some-then (Fault stop us) t front e l n i j = some t front (e ∙ ap (λ vs. (t ∷ front) ++ vs) i) tt (ends-bind q' f k n)
+  some-then (Fault stop us) t front e l n i j = some t front (e ∙ ap (λ vs. (t ∷ front) ++ vs) i) j (ends-bind q' f k n)
 
   -- both took something
-  both-took : {lim : Limit} {ts : List Filled} {x : A} {c : Input} (o : Outcome B) (front : List Filled) → ts ≡ front ++ c.tokens → Stays run front (Took x c)
-      → (u : Filled) (inner : List Filled) → c.tokens ≡ (u ∷ inner) ++ left o → Stays (run_of (q' x) c.last) (u ∷ inner) o → Ends G Q (run_of (q' x) c.last) (u ∷ inner) → Half lim G Q (λ us. after (run us) q') ts o
+  both-took : {lim : Limit} {ts : List Filled} {x : A} {c : Input} (o : Outcome B) (front : List Filled) → ts ≡ front ++ c.tokens → Stays lim run front (Took x c)
+      → (u : Filled) (inner : List Filled) → c.tokens ≡ (u ∷ inner) ++ left o → Stays lim (run_of (q' x) c.last) (u ∷ inner) o → Ends G Q (run_of (q' x) c.last) (u ∷ inner) → Half lim G Q (λ us. after (run us) q') ts o
   both-took {lim = lim} {ts = ts} {x = x} {c = c} o front e l u inner i j n = at front e l
     where
-      onto : (front rest : List Filled) → Stays run front (Took x c) → after (run ((front ++ (u ∷ inner)) ++ rest)) q' ≡ q' x (record { tokens = (u ∷ inner) ++ rest; last = c.last })
+      onto : (front rest : List Filled) → Stays lim run front (Took x c) → after (run ((front ++ (u ∷ inner)) ++ rest)) q' ≡ q' x (record { tokens = (u ∷ inner) ++ rest; last = c.last })
       onto front rest l = ap (λ us. after (run us) q') (append_assoc front (u ∷ inner) rest) ∙ ap (λ o. after o q') (l ((u ∷ inner) ++ rest) (same-through (left o) u inner rest i))
 
-      stays-both : (front : List Filled) (o : Outcome B) → Stays run front (Took x c) → Stays (run_of (q' x) c.last) (u ∷ inner) o → Stays (λ us. after (run us) q') (front ++ (u ∷ inner)) o
+      stays-both : (front : List Filled) (o : Outcome B) → Stays lim run front (Took x c) → Stays lim (run_of (q' x) c.last) (u ∷ inner) o → Stays lim (λ us. after (run us) q') (front ++ (u ∷ inner)) o
       stays-both front (Took y d) l j = λ rest m. onto front rest l ∙ j rest m
-      stays-both front (Fault stop us) l j = tt
+      stays-both front (Fault stop us) l j = j
 
-      ends-both : (front : List Filled) → Stays run front (Took x c) → Ends G Q (λ us. after (run us) q') (front ++ (u ∷ inner))
+      ends-both : (front : List Filled) → Stays lim run front (Took x c) → Ends G Q (λ us. after (run us) q') (front ++ (u ∷ inner))
       ends-both front l = record { more = n.more; value = n.value; last = n.last; ok = n.ok; reads = λ us m. onto front (fills n.more ++ us) l ∙ n.reads us m }
 
       parts-both : (front : List Filled) → ts ≡ front ++ c.tokens → ts ≡ (front ++ (u ∷ inner)) ++ left o
       parts-both front e = e ∙ ap (λ us. front ++ us) i ∙ sym (append_assoc front (u ∷ inner) (left o))
 
-      at : (front : List Filled) → ts ≡ front ++ c.tokens → Stays run front (Took x c) → Half lim G Q (λ us. after (run us) q') ts o
+      at : (front : List Filled) → ts ≡ front ++ c.tokens → Stays lim run front (Took x c) → Half lim G Q (λ us. after (run us) q') ts o
       at [] e l = some u inner (parts-both [] e) (stays-both [] o l j) (ends-both [] l)
       at (t ∷ front) e l = some t (front ++ (u ∷ inner)) (parts-both (t ∷ front) e) (stays-both (t ∷ front) o l j) (ends-both (t ∷ front) l)
 
+  -- behind what the first took, the second stopped for depth
+  beyond-both : {lim : Limit} {ts us : List Filled} {x : A} {c : Input} {t : Filled} (front inner : List Filled) → ts ≡ front ++ c.tokens → Stays lim run front (Took x c) → c.tokens ≡ inner ++ t ∷ us → Ends G Q (run_of (q' x) c.last) (inner ++ t ∷ []) → Half lim G Q (λ us. after (run us) q') ts (Fault Depth (t ∷ us))
+  beyond-both {us = us} {x = x} {c = c} {t = t} front inner e l i n = beyond (front ++ inner) (e ∙ ap (λ vs. front ++ vs) i ∙ sym (append_assoc front inner (t ∷ us)))
+      (record { more = n.more; value = n.value; last = n.last; ok = n.ok; reads = λ vs m. ap (λ ws. after (run (ws ++ (fills n.more ++ vs))) q') (append_assoc front inner (t ∷ [])) ∙ ap (λ ws. after (run ws) q') (append_assoc front (inner ++ t ∷ []) (fills n.more ++ vs))
+          ∙ ap (λ o. after o q') (l ((inner ++ t ∷ []) ++ (fills n.more ++ vs)) (same-up-to inner t us (fills n.more ++ vs) i)) ∙ n.reads vs m })
+
   -- the first took nothing
-  none-then : {lim : Limit} {ts : List Filled} {x : A} {c : Input} (o : Outcome B) → ts ≡ c.tokens → Stays run [] (Took x c) → c.tokens ≡ left o → Stays (run_of (q' x) c.last) [] o → Half lim G Q (λ us. after (run us) q') ts o
+  none-then : {lim : Limit} {ts : List Filled} {x : A} {c : Input} (o : Outcome B) → ts ≡ c.tokens → Stays lim run [] (Took x c) → c.tokens ≡ left o → Stays lim (run_of (q' x) c.last) [] o → Half lim G Q (λ us. after (run us) q') ts o
   none-then (Took y d) e l i j = stands (e ∙ i) (λ rest m. ap (λ o. after o q') (l rest (subst (λ us. SameHead us rest) (sym i) m)) ∙ j rest m)
-  none-then (Fault stop us) e l i j = stands (e ∙ i) tt
+  none-then (Fault stop us) e l i j = stands (e ∙ i) j
 
   -- the second has another limit
   pub half-bind-by : {lim : Limit} {other : A → Limit} {ts : List Filled} {o : Outcome A} (q : A → Parser B) → Half lim F P run ts o → ((x : A) (c : Input) → o ≡ Took x c → Half (other x) G Q (run_of (q' x) c.last) c.tokens (q x c))
-      → ((x : A) (c : Input) (front : List Filled) → o ≡ Took x c → ts ≡ front ++ c.tokens → (other x).allows (length c.tokens) → lim.allows (length ts)) → Half lim G Q (λ us. after (run us) q') ts (after o q)
-  half-bind-by {lim = lim} {other = other} {ts = ts} q (stands {o = Took x c} e l) h w = by (h x c refl)
+      → ((x : A) (c : Input) (front : List Filled) → o ≡ Took x c → ts ≡ front ++ c.tokens → (other x).allows (length c.tokens) → lim.allows (length ts)) → ((x : A) → (other x).shallow → lim.shallow) → Half lim G Q (λ us. after (run us) q') ts (after o q)
+  half-bind-by {lim = lim} {other = other} {ts = ts} q (stands {o = Took x c} e l) h w v = by (h x c refl)
     where
       by : {o : Outcome B} → Half (other x) G Q (run_of (q' x) c.last) c.tokens o → Half lim G Q (λ us. after (run us) q') ts o
-      by (stands {o = o} i j) = none-then o e l i j
-      by (some {o = o} u inner i j n) = both-took o [] e l u inner i j n
+      by (stands {o = o} i j) = none-then {lim = lim} o e l i (stays-within (other x) lim (run_of (q' x) c.last) [] (v x) o j)
+      by (some {o = o} u inner i j n) = both-took {lim = lim} o [] e l u inner i (stays-within (other x) lim (run_of (q' x) c.last) (u ∷ inner) (v x) o j) n
+      by (beyond inner i n) = beyond-both {lim = lim} [] inner e l i n
       by (gives_up m) = gives_up (w x c [] refl e m)
-  half-bind-by q (stands {o = Fault stop us} e l) h w = stands e tt
-  half-bind-by {lim = lim} {other = other} {ts = ts} q (some {o = Took x c} t front e l n) h w = by (h x c refl)
+  half-bind-by q (stands {o = Fault stop us} e l) h w v = stands e l
+  half-bind-by {lim = lim} {other = other} {ts = ts} q (some {o = Took x c} t front e l n) h w v = by (h x c refl)
     where
       by : {o : Outcome B} → Half (other x) G Q (run_of (q' x) c.last) c.tokens o → Half lim G Q (λ us. after (run us) q') ts o
-      by (stands {o = o} i j) = some-then o t front e l n i j
-      by (some {o = o} u inner i j m) = both-took o (t ∷ front) e l u inner i j m
+      by (stands {o = o} i j) = some-then {lim = lim} o t front e l n i (stays-within (other x) lim (run_of (q' x) c.last) [] (v x) o j)
+      by (some {o = o} u inner i j m) = both-took {lim = lim} o (t ∷ front) e l u inner i (stays-within (other x) lim (run_of (q' x) c.last) (u ∷ inner) (v x) o j) m
+      by (beyond inner i m) = beyond-both {lim = lim} (t ∷ front) inner e l i m
       by (gives_up m) = gives_up (w x c (t ∷ front) refl e m)
-  half-bind-by q (some {o = Fault stop us} t front e l n) h w = some t front e tt (ends-bind q' f k n)
-  half-bind-by q (gives_up k) h w = gives_up k
+  half-bind-by q (some {o = Fault stop us} t front e l n) h w v = some t front e l (ends-bind q' f k n)
+  half-bind-by q (beyond front e n) h w v = beyond front e (ends-bind q' f k n)
+  half-bind-by q (gives_up k) h w v = gives_up k
 
   pub half-bind : {lim : Limit} {ts : List Filled} {o : Outcome A} (q : A → Parser B) → Half lim F P run ts o → ((x : A) (c : Input) → o ≡ Took x c → Half lim G Q (run_of (q' x) c.last) c.tokens (q x c)) → Half lim G Q (λ us. after (run us) q') ts (after o q)
-  half-bind {lim = lim} q g h = half-bind-by {other = λ x. lim} q g h (λ x c front e d m. allowed-before lim front c.tokens d m)
+  half-bind {lim = lim} q g h = half-bind-by {other = λ x. lim} q g h (λ x c front e d m. allowed-before lim front c.tokens d m) (λ x z. z)
 
 module _ {A B : Type 0} {F : A → List Filled → Type 0} {P : A → Type 0} {G : B → List Filled → Type 0} {Q : B → Type 0} {S : List Filled → Type 0} {T : A → List Filled → Type 0} {run : List Filled → Outcome A} {ts : List Filled} {o : Outcome A} where
   pub bind-seen : {lim : Limit} (q q' : A → Parser B) → Goes lim F P S run ts o → ((x : A) (c : Input) → o ≡ Took x c → Half lim G Q (run_of (q' x) c.last) c.tokens (q x c)) → ((y : A) (last : ℕ) → P y → Fresh G Q (T y) (run_of (q' y) last)) → ((y : A) (us : List Filled) → P y → T y us → F y us)
@@ -291,9 +339,9 @@ module _ {A B : Type 0} {F : A → List Filled → Type 0} {P : A → Type 0} {G
 
   -- what is read behind it has another limit
   pub bind-by : {lim : Limit} {other : A → Limit} (q q' : A → Parser B) → Goes lim F P S run ts o → ((x : A) (c : Input) → o ≡ Took x c → Half (other x) G Q (run_of (q' x) c.last) c.tokens (q x c))
-      → ((x : A) (c : Input) (front : List Filled) → o ≡ Took x c → ts ≡ front ++ c.tokens → (other x).allows (length c.tokens) → lim.allows (length ts)) → ((y : A) (last : ℕ) → P y → Fresh G Q (T y) (run_of (q' y) last)) → ((y : A) (us : List Filled) → P y → T y us → F y us)
+      → ((x : A) (c : Input) (front : List Filled) → o ≡ Took x c → ts ≡ front ++ c.tokens → (other x).allows (length c.tokens) → lim.allows (length ts)) → ((x : A) → (other x).shallow → lim.shallow) → ((y : A) (last : ℕ) → P y → Fresh G Q (T y) (run_of (q' y) last)) → ((y : A) (us : List Filled) → P y → T y us → F y us)
       → Goes lim G Q S (λ us. after (run us) q') ts (after o q)
-  bind-by q q' g h w f k = record { half = half-bind-by run q' f k q g.half h w; fresh = fresh-bind q' f k g.fresh }
+  bind-by q q' g h w v f k = record { half = half-bind-by run q' f k q g.half h w v; fresh = fresh-bind q' f k g.fresh }
 
   pub bind-if : {lim : Limit} (q q' : A → Parser B) → Goes lim F P S run ts o → ((x : A) (c : Input) → Half lim G Q (run_of (q' x) c.last) c.tokens (q x c)) → ((y : A) (last : ℕ) → P y → Fresh G Q (T y) (run_of (q' y) last)) → ((y : A) (us : List Filled) → P y → T y us → F y us)
       → Goes lim G Q S (λ us. after (run us) q') ts (after o q)
@@ -307,6 +355,9 @@ module _ {A B : Type 0} {F : A → List Filled → Type 0} {P : A → Type 0} {G
   bind-half q q' g h k = half-bind run q' (λ y last ok. (h y (record { tokens = []; last = last })).fresh) (λ y us ok t. k y us t) q g (λ x c e. (h x c).half)
 
 -- ## Choices
+
+mark-is : (m : Mark) (t : Filled) → next_mark m t ≡ true → (x : Filled) × (mark m t ≡ Some x)
+mark-is m t e = (t, ap (λ v. kept_if v t) e)
 
 pub on-missed : {A B : Type 0} (test : Filled → Option B) (p : B → Parser A) (q : Parser A) (us : List Filled) (last : ℕ) → Misses test us → on test p q (record { tokens = us; last = last }) ≡ q (record { tokens = us; last = last })
 on-missed test p q [] last h = refl
@@ -382,6 +433,14 @@ module _ {A : Type 0} {F : A → List Filled → Type 0} {P : A → Type 0} wher
   pub fresh-choice-yes : {S : List Filled → Type 0} (b : Bool) → b ≡ true → (p' q' : Parser A) (last : ℕ) → Begins F P S p' last → Begins F P S (choose b p' q') last
   fresh-choice-yes {S = S} b e p' q' last f = subst (λ v. Begins F P S (choose v p' q') last) (sym e) f
 
+  half-either-seen : {lim : Limit} (b : Bool) (p p' q q' : Parser A) (s : Input) → (b ≡ true → Partly lim F P p p' s) → Partly lim F P q q' s → Partly lim F P (choose b p q) (choose b p' q') s
+  half-either-seen true p p' q q' s f g = f refl
+  half-either-seen false p p' q q' s f g = g
+
+  -- the next token is seen to be such a one
+  half-looks-seen : {lim : Limit} (test : Filled → Bool) (p p' q q' : Parser A) (s : Input) → (next_is test s.tokens ≡ true → Partly lim F P p p' s) → Partly lim F P q q' s → Partly lim F P (if_next test p q) (if_next test p' q') s
+  half-looks-seen test p p' q q' s f g = relay (λ us k. ap (λ b. choose b p' q' (record { tokens = us; last = s.last })) (same-next test k)) (half-either-seen (next_is test s.tokens) p p' q q' s f g)
+
   pub half-looks : {lim : Limit} (test : Filled → Bool) (p p' q q' : Parser A) (s : Input) → Partly lim F P p p' s → Partly lim F P q q' s → Partly lim F P (if_next test p q) (if_next test p' q') s
   half-looks test p p' q q' s f g = relay (λ us k. ap (λ b. choose b p' q' (record { tokens = us; last = s.last })) (same-next test k)) (half-either (next_is test s.tokens) p p' q q' s f g)
 
@@ -394,6 +453,9 @@ module _ {A : Type 0} {F : A → List Filled → Type 0} {P : A → Type 0} wher
   -- completed with the second reader, or with the first
   pub looks-no : {lim : Limit} {S : List Filled → Type 0} (test : Filled → Bool) (p p' q q' : Parser A) (s : Input) → Partly lim F P p p' s → Viable lim F P S q q' s → ((us : List Filled) → S us → next_is test us ≡ false) → Viable lim F P S (if_next test p q) (if_next test p' q') s
   looks-no test p p' q q' s f g miss = record { half = half-looks test p p' q q' s f g.half; fresh = fresh-no test p' q' s.last g.fresh miss }
+
+  pub looks-no-seen : {lim : Limit} {S : List Filled → Type 0} (test : Filled → Bool) (p p' q q' : Parser A) (s : Input) → (next_is test s.tokens ≡ true → Partly lim F P p p' s) → Viable lim F P S q q' s → ((us : List Filled) → S us → next_is test us ≡ false) → Viable lim F P S (if_next test p q) (if_next test p' q') s
+  looks-no-seen test p p' q q' s f g miss = record { half = half-looks-seen test p p' q q' s f g.half; fresh = fresh-no test p' q' s.last g.fresh miss }
 
   pub looks-yes : {lim : Limit} {S : List Filled → Type 0} (test : Filled → Bool) (p p' q q' : Parser A) (s : Input) → Viable lim F P S p p' s → Partly lim F P q q' s → ((us : List Filled) → S us → next_is test us ≡ true) → Viable lim F P S (if_next test p q) (if_next test p' q') s
   looks-yes test p p' q q' s f g hit = record { half = half-looks test p p' q q' s f.half g; fresh = fresh-yes test p' q' s.last f.fresh hit }
@@ -423,12 +485,29 @@ module _ {A : Type 0} {F : A → List Filled → Type 0} {P : A → Type 0} wher
   half-mode true b' e p p' s f = relay (λ us k. ap (λ v. choose v p' refused (record { tokens = us; last = s.last })) e) f
   half-mode false b' e p p' s f = nowhere-by (choose b' p' refused) s
 
-  pub half-opened : {lim : Limit} (b b' : Bool) (p p' : Parser A) (s : Input) → b' ≡ true → Partly lim F P p p' s → Partly lim F P (choose b p (fails Depth)) (choose b' p' (fails Depth)) s
-  half-opened true b' p p' s e f = relay (λ us k. ap (λ b. choose b p' (fails Depth) (record { tokens = us; last = s.last })) e) f
-  half-opened false b' p p' s e f = stops
+  -- The second reader goes on inside a construct that opens with a token of the test. Where the first one may open none, that token is
+  -- completed by what stands inside.
+  pub half-opening : {B : Type 0} {S : B → List Filled → Type 0} {lim other : Limit} (i j : Inner) → j.may_open ≡ true → ((n : ℕ) → other.allows n → lim.allows n) → (i.may_open ≡ true → other.shallow → lim.shallow) → (test : Filled → Option B) (opens : Filled → Bool) → ((t : Filled) → opens t ≡ true → (x : B) × (test t ≡ Some x)) → (p p' : B → Parser A) (q q' : Parser A) (s : Input)
+      → ((x : B) (c : Input) → Viable other F P (S x) (p x) (p' x) c) → Partly lim F P q q' s → Partly lim F P (if_next opens (choose i.may_open (on test p q) (fails Depth)) q) (if_next opens (choose j.may_open (on test p' q') (fails Depth)) q') s
+  half-opening {B = B} {S = S} {lim = lim} {other = other} i j o w v test opens known p p' q q' s f g = half-looks-seen opens _ _ q q' s (λ seen. relay (λ us k. ap (λ b. choose b (on test p' q') (fails Depth) (record { tokens = us; last = s.last })) o) (by i.may_open refl s.tokens s.last seen g)) g
+    where
+      ends-at : (t : Filled) (x : B) (last : ℕ) → test t ≡ Some x → Ends F P (λ us. on test p' q' (record { tokens = us; last = last })) (t ∷ [])
+      ends-at t x last e =
+          let n = (f x (record { tokens = []; last = t.span.end })).fresh in
+          record { more = n.more; value = n.value; last = n.last; ok = n.ok; reads = λ us m. ap (λ z. on_taken z t (fills n.more ++ us) p' q' (record { tokens = t ∷ (fills n.more ++ us); last = last })) e ∙ n.reads us m }
 
-  pub half-group : {lim : Limit} (i j : Inner) → j.may_open ≡ true → (m : Mark) (p p' q q' : Parser A) (s : Input) → ((c : Input) → Onward lim F P p p' c) → Partly lim F P q q' s → Partly lim F P (on_group i m p q) (on_group j m p' q') s
-  half-group i j o m p p' q q' s f g = half-looks (next_mark m) _ _ q q' s (half-opened i.may_open j.may_open _ _ s o (half-on (mark m) (λ t. p) (λ t. p') q q' s (λ t c. f c) g)) g
+      by : (b : Bool) → i.may_open ≡ b → (ts : List Filled) (last : ℕ) → next_is opens ts ≡ true → Partly lim F P q q' (record { tokens = ts; last = last })
+          → Half lim F P (λ us. on test p' q' (record { tokens = us; last = last })) ts (choose b (on test p q) (fails Depth) (record { tokens = ts; last = last }))
+      by true e ts last seen g = half-on test p p' q q' (record { tokens = ts; last = last }) (λ x c. past (goes-within w (v e) (f x c))) g
+      by false e [] last seen g = absurd (false≢true seen)
+      by false e (t ∷ ts) last seen g = let x = known t seen in beyond [] refl (ends-at t x.0 last x.1)
+
+  -- a group, of which what is read inside has other limits
+  pub half-group-in : {S : List Filled → Type 0} {lim other : Limit} (i j : Inner) → j.may_open ≡ true → ((n : ℕ) → other.allows n → lim.allows n) → (i.may_open ≡ true → other.shallow → lim.shallow) → (m : Mark) (p p' q q' : Parser A) (s : Input) → ((c : Input) → Viable other F P S p p' c) → Partly lim F P q q' s → Partly lim F P (on_group i m p q) (on_group j m p' q') s
+  half-group-in {S = S} i j o w v m p p' q q' s f g = half-opening {S = λ x. S} i j o w v (mark m) (next_mark m) (mark-is m) (λ t. p) (λ t. p') q q' s (λ t c. f c) g
+
+  pub half-group : {S : List Filled → Type 0} {lim : Limit} (i j : Inner) → j.may_open ≡ true → (m : Mark) (p p' q q' : Parser A) (s : Input) → ((c : Input) → Viable lim F P S p p' c) → Partly lim F P q q' s → Partly lim F P (on_group i m p q) (on_group j m p' q') s
+  half-group i j o m p p' q q' s f g = half-group-in i j o (λ n a. a) (λ e z. z) m p p' q q' s f g
 
   fresh-group : {S : List Filled → Type 0} (j : Inner) → j.may_open ≡ true → (m : Mark) → next_mark m (fill (Punctuator m)) ≡ true → (p' q' : Parser A) (last : ℕ) → Begins F P S p' 0 → Begins F P (λ us. Head (Punctuator m) us) (on_group j m p' q') last
   fresh-group j o m e p' q' last f = record {
@@ -444,21 +523,25 @@ module _ {A : Type 0} {F : A → List Filled → Type 0} {P : A → Type 0} wher
       at_mark : List Filled → Input
       at_mark us = record { tokens = fill (Punctuator m) ∷ (fills f.more ++ us); last = last }
 
+  pub group-must-in : {lim other : Limit} {S : List Filled → Type 0} (i j : Inner) → j.may_open ≡ true → ((n : ℕ) → other.allows n → lim.allows n) → (i.may_open ≡ true → other.shallow → lim.shallow) → (m : Mark) → next_mark m (fill (Punctuator m)) ≡ true → (p p' q q' : Parser A) (s : Input) → ((c : Input) → Viable other F P S p p' c) → Partly lim F P q q' s
+      → Viable lim F P (λ us. Head (Punctuator m) us) (on_group i m p q) (on_group j m p' q') s
+  group-must-in i j o w v m e p p' q q' s f g = record { half = half-group-in i j o w v m p p' q q' s f g; fresh = fresh-group j o m e p' q' s.last (f (record { tokens = []; last = 0 })).fresh }
+
   pub group-must : {lim : Limit} {S : List Filled → Type 0} (i j : Inner) → j.may_open ≡ true → (m : Mark) → next_mark m (fill (Punctuator m)) ≡ true → (p p' q q' : Parser A) (s : Input) → ((c : Input) → Viable lim F P S p p' c) → Partly lim F P q q' s
       → Viable lim F P (λ us. Head (Punctuator m) us) (on_group i m p q) (on_group j m p' q') s
-  group-must i j o m e p p' q q' s f g = record { half = half-group i j o m p p' q q' s (λ c. past (f c)) g; fresh = fresh-group j o m e p' q' s.last (f (record { tokens = []; last = 0 })).fresh }
+  group-must i j o m e p p' q q' s f g = group-must-in i j o (λ n a. a) (λ e z. z) m e p p' q q' s f g
 
   pub fresh-without : {S : List Filled → Type 0} (j : Inner) (m : Mark) (p' q' : Parser A) (last : ℕ) → Begins F P S q' last → ((us : List Filled) → S us → next_is (next_mark m) us ≡ false) → Begins F P S (on_group j m p' q') last
   fresh-without j m p' q' last f miss = fresh-no (next_mark m) _ q' last f miss
 
-  pub group-may : {lim : Limit} {S : List Filled → Type 0} (i j : Inner) → j.may_open ≡ true → (m : Mark) (p p' q q' : Parser A) (s : Input) → ((c : Input) → Onward lim F P p p' c) → Viable lim F P S q q' s → ((us : List Filled) → S us → next_is (next_mark m) us ≡ false)
+  pub group-may : {lim : Limit} {S T : List Filled → Type 0} (i j : Inner) → j.may_open ≡ true → (m : Mark) (p p' q q' : Parser A) (s : Input) → ((c : Input) → Viable lim F P T p p' c) → Viable lim F P S q q' s → ((us : List Filled) → S us → next_is (next_mark m) us ≡ false)
       → Viable lim F P S (on_group i m p q) (on_group j m p' q') s
   group-may i j o m p p' q q' s f g miss = record { half = half-group i j o m p p' q q' s f g.half; fresh = fresh-without j m p' q' s.last g.fresh miss }
 
   -- ## Turns
 
   pub endless : {lim : Limit} {S : List Filled → Type 0} {run : List Filled → Outcome A} {ts : List Filled} → Fresh F P S run → Goes lim F P S run ts (Fault Endless ts)
-  endless f = record { half = stops; fresh = f }
+  endless f = record { half = stops (λ e. absurd (cc)); fresh = f }
 
   -- other completions
   pub weaken : {lim : Limit} {G : A → List Filled → Type 0} {Q : A → Type 0} {S : List Filled → Type 0} {run : List Filled → Outcome A} {ts : List Filled} {o : Outcome A} → ((y : A) → P y → Q y) → ((y : A) (us : List Filled) → P y → G y us → F y us) → Goes lim F P S run ts o → Goes lim G Q S run ts o
@@ -467,6 +550,7 @@ module _ {A : Type 0} {F : A → List Filled → Type 0} {P : A → Type 0} wher
       half-weak : {run : List Filled → Outcome A} {ts : List Filled} {o : Outcome A} → Half lim F P run ts o → Half lim G Q run ts o
       half-weak (stands e k) = stands e k
       half-weak (some t front e k n) = some t front e k (record { more = n.more; value = n.value; last = n.last; ok = v n.value n.ok; reads = λ us h. n.reads us (w n.value us n.ok h) })
+      half-weak (beyond front e n) = beyond front e (record { more = n.more; value = n.value; last = n.last; ok = v n.value n.ok; reads = λ us h. n.reads us (w n.value us n.ok h) })
       half-weak (gives_up k) = gives_up k
 
 -- ## Single tokens

@@ -1,10 +1,10 @@
 -- That what a reader takes is alive: some module, expression or statement begins with it.
-use Rattle.std.specs.Prelude.{◌≡◌, ℕ, ◌+◌, ◌<◌, true, List, ◌++◌, length, map}
+use Rattle.std.specs.Prelude.{◌≡◌, ℕ, ◌+◌, ◌<◌, true, List, [], ◌∷◌, ◌++◌, length, map}
 use Rattle.es6_lexer.specs.declared.token.Token.{Token}
 use Rattle.es6_ast.specs.declared.settings.Flags.{Flags}
 use Rattle.es6_ast.specs.declared.settings.Stand.TheVariants.{Listed}
 use Rattle.es6_ast.specs.declared.settings.Stop.{Stop}
-use Rattle.es6_ast.specs.declared.settings.Stop.TheVariants.{Endless}
+use Rattle.es6_ast.specs.declared.settings.Stop.TheVariants.{Depth, Endless}
 use Rattle.es6_ast.specs.Dead.{IsAlive, IsDead}
 use Rattle.es6_ast.specs.Tokens.{Filled, read}
 use Rattle.es6_reading.specs.Expressions.{sequence}
@@ -16,6 +16,10 @@ use Rattle.es6_viability.specs.Fronts.{IsExpressionBefore, IsStatementBefore}
 -- Some module begins with the tokens before a fault, whatever stops the reader there but want of turns.
 abbrev pub TokensBeforeFaultsAreAlive : Type 0
 TokensBeforeFaultsAreAlive = (fuel : ℕ) (front behind : List Token) (stop : Stop) → read_module fuel (map read (front ++ behind)) ≡ Fault stop (map read behind) → (stop ≡ Endless → ⊥) → IsAlive front
+
+-- And with the token at which a reader stops for depth, too.
+abbrev pub DepthFaultsAreAlive : Type 0
+DepthFaultsAreAlive = (fuel : ℕ) (front behind : List Token) (t : Token) → read_module fuel (map read (front ++ t ∷ behind)) ≡ Fault Depth (map read (t ∷ behind)) → IsAlive (front ++ t ∷ [])
 
 -- So no token before a fault is dead: a reader stops no later than at the first token with which no module goes on.
 abbrev pub NoDeadTokenIsPassed : Type 0
@@ -42,3 +46,10 @@ TokensBeforeFaultsBeginExpressions = (fuel room : ℕ) (f : Flags) (front behind
 
 abbrev pub TokensBeforeFaultsBeginStatements : Type 0
 TokensBeforeFaultsBeginStatements = (fuel room : ℕ) (f : Flags) (front behind : List Token) (stop : Stop) → statement (readers true fuel room) f Listed (record { tokens = map read (front ++ behind); last = 0 }) ≡ Fault stop (map read behind) → (stop ≡ Endless → ⊥) → BeginsStatement f front
+
+-- And with the token at which a reader stops for depth, too.
+abbrev pub DepthFaultsBeginExpressions : Type 0
+DepthFaultsBeginExpressions = (fuel room : ℕ) (f : Flags) (front behind : List Token) (t : Token) → sequence (readers true fuel room) f (record { tokens = map read (front ++ t ∷ behind); last = 0 }) ≡ Fault Depth (map read (t ∷ behind)) → BeginsExpression f (front ++ t ∷ [])
+
+abbrev pub DepthFaultsBeginStatements : Type 0
+DepthFaultsBeginStatements = (fuel room : ℕ) (f : Flags) (front behind : List Token) (t : Token) → statement (readers true fuel room) f Listed (record { tokens = map read (front ++ t ∷ behind); last = 0 }) ≡ Fault Depth (map read (t ∷ behind)) → BeginsStatement f (front ++ t ∷ [])

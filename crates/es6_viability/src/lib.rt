@@ -2,6 +2,7 @@
 //! token with which no module goes on, or where too many constructs are open. Each is the contract of a function that does nothing.
 #![tactic(auto)]
 
+ghost use Rattle.es6_viability.specs.Alive.{DepthFaultsAreAlive, DepthFaultsBeginExpressions, DepthFaultsBeginStatements};
 ghost use Rattle.es6_viability.specs.Alive.{NoDeadTokenIsPassed, TokensBeforeFaultsAreAlive};
 ghost use Rattle.es6_viability.specs.Alive.{TokensBeforeFaultsBeginExpressions, TokensBeforeFaultsBeginStatements};
 ghost use Rattle.es6_viability.specs.Fronts.{NoExpressionGoesOn, NoStatementGoesOn, SpelledExpressionsAreRead, SpelledStatementsAreRead};
@@ -14,6 +15,11 @@ ghost use Rattle.es6_viability.specs.TooDeep.{StatementsAreShallow, StatementsAr
 /// Some module begins with the tokens that stand before a fault, unless that is for want of turns.
 pub fn tokens_before_faults_are_alive()
     ensures { TokensBeforeFaultsAreAlive }
+{}
+
+/// Some module begins with the tokens up to that at which a reader stops for depth.
+pub fn depth_faults_are_alive()
+    ensures { DepthFaultsAreAlive }
 {}
 
 /// A reader stops no later than at the first token with which no module goes on.
@@ -124,6 +130,16 @@ pub fn tokens_before_faults_begin_expressions()
 /// Some statement or declaration begins with the tokens that stand before a fault of a reader of statements.
 pub fn tokens_before_faults_begin_statements()
     ensures { TokensBeforeFaultsBeginStatements }
+{}
+
+/// Some expression begins with the tokens up to that at which a reader of expressions stops for depth.
+pub fn depth_faults_begin_expressions()
+    ensures { DepthFaultsBeginExpressions }
+{}
+
+/// Some statement or declaration begins with the tokens up to that at which a reader of statements stops for depth.
+pub fn depth_faults_begin_statements()
+    ensures { DepthFaultsBeginStatements }
 {}
 
 /// No expression goes on with the token at which a reader of it stops, unless it is for want of constructs that may open or of turns.
