@@ -1,21 +1,26 @@
--- A reader of a module stops no later than at the first token that is dead or too deep, and of a module that is read there is none.
-use Rattle.std.proofs.Common.{◌≡◌, ◌∙◌, ◌⊎◌, inl, inr, ℕ, suc, ◌+◌, ◌-◌, ◌<◌, ◌≤◌, true, List, [], ◌++◌, drop, length, map, take, ap, refl, sym, subst, arith}
-use Rattle.std.proofs.lemmas.List.{take-append-drop}
+-- A reader of a module stops no later than at the first token that is dead or too deep, and of a module that is read there is none. What
+-- stops it but for depth is the first.
+use Rattle.std.specs.Prelude.{slice_get}
+use Rattle.std.proofs.Common.{◌≡◌, ◌∙◌, ◌⊎◌, inl, inr, ℕ, suc, ◌+◌, ◌-◌, ◌<◌, ◌≤◌, true, List, [], ◌∷◌, ◌++◌, drop, length, length-append, map, take, ap, refl, sym, subst, arith}
+use Rattle.std.proofs.lemmas.List.{length-map, take-append-drop}
+use Rattle.es6_lexer.specs.declared.token.LexicalKind.{LexicalKind}
 use Rattle.es6_lexer.specs.declared.token.Token.{Token}
 use Rattle.es6_ast.specs.declared.module.Module.{Module}
 use Rattle.es6_ast.specs.declared.settings.Stop.{Stop}
-use Rattle.es6_ast.specs.declared.settings.Stop.TheVariants.{Endless}
-use Rattle.es6_ast.specs.Dead.{IsDead, IsTooDeep}
+use Rattle.es6_ast.specs.declared.settings.Stop.TheVariants.{Endless, Lexical}
+use Rattle.es6_ast.specs.Dead.{IsDead, IsTooDeep, StopsAt}
 use Rattle.es6_ast.specs.Semicolons.{SpellsModule}
-use Rattle.es6_ast.specs.Tokens.{Filled, read}
+use Rattle.es6_ast.specs.Tokens.{Filled, begin_of, read}
+use Rattle.es6_reading.specs.Laws.{IsFinal, Says}
 use Rattle.es6_reading.specs.Modules.{most_open, read_module, readers, whole_module}
 use Rattle.es6_reading.specs.Parser.{Input, Took, Fault}
 use Rattle.es6_reading.proofs.Completeness.{what-is-derived-is-read}
-use Rattle.es6_reading.proofs.PlacesOfModules.{places}
+use Rattle.es6_reading.proofs.PlacesOfModules.{places, says}
 use Rattle.es6_reading.proofs.Spelled.{spelled}
-use Rattle.es6_viability.specs.TooDeep.{NoStopIsPassed, Passes, ReadModulesHaveNoStop}
-use Rattle.es6_viability.proofs.Passed.{no-dead}
-use Rattle.es6_viability.proofs.ReadInserted.{ended-true}
+use Rattle.es6_viability.specs.Spelled.{FaultsAreDead}
+use Rattle.es6_viability.specs.TooDeep.{FaultsStandAtStops, LexicalFaultsAreStops, NoStopIsPassed, Passes, ReadModulesHaveNoStop}
+use Rattle.es6_viability.proofs.Passed.{faults-dead, lexical-reported, no-dead, seam, split}
+use Rattle.es6_viability.proofs.ReadInserted.{ended-true, none-past}
 use Rattle.es6_viability.proofs.Readers.{tokens-alive}
 use Rattle.es6_viability.proofs.TooDeep.{none-too-deep}
 
@@ -45,3 +50,50 @@ no-stop-in-read fuel tokens m after e p l (inl dead) = dead (drop (p + 1) tokens
 no-stop-in-read fuel tokens m after e p l (inr deep) =
     let none : after.tokens ≡ [] = ended-true fuel most_open (map read tokens) m after (sym (module-read fuel (map read tokens)) ∙ e) in
     none-too-deep fuel tokens p (length tokens - suc p) (behind-there p (length tokens) l) (subst (λ o. Passes (length tokens - suc p) o) (sym e) (subst (λ us. length us ≤ length tokens - suc p) (sym none) (least (length tokens - suc p)))) deep
+
+-- ## At the first
+
+dead-there : FaultsAreDead
+dead-there = faults-dead places (none-past what-is-derived-is-read)
+
+ended-not : (stop : Stop) → IsFinal stop → stop ≡ Endless → ⊥
+ended-not stop final e = subst IsFinal e final
+
+before-it : (q p b n : ℕ) → q < p → p + b ≡ n → q + b < n
+before-it q p b n l e = omega (arith, l, e)
+
+pub first-stops : FaultsStandAtStops
+first-stops fuel tokens stop rest e final p l m = record {
+  inside = m;
+  stops = inl (dead-there fuel tokens stop rest e final p l m);
+  first = λ q k. no-stop-passed fuel tokens stop rest e (ended-not stop final) q (before-it q p (length rest) (length tokens) k l);
+}
+
+lengths : (front rest : List Token) (rs : List Filled) → map read rest ≡ rs → length front + length rs ≡ length (front ++ rest)
+lengths front rest rs e = omega (arith, ap length (sym e), length-map rest read, length-append front rest)
+
+shorter : (front rest : List Token) (t : Token) → length front < length (front ++ t ∷ rest)
+shorter front rest t = omega (arith, length-append front (t ∷ rest))
+
+pub lexical-stops : LexicalFaultsAreStops
+lexical-stops fuel tokens kind rest e =
+    let f = places fuel (map read tokens) (Lexical kind) rest e in
+    let s = split tokens f.0 rest f.1 in
+    by s.front s.behind s.whole s.left_
+  where
+    at-token : (front ts : List Token) (t : Token) → map read (t ∷ ts) ≡ rest → tokens ≡ front ++ t ∷ ts → StopsAt tokens (begin_of rest) (Lexical kind)
+    at-token front ts t r w =
+        let l : length front + length rest ≡ length tokens = lengths front (t ∷ ts) rest r ∙ ap length (sym w) in
+        let there = ap (λ us. slice_get us (length front)) w ∙ seam front t ts in
+        record {
+          index = length front;
+          token = t;
+          there = there;
+          stops = first-stops fuel tokens (Lexical kind) rest e tt (length front) l (subst (λ us. length front < length us) (sym w) (shorter front ts t));
+          reported = lexical-reported places says dead-there fuel tokens kind rest e (length front) t l there;
+          place = ap begin_of (sym r);
+        }
+
+    by : (front behind : List Token) → tokens ≡ front ++ behind → map read behind ≡ rest → StopsAt tokens (begin_of rest) (Lexical kind)
+    by front [] w r = absurd (subst (λ us. Says (Lexical kind) us) (sym r) (says fuel (map read tokens) (Lexical kind) rest e))
+    by front (t ∷ ts) w r = at-token front ts t r w

@@ -1,6 +1,7 @@
 -- What a fault for depth means: more constructs are open at its token than may be.
 use Rattle.std.specs.Prelude.{◌≡◌, ℕ, suc, ◌+◌, ◌<◌, ◌≤◌, ◌⊎◌, true, List, [], ◌∷◌, ◌++◌, length, map, count_by}
 use Rattle.es_text.specs.declared.Span.{Span}
+use Rattle.es6_lexer.specs.declared.token.LexicalKind.{LexicalKind}
 use Rattle.es6_lexer.specs.declared.token.Token.{Token}
 use Rattle.es6_lexer.specs.declared.token.TokenKind.TheVariants.{End}
 use Rattle.es6_ast.specs.declared.module.Module.{Module}
@@ -8,14 +9,15 @@ use Rattle.es6_ast.specs.declared.settings.Flags.{Flags}
 use Rattle.es6_ast.specs.declared.settings.Stand.{Stand}
 use Rattle.es6_ast.specs.declared.settings.Stand.TheVariants.{Listed}
 use Rattle.es6_ast.specs.declared.settings.Stop.{Stop}
-use Rattle.es6_ast.specs.declared.settings.Stop.TheVariants.{Depth, Endless}
+use Rattle.es6_ast.specs.declared.settings.Stop.TheVariants.{Depth, Endless, Lexical}
 use Rattle.es6_ast.specs.declared.tree.Expression.{Expression}
 use Rattle.es6_ast.specs.declared.tree.Statement.{Statement}
-use Rattle.es6_ast.specs.Dead.{AreInOrder, IsDead, IsTooDeep}
+use Rattle.es6_ast.specs.Dead.{AreInOrder, IsDead, IsStop, IsTooDeep, StopsAt}
 use Rattle.es6_ast.specs.Depth.{begin_of_last, expression_spans, is_around, open_constructs, open_groups, statement_spans}
 use Rattle.es6_ast.specs.Semicolons.{SpellsModule}
-use Rattle.es6_ast.specs.Tokens.{Filled, read}
+use Rattle.es6_ast.specs.Tokens.{Filled, begin_of, read}
 use Rattle.es6_reading.specs.Expressions.{sequence}
+use Rattle.es6_reading.specs.Laws.{IsFinal}
 use Rattle.es6_reading.specs.Modules.{read_module, readers, whole_module}
 use Rattle.es6_reading.specs.Parser.{Input, Outcome, Parser, Reading, Took, Fault}
 use Rattle.es6_reading.specs.Statements.{statement}
@@ -104,3 +106,11 @@ NoStopIsPassed = (fuel : ℕ) (tokens : List Token) (stop : Stop) (rest : List F
 
 abbrev pub ReadModulesHaveNoStop : Type 0
 ReadModulesHaveNoStop = (fuel : ℕ) (tokens : List Token) (m : Module) (after : Input) → read_module fuel (map read tokens) ≡ Took m after → (p : ℕ) → p < length tokens → (IsDead tokens p ⊎ IsTooDeep tokens p) → ⊥
+
+-- So a fault, but one for depth or for want of turns, stands at the first token at which a reader is to stop, and a lexical one is
+-- reported there as the definition has it.
+abbrev pub FaultsStandAtStops : Type 0
+FaultsStandAtStops = (fuel : ℕ) (tokens : List Token) (stop : Stop) (rest : List Filled) → read_module fuel (map read tokens) ≡ Fault stop rest → IsFinal stop → (p : ℕ) → p + length rest ≡ length tokens → p < length tokens → IsStop tokens p
+
+abbrev pub LexicalFaultsAreStops : Type 0
+LexicalFaultsAreStops = (fuel : ℕ) (tokens : List Token) (kind : LexicalKind) (rest : List Filled) → read_module fuel (map read tokens) ≡ Fault (Lexical kind) rest → StopsAt tokens (begin_of rest) (Lexical kind)

@@ -9,7 +9,7 @@ ghost use Rattle.es6_viability.specs.Fronts.{NoExpressionGoesOn, NoStatementGoes
 ghost use Rattle.es6_viability.specs.Spelled.{FaultsAreDead, LexicalFaultsAreReported, NoneIsSpelledPastFaults, ReadModulesAreSpelled, SpelledModulesAreRead, SpelledModulesAreReadOrLimited};
 ghost use Rattle.es6_viability.specs.TooDeep.{ExpressionsAreShallow, ExpressionsAreTooDeep, ModulesAreTooDeep};
 ghost use Rattle.es6_viability.specs.TooDeep.{ExpressionsPassNoDeepToken, NoDeepTokenIsPassed, StatementsPassNoDeepToken};
-ghost use Rattle.es6_viability.specs.TooDeep.{NoStopIsPassed, ReadModulesHaveNoStop};
+ghost use Rattle.es6_viability.specs.TooDeep.{FaultsStandAtStops, LexicalFaultsAreStops, NoStopIsPassed, ReadModulesHaveNoStop};
 ghost use Rattle.es6_viability.specs.TooDeep.{StatementsAreShallow, StatementsAreTooDeep};
 
 /// Some module begins with the tokens that stand before a fault, unless that is for want of turns.
@@ -115,6 +115,16 @@ pub fn no_deep_token_is_passed()
 /// A reader of a module stops no later than at the first token that is dead or too deep.
 pub fn no_stop_is_passed()
     ensures { NoStopIsPassed }
+{}
+
+/// A fault, unless it is for want of constructs that may open or of turns, stands at the first token that is dead or too deep.
+pub fn faults_stand_at_stops()
+    ensures { FaultsStandAtStops }
+{}
+
+/// A lexical fault stands where the definition has a reader stop, and is what it reports there.
+pub fn lexical_faults_are_stops()
+    ensures { LexicalFaultsAreStops }
 {}
 
 /// No token of a module that is read is dead or too deep.
