@@ -3,6 +3,7 @@ use Rattle.std.specs.Prelude.{codes, is_some, not}
 use Rattle.std.proofs.Common.{◌≡◌, ◌∙◌, ◌⊎◌, inl, inr, ℕ, suc, ◌≤◌, Bool, true, false, List, [], ◌∷◌, Some, None, refl, sym}
 use Rattle.std.proofs.lemmas.Bool.{false≢true}
 use Rattle.es_outside.specs.HostNames.{reserved_words}
+use Rattle.es_text.specs.declared.Span.{Span}
 use Rattle.es6_lexer.specs.declared.token.TokenKind.{TokenKind}
 use Rattle.es6_lexer.specs.declared.token.TokenKind.TheVariants.{Word, Punctuator, Template, End}
 use Rattle.es6_lexer.specs.declared.token.Punctuator.TheVariants as marks
@@ -15,7 +16,7 @@ use Rattle.es6_ast.specs.declared.tree.Expression.{Expression}
 use Rattle.es6_ast.specs.declared.tree.Parameter.{Parameter}
 use Rattle.es6_ast.specs.declared.tree.Part.{Part}
 use Rattle.es6_ast.specs.Settings.{is_leading}
-use Rattle.es6_ast.specs.Tokens.{Filled, begin_of}
+use Rattle.es6_ast.specs.Tokens.{Filled}
 use Rattle.es6_reading.specs.Parser.{Input, Outcome, next_is, mark, word, next_mark, Reading, Inner}
 use Rattle.es6_reading.specs.Refine.{Fits, refine_parameters}
 use Rattle.es6_reading.specs.Words.{free_name, stretch_at, after_at, assign_at, assign_operators, binary_at, binary_operators, is_arrow, unary_at, unary_operators}
@@ -23,7 +24,7 @@ use Rattle.es6_reading.specs.Expressions.{star_at, ends_yield}
 use Rattle.es6_reading.proofs.Derived.{Sound}
 use Rattle.es6_reading.proofs.Locality.{Turns}
 use Rattle.es6_reading.proofs.Posts.{Misses}
-use Rattle.es6_viability.proofs.Viable.{fill, Goes, Head, head, Any, Partly, Viable, Limit, goes-within}
+use Rattle.es6_viability.proofs.Viable.{put, Goes, Head, head, Any, Partly, Viable, Limit, goes-within}
 
 -- a name
 abbrev pub x_ : TokenKind
@@ -35,19 +36,19 @@ Free y us = Unit {0}
 
 -- What may follow an expression that is completed: nothing, a mark that closes or separates, and behind a heritage a brace.
 pub data Closer : Bool → List Filled → Type 0 where
-  parenthesis : {b : Bool} {us : List Filled} → Closer b (fill (Punctuator marks.RightParenthesis) ∷ us)
-  bracket : {b : Bool} {us : List Filled} → Closer b (fill (Punctuator marks.RightBracket) ∷ us)
-  brace : {b : Bool} {us : List Filled} → Closer b (fill (Punctuator marks.RightBrace) ∷ us)
-  semicolon : {b : Bool} {us : List Filled} → Closer b (fill (Punctuator marks.Semicolon) ∷ us)
-  colon : {b : Bool} {us : List Filled} → Closer b (fill (Punctuator marks.Colon) ∷ us)
-  tail : {b : Bool} {us : List Filled} → Closer b (fill (Template [] [] false true) ∷ us)
+  parenthesis : {b : Bool} {span : Span} {us : List Filled} → Closer b (put (Punctuator marks.RightParenthesis) span ∷ us)
+  bracket : {b : Bool} {span : Span} {us : List Filled} → Closer b (put (Punctuator marks.RightBracket) span ∷ us)
+  brace : {b : Bool} {span : Span} {us : List Filled} → Closer b (put (Punctuator marks.RightBrace) span ∷ us)
+  semicolon : {b : Bool} {span : Span} {us : List Filled} → Closer b (put (Punctuator marks.Semicolon) span ∷ us)
+  colon : {b : Bool} {span : Span} {us : List Filled} → Closer b (put (Punctuator marks.Colon) span ∷ us)
+  tail : {b : Bool} {span : Span} {us : List Filled} → Closer b (put (Template [] [] false true) span ∷ us)
   nothing : {b : Bool} → Closer b []
-  opening : {us : List Filled} → Closer true (fill (Punctuator marks.LeftBrace) ∷ us)
+  opening : {span : Span} {us : List Filled} → Closer true (put (Punctuator marks.LeftBrace) span ∷ us)
 
 -- the same, or `=>`
 pub data After : List Filled → Type 0 where
   closes : {us : List Filled} → Closer true us → After us
-  arrow : {us : List Filled} → After (fill (Punctuator marks.Arrow) ∷ us)
+  arrow : {span : Span} {us : List Filled} → After (put (Punctuator marks.Arrow) span ∷ us)
 
 pub wider : (us : List Filled) → Closer false us → Closer true us
 wider us parenthesis = parenthesis
@@ -63,9 +64,9 @@ after-closer us h = closes (wider us h)
 
 -- behind a statement
 pub data Behind : List Filled → Type 0 where
-  behind_brace : {us : List Filled} → Behind (fill (Punctuator marks.RightBrace) ∷ us)
-  behind_while : {us : List Filled} → Behind (fill (Word (codes "while")) ∷ us)
-  behind_end : {us : List Filled} → Behind (fill End ∷ us)
+  behind_brace : {span : Span} {us : List Filled} → Behind (put (Punctuator marks.RightBrace) span ∷ us)
+  behind_while : {span : Span} {us : List Filled} → Behind (put (Word (codes "while")) span ∷ us)
+  behind_end : {span : Span} {us : List Filled} → Behind (put End span ∷ us)
   behind_nothing : Behind []
 
 -- ## Parentheses that only an arrow's parameters have
@@ -161,79 +162,76 @@ pub record Better (lim : Limit) (l : ℕ) (i j : Inner) : Type 0 where
 
 -- ## Tests of what follows
 
-pub each-closer : (Q : List Filled → Type 0) → ((us : List Filled) → Q (fill (Punctuator marks.RightParenthesis) ∷ us)) → ((us : List Filled) → Q (fill (Punctuator marks.RightBracket) ∷ us)) → ((us : List Filled) → Q (fill (Punctuator marks.RightBrace) ∷ us))
-    → ((us : List Filled) → Q (fill (Punctuator marks.Semicolon) ∷ us)) → ((us : List Filled) → Q (fill (Punctuator marks.Colon) ∷ us)) → ((us : List Filled) → Q (fill (Template [] [] false true) ∷ us)) → Q [] → (us : List Filled) → Closer false us → Q us
-each-closer Q a b c d e f z us (parenthesis {us = vs}) = a vs
-each-closer Q a b c d e f z us (bracket {us = vs}) = b vs
-each-closer Q a b c d e f z us (brace {us = vs}) = c vs
-each-closer Q a b c d e f z us (semicolon {us = vs}) = d vs
-each-closer Q a b c d e f z us (colon {us = vs}) = e vs
-each-closer Q a b c d e f z us (tail {us = vs}) = f vs
+pub each-closer : (Q : List Filled → Type 0) → ((span : Span) (us : List Filled) → Q (put (Punctuator marks.RightParenthesis) span ∷ us)) → ((span : Span) (us : List Filled) → Q (put (Punctuator marks.RightBracket) span ∷ us)) → ((span : Span) (us : List Filled) → Q (put (Punctuator marks.RightBrace) span ∷ us))
+    → ((span : Span) (us : List Filled) → Q (put (Punctuator marks.Semicolon) span ∷ us)) → ((span : Span) (us : List Filled) → Q (put (Punctuator marks.Colon) span ∷ us)) → ((span : Span) (us : List Filled) → Q (put (Template [] [] false true) span ∷ us)) → Q [] → (us : List Filled) → Closer false us → Q us
+each-closer Q a b c d e f z us (parenthesis {span = span} {us = vs}) = a span vs
+each-closer Q a b c d e f z us (bracket {span = span} {us = vs}) = b span vs
+each-closer Q a b c d e f z us (brace {span = span} {us = vs}) = c span vs
+each-closer Q a b c d e f z us (semicolon {span = span} {us = vs}) = d span vs
+each-closer Q a b c d e f z us (colon {span = span} {us = vs}) = e span vs
+each-closer Q a b c d e f z us (tail {span = span} {us = vs}) = f span vs
 each-closer Q a b c d e f z us nothing = z
 
-pub each : (Q : List Filled → Type 0) → ((us : List Filled) → Q (fill (Punctuator marks.RightParenthesis) ∷ us)) → ((us : List Filled) → Q (fill (Punctuator marks.RightBracket) ∷ us)) → ((us : List Filled) → Q (fill (Punctuator marks.RightBrace) ∷ us))
-    → ((us : List Filled) → Q (fill (Punctuator marks.Semicolon) ∷ us)) → ((us : List Filled) → Q (fill (Punctuator marks.Colon) ∷ us)) → ((us : List Filled) → Q (fill (Template [] [] false true) ∷ us)) → ((us : List Filled) → Q (fill (Punctuator marks.LeftBrace) ∷ us))
-    → ((us : List Filled) → Q (fill (Punctuator marks.Arrow) ∷ us)) → Q [] → (us : List Filled) → After us → Q us
-each Q a b c d e f g h z us (closes (parenthesis {us = vs})) = a vs
-each Q a b c d e f g h z us (closes (bracket {us = vs})) = b vs
-each Q a b c d e f g h z us (closes (brace {us = vs})) = c vs
-each Q a b c d e f g h z us (closes (semicolon {us = vs})) = d vs
-each Q a b c d e f g h z us (closes (colon {us = vs})) = e vs
-each Q a b c d e f g h z us (closes (tail {us = vs})) = f vs
-each Q a b c d e f g h z us (closes (opening {us = vs})) = g vs
+pub each : (Q : List Filled → Type 0) → ((span : Span) (us : List Filled) → Q (put (Punctuator marks.RightParenthesis) span ∷ us)) → ((span : Span) (us : List Filled) → Q (put (Punctuator marks.RightBracket) span ∷ us)) → ((span : Span) (us : List Filled) → Q (put (Punctuator marks.RightBrace) span ∷ us))
+    → ((span : Span) (us : List Filled) → Q (put (Punctuator marks.Semicolon) span ∷ us)) → ((span : Span) (us : List Filled) → Q (put (Punctuator marks.Colon) span ∷ us)) → ((span : Span) (us : List Filled) → Q (put (Template [] [] false true) span ∷ us)) → ((span : Span) (us : List Filled) → Q (put (Punctuator marks.LeftBrace) span ∷ us))
+    → ((span : Span) (us : List Filled) → Q (put (Punctuator marks.Arrow) span ∷ us)) → Q [] → (us : List Filled) → After us → Q us
+each Q a b c d e f g h z us (closes (parenthesis {span = span} {us = vs})) = a span vs
+each Q a b c d e f g h z us (closes (bracket {span = span} {us = vs})) = b span vs
+each Q a b c d e f g h z us (closes (brace {span = span} {us = vs})) = c span vs
+each Q a b c d e f g h z us (closes (semicolon {span = span} {us = vs})) = d span vs
+each Q a b c d e f g h z us (closes (colon {span = span} {us = vs})) = e span vs
+each Q a b c d e f g h z us (closes (tail {span = span} {us = vs})) = f span vs
+each Q a b c d e f g h z us (closes (opening {span = span} {us = vs})) = g span vs
 each Q a b c d e f g h z us (closes nothing) = z
-each Q a b c d e f g h z us (arrow {us = vs}) = h vs
-
-pub after-zero : (us : List Filled) → After us → begin_of us ≡ 0
-after-zero us k = each (λ us. begin_of us ≡ 0) (λ us. refl) (λ us. refl) (λ us. refl) (λ us. refl) (λ us. refl) (λ us. refl) (λ us. refl) (λ us. refl) refl us k
+each Q a b c d e f g h z us (arrow {span = span} {us = vs}) = h span vs
 
 pub no-dot : (us : List Filled) → After us → Misses (mark marks.Dot) us
-no-dot us k = each (λ us. Misses (mark marks.Dot) us) (λ us. refl) (λ us. refl) (λ us. refl) (λ us. refl) (λ us. refl) (λ us. refl) (λ us. refl) (λ us. refl) tt us k
+no-dot us k = each (λ us. Misses (mark marks.Dot) us) (λ span us. refl) (λ span us. refl) (λ span us. refl) (λ span us. refl) (λ span us. refl) (λ span us. refl) (λ span us. refl) (λ span us. refl) tt us k
 
 pub no-index : (us : List Filled) → After us → next_is (next_mark marks.LeftBracket) us ≡ false
-no-index us k = each (λ us. next_is (next_mark marks.LeftBracket) us ≡ false) (λ us. refl) (λ us. refl) (λ us. refl) (λ us. refl) (λ us. refl) (λ us. refl) (λ us. refl) (λ us. refl) refl us k
+no-index us k = each (λ us. next_is (next_mark marks.LeftBracket) us ≡ false) (λ span us. refl) (λ span us. refl) (λ span us. refl) (λ span us. refl) (λ span us. refl) (λ span us. refl) (λ span us. refl) (λ span us. refl) refl us k
 
 pub no-call : (us : List Filled) → After us → next_is (next_mark marks.LeftParenthesis) us ≡ false
-no-call us k = each (λ us. next_is (next_mark marks.LeftParenthesis) us ≡ false) (λ us. refl) (λ us. refl) (λ us. refl) (λ us. refl) (λ us. refl) (λ us. refl) (λ us. refl) (λ us. refl) refl us k
+no-call us k = each (λ us. next_is (next_mark marks.LeftParenthesis) us ≡ false) (λ span us. refl) (λ span us. refl) (λ span us. refl) (λ span us. refl) (λ span us. refl) (λ span us. refl) (λ span us. refl) (λ span us. refl) refl us k
 
 pub no-template : (us : List Filled) → After us → Misses (stretch_at true true) us
-no-template us k = each (λ us. Misses (stretch_at true true) us) (λ us. refl) (λ us. refl) (λ us. refl) (λ us. refl) (λ us. refl) (λ us. refl) (λ us. refl) (λ us. refl) tt us k
+no-template us k = each (λ us. Misses (stretch_at true true) us) (λ span us. refl) (λ span us. refl) (λ span us. refl) (λ span us. refl) (λ span us. refl) (λ span us. refl) (λ span us. refl) (λ span us. refl) tt us k
 
 pub no-parted : (us : List Filled) → After us → next_is (λ t. is_some (stretch_at true false t)) us ≡ false
-no-parted us k = each (λ us. next_is (λ t. is_some (stretch_at true false t)) us ≡ false) (λ us. refl) (λ us. refl) (λ us. refl) (λ us. refl) (λ us. refl) (λ us. refl) (λ us. refl) (λ us. refl) refl us k
+no-parted us k = each (λ us. next_is (λ t. is_some (stretch_at true false t)) us ≡ false) (λ span us. refl) (λ span us. refl) (λ span us. refl) (λ span us. refl) (λ span us. refl) (λ span us. refl) (λ span us. refl) (λ span us. refl) refl us k
 
 pub no-postfix : (us : List Filled) → After us → Misses after_at us
-no-postfix us k = each (λ us. Misses after_at us) (λ us. refl) (λ us. refl) (λ us. refl) (λ us. refl) (λ us. refl) (λ us. refl) (λ us. refl) (λ us. refl) tt us k
+no-postfix us k = each (λ us. Misses after_at us) (λ span us. refl) (λ span us. refl) (λ span us. refl) (λ span us. refl) (λ span us. refl) (λ span us. refl) (λ span us. refl) (λ span us. refl) tt us k
 
 pub no-power : (us : List Filled) → After us → Misses (mark marks.StarStar) us
-no-power us k = each (λ us. Misses (mark marks.StarStar) us) (λ us. refl) (λ us. refl) (λ us. refl) (λ us. refl) (λ us. refl) (λ us. refl) (λ us. refl) (λ us. refl) tt us k
+no-power us k = each (λ us. Misses (mark marks.StarStar) us) (λ span us. refl) (λ span us. refl) (λ span us. refl) (λ span us. refl) (λ span us. refl) (λ span us. refl) (λ span us. refl) (λ span us. refl) tt us k
 
 pub no-binary : (f : Flags) (level : ℕ) (us : List Filled) → After us → Misses (binary_at f level) us
 unfolding binary_operators
-no-binary f level us k = each (λ us. Misses (binary_at f level) us) (λ us. refl) (λ us. refl) (λ us. refl) (λ us. refl) (λ us. refl) (λ us. refl) (λ us. refl) (λ us. refl) tt us k
+no-binary f level us k = each (λ us. Misses (binary_at f level) us) (λ span us. refl) (λ span us. refl) (λ span us. refl) (λ span us. refl) (λ span us. refl) (λ span us. refl) (λ span us. refl) (λ span us. refl) tt us k
 
 pub no-question : (us : List Filled) → After us → Misses (mark marks.Question) us
-no-question us k = each (λ us. Misses (mark marks.Question) us) (λ us. refl) (λ us. refl) (λ us. refl) (λ us. refl) (λ us. refl) (λ us. refl) (λ us. refl) (λ us. refl) tt us k
+no-question us k = each (λ us. Misses (mark marks.Question) us) (λ span us. refl) (λ span us. refl) (λ span us. refl) (λ span us. refl) (λ span us. refl) (λ span us. refl) (λ span us. refl) (λ span us. refl) tt us k
 
 pub no-arrow : (us : List Filled) → Closer false us → next_is is_arrow us ≡ false
-no-arrow us k = each-closer (λ us. next_is is_arrow us ≡ false) (λ us. refl) (λ us. refl) (λ us. refl) (λ us. refl) (λ us. refl) (λ us. refl) refl us k
+no-arrow us k = each-closer (λ us. next_is is_arrow us ≡ false) (λ span us. refl) (λ span us. refl) (λ span us. refl) (λ span us. refl) (λ span us. refl) (λ span us. refl) refl us k
 
 pub no-assign : (us : List Filled) → Closer false us → Misses assign_at us
 unfolding assign_operators
-no-assign us k = each-closer (λ us. Misses assign_at us) (λ us. refl) (λ us. refl) (λ us. refl) (λ us. refl) (λ us. refl) (λ us. refl) tt us k
+no-assign us k = each-closer (λ us. Misses assign_at us) (λ span us. refl) (λ span us. refl) (λ span us. refl) (λ span us. refl) (λ span us. refl) (λ span us. refl) tt us k
 
 pub no-initializer : (us : List Filled) → Closer false us → Misses (mark marks.Assign) us
-no-initializer us k = each-closer (λ us. Misses (mark marks.Assign) us) (λ us. refl) (λ us. refl) (λ us. refl) (λ us. refl) (λ us. refl) (λ us. refl) tt us k
+no-initializer us k = each-closer (λ us. Misses (mark marks.Assign) us) (λ span us. refl) (λ span us. refl) (λ span us. refl) (λ span us. refl) (λ span us. refl) (λ span us. refl) tt us k
 
 pub no-comma : (us : List Filled) → Closer false us → Misses (mark marks.Comma) us
-no-comma us k = each-closer (λ us. Misses (mark marks.Comma) us) (λ us. refl) (λ us. refl) (λ us. refl) (λ us. refl) (λ us. refl) (λ us. refl) tt us k
+no-comma us k = each-closer (λ us. Misses (mark marks.Comma) us) (λ span us. refl) (λ span us. refl) (λ span us. refl) (λ span us. refl) (λ span us. refl) (λ span us. refl) tt us k
 
 pub no-star : (us : List Filled) → Closer false us → Misses star_at us
-no-star us k = each-closer (λ us. Misses star_at us) (λ us. refl) (λ us. refl) (λ us. refl) (λ us. refl) (λ us. refl) (λ us. refl) tt us k
+no-star us k = each-closer (λ us. Misses star_at us) (λ span us. refl) (λ span us. refl) (λ span us. refl) (λ span us. refl) (λ span us. refl) (λ span us. refl) tt us k
 
 pub no-value : (us : List Filled) → Closer false us → next_is (λ t. not (ends_yield t)) us ≡ false
 unfolding ends_yield
-no-value us k = each-closer (λ us. next_is (λ t. not (ends_yield t)) us ≡ false) (λ us. refl) (λ us. refl) (λ us. refl) (λ us. refl) (λ us. refl) (λ us. refl) refl us k
+no-value us k = each-closer (λ us. next_is (λ t. not (ends_yield t)) us ≡ false) (λ span us. refl) (λ span us. refl) (λ span us. refl) (λ span us. refl) (λ span us. refl) (λ span us. refl) refl us k
 
 pub no-else : (us : List Filled) → Behind us → Misses (word (codes "else")) us
 no-else us behind_brace = refl
@@ -249,10 +247,10 @@ no-finally us behind_nothing = tt
 
 -- ## The name
 
-pub x-free : free_name (fill x_) ≡ Some (codes "x")
+pub x-free : (span : Span) → free_name (put x_ span) ≡ Some (codes "x")
 unfolding reserved_words
-x-free = refl
+x-free span = refl
 
-pub x-no-unary : unary_at (fill x_) ≡ None
+pub x-no-unary : (span : Span) → unary_at (put x_ span) ≡ None
 unfolding unary_operators
-x-no-unary = refl
+x-no-unary span = refl

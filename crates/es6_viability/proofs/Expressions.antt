@@ -42,7 +42,7 @@ use Rattle.es6_reading.proofs.Derived.{Sound}
 use Rattle.es6_reading.proofs.Locality.{Turns, over, turn, Deeper, as_before, nested_less, deeper}
 use Rattle.es6_reading.proofs.Posts.{Holds, took, fault, of_took, on-holds, if-holds, any as any-holds, bind as holds-bind}
 use Rattle.es6_reading.proofs.RefineMore.{kept-before, kept-parameters-of, kept-parameters-before}
-use Rattle.es6_viability.proofs.Viable.{Limit, half-within, goes-within, bind-by, allowed-before, fill, Head, head, Any, Begins, Viable, Partly, Onward, used_up, past, done, done-ok, rests, stops, nowhere, number-by, expression-by, bind, bind-if, bind-half, half-bind, fresh-bind, may, must, fresh-may, fresh-must, half-on, either, half-either, looks-no, looks-no-seen, looks-yes, half-looks, fresh-no, fresh-yes, begins, half-begins, half-group, half-group-in, group-may, endless, weaken, head-zero, on-head, finished, finished-ok, free, half-choice-no, fresh-choice-no, on-missed, no-next, nothing-more, bind-seen}
+use Rattle.es6_viability.proofs.Viable.{Limit, half-within, goes-within, bind-by, allowed-before, put, Head, head, Any, Begins, Viable, Partly, Onward, used_up, past, done, done-ok, rests, stops, nowhere, number-by, expression-by, bind, bind-if, bind-half, half-bind, fresh-bind, may, must, fresh-may, fresh-must, half-on, either, half-either, looks-no, looks-no-seen, looks-yes, half-looks, fresh-no, fresh-yes, begins, half-begins, half-group, half-group-in, group-may, endless, weaken, head-place, on-head, finished, finished-ok, free, half-choice-no, fresh-choice-no, on-missed, no-next, nothing-more, bind-seen}
 use Rattle.es6_viability.proofs.LeftSides.{LeftIn}
 use Rattle.es6_viability.proofs.LeftSides.{conditional as left-conditional}
 use Rattle.es6_viability.proofs.Nesting.{deep-has-tokens}
@@ -118,15 +118,15 @@ no-operand Callee p' s = number-by p' s
 module _ (role : Role) (n : ℕ) where
   covered : {lim : Limit} → is_leading role ≡ true → (at : ℕ) (held : Option Expression) (rest : Option Dots) → ((span : Span) → Refines n (expr.Cover span held rest)) → (s : Input) → Viable lim Follow (Allowed role n) (λ us. Head (Punctuator marks.Arrow) us) (e.covered at held rest) (e.covered at held rest) s
   unfolding e.covered
-  covered leads at held rest r s = looks-yes _ _ _ _ _ s (done-ok (leads, r _)) (nowhere s) (on-head _ (λ us. refl))
+  covered leads at held rest r s = looks-yes _ _ _ _ _ s (done-ok (leads, r _)) (nowhere s) (on-head _ (λ span us. refl))
 
   covered-rest : {lim : Limit} → is_leading role ≡ true → (at dots : ℕ) (held : Option Expression) → ((rest : Dots) (span : Span) → Refines n (expr.Cover span held (Some rest))) → (s : Input) → Viable lim Follow (Allowed role n) (λ us. Head x_ us) (e.covered_rest at dots held) (e.covered_rest at dots held) s
   unfolding e.covered_rest
-  covered-rest leads at dots held r s = bind _ _ (identifier s) (λ m c. bind _ _ (take-mark {F = Free} marks.RightParenthesis refl c) (λ t d. covered leads at held _ (r _) d) (λ y us t. tt)) (λ y us t. tt)
+  covered-rest leads at dots held r s = bind _ _ (identifier s) (λ m c. bind _ _ (take-mark {F = Free} marks.RightParenthesis (λ span. refl) c) (λ t d. covered leads at held _ (r _) d) (λ y us t. tt)) (λ y us t. tt)
 
   closed-group : {lim : Limit} (at : ℕ) (held : Expression) (s : Input) → Viable lim Follow (Allowed role n) (λ us. Head (Punctuator marks.RightParenthesis) us) (e.closed_group at held) (e.closed_group at held) s
   unfolding e.closed_group
-  closed-group at held s = bind _ _ (take-mark {F = Free} marks.RightParenthesis refl s) (λ t c. done-ok tt) (λ y us t. tt)
+  closed-group at held s = bind _ _ (take-mark {F = Free} marks.RightParenthesis (λ span. refl) s) (λ t c. done-ok tt) (λ y us t. tt)
 
   rest-after : {lim : Limit} {l : ℕ} → is_leading role ≡ true → (at dots inside : ℕ) (k : e.Held) {r : Refined (List Parameter)} → Deeper l r (parameters_of n (k.first ∷ k.more)) → (s : Input)
       → Partly lim Follow (Allowed role n) (e.rest_after at dots (e.whole inside k) r) (e.rest_after at dots (e.whole inside k) (parameters_of n (k.first ∷ k.more))) s
@@ -204,42 +204,42 @@ unsettled lim n x = record { allows = λ m. lim.allows m ⊎ Unsettled n x; grow
 module _ {lim : Limit} {l : ℕ} (i j : Inner) (h : Better lim l i j) where
   argument : (f : Flags) (s : Input) → Viable lim (λ y us. Closer false us) Any (λ us. Head x_ us) (e.argument i f) (e.argument j f) s
   unfolding e.argument
-  argument f s = begins (primary'.argument_from i f) (primary'.argument_from j f) s head-zero (λ place. may _ _ _ _ _ s (λ t c. past (bind _ _ (h.assignment (with_in f) c) (λ x d. done) (λ y us t. t))) (bind _ _ (h.assignment (with_in f) s) (λ x c. done) (λ y us t. t)) (on-head _ (λ us. refl)))
+  argument f s = begins (primary'.argument_from i f) (primary'.argument_from j f) s head-place (λ place. may _ _ _ _ _ s (λ t c. past (bind _ _ (h.assignment (with_in f) c) (λ x d. done) (λ y us t. t))) (bind _ _ (h.assignment (with_in f) s) (λ x c. done) (λ y us t. t)) (on-head _ (λ span us. refl)))
 
   elements : (f : Flags) {n m : ℕ} (w : Turns (suc l) n m) (s : Input) → Viable lim Free Any (λ us. Head (Punctuator marks.RightBracket) us) (e.elements i f n) (e.elements j f m) s
   unfolding e.elements
-  elements f over s = endless (record { more = Punctuator marks.RightBracket ∷ []; value = record { elements = []; ends_in_comma = false }; last = 0; ok = tt; reads = λ us h. refl; starts = λ us h. head })
-  elements f (turn w) s = must (mark marks.RightBracket) (Punctuator marks.RightBracket) (fill (Punctuator marks.RightBracket)) refl _ _ _ _ s (λ t c. done)
+  elements f over s = endless (λ n. record { more = Punctuator marks.RightBracket ∷ []; value = record { elements = []; ends_in_comma = false }; last = suc n; ok = tt; reads = λ us h a. refl; starts = λ us h. head })
+  elements f (turn w) s = must (mark marks.RightBracket) (Punctuator marks.RightBracket) (put (Punctuator marks.RightBracket)) (λ span. refl) _ _ _ _ s (λ t c. done)
       (half-on _ _ _ _ _ s (λ t c. past (bind _ _ (elements f w c) (λ k d. done) (λ y us t. tt)))
       (bind-half _ _ (argument f s).half (λ a c. may _ _ _ _ _ c
-      (λ t d. past (must (mark marks.RightBracket) (Punctuator marks.RightBracket) (fill (Punctuator marks.RightBracket)) refl _ _ _ _ d (λ u k. done) (bind-half _ _ (elements f w d).half (λ y k. done) (λ y us t. tt))))
-      (bind _ _ (take-mark {F = Free} marks.RightBracket refl c) (λ t d. done) (λ y us t. tt)) (on-head _ (λ us. refl))) bracket-closes))
+      (λ t d. past (must (mark marks.RightBracket) (Punctuator marks.RightBracket) (put (Punctuator marks.RightBracket)) (λ span. refl) _ _ _ _ d (λ u k. done) (bind-half _ _ (elements f w d).half (λ y k. done) (λ y us t. tt))))
+      (bind _ _ (take-mark {F = Free} marks.RightBracket (λ span. refl) c) (λ t d. done) (λ y us t. tt)) (on-head _ (λ span us. refl))) bracket-closes))
 
   more-arguments : (f : Flags) {n m : ℕ} (w : Turns (suc l) n m) (s : Input) → Viable lim Free Any (λ us. Head x_ us) (e.more_arguments i f n) (e.more_arguments j f m) s
   unfolding e.more_arguments
-  more-arguments f over s = endless (fresh-bind _ (λ q last u. fresh-may (mark marks.Comma) _ _ last (fresh-bind _ (λ t k v. finished) (λ y us v z. tt) (take-mark {lim = lim} {F = Free} marks.RightParenthesis refl (record { tokens = []; last = last })).fresh) (on-head _ (λ us. refl))) (λ y us v z. closing y us z) (argument f s).fresh)
-  more-arguments f (turn w) s = bind _ _ (argument f s) (λ a c. may _ _ _ _ _ c (λ t d. past (bind _ _ (more-arguments f w d) (λ x k. done) (λ y us t. tt))) (bind _ _ (take-mark {F = Free} marks.RightParenthesis refl c) (λ t d. done) (λ y us t. tt)) (on-head _ (λ us. refl))) closing
+  more-arguments f over s = endless (fresh-bind _ (λ q last u. fresh-may (mark marks.Comma) _ _ last (fresh-bind _ (λ t k v. finished) (λ y us v z. tt) (take-mark {lim = lim} {F = Free} marks.RightParenthesis (λ span. refl) (record { tokens = []; last = last })).fresh) (on-head _ (λ span us. refl))) (λ y us v z. closing y us z) (argument f s).fresh)
+  more-arguments f (turn w) s = bind _ _ (argument f s) (λ a c. may _ _ _ _ _ c (λ t d. past (bind _ _ (more-arguments f w d) (λ x k. done) (λ y us t. tt))) (bind _ _ (take-mark {F = Free} marks.RightParenthesis (λ span. refl) c) (λ t d. done) (λ y us t. tt)) (on-head _ (λ span us. refl))) closing
 
   arguments : (f : Flags) (s : Input) → Viable lim Free Any (λ us. Head (Punctuator marks.RightParenthesis) us) (e.arguments i f) (e.arguments j f) s
   unfolding e.arguments
-  arguments f s = must (mark marks.RightParenthesis) (Punctuator marks.RightParenthesis) (fill (Punctuator marks.RightParenthesis)) refl _ _ _ _ s (λ t c. done) (more-arguments f h.turns s).half
+  arguments f s = must (mark marks.RightParenthesis) (Punctuator marks.RightParenthesis) (put (Punctuator marks.RightParenthesis)) (λ span. refl) _ _ _ _ s (λ t c. done) (more-arguments f h.turns s).half
 
   properties : (f : Flags) {n m : ℕ} (w : Turns (suc l) n m) (s : Input) → Viable (inside lim i.may_open) Free Any (λ us. Head (Punctuator marks.RightBrace) us) (e.properties i f n) (e.properties j f m) s
   unfolding e.properties
-  properties f over s = endless (record { more = Punctuator marks.RightBrace ∷ []; value = []; last = 0; ok = tt; reads = λ us h. refl; starts = λ us h. head })
-  properties f (turn w) s = must (mark marks.RightBrace) (Punctuator marks.RightBrace) (fill (Punctuator marks.RightBrace)) refl _ _ _ _ s (λ t c. done)
-      (bind-half _ _ (h.property f s).half (λ x c. may _ _ _ _ _ c (λ t d. past (bind _ _ (properties f w d) (λ y k. done) (λ y us t. tt))) (bind _ _ (take-mark {F = Free} marks.RightBrace refl c) (λ t d. done) (λ y us t. tt)) (on-head _ (λ us. refl))) (λ y us t. t))
+  properties f over s = endless (λ n. record { more = Punctuator marks.RightBrace ∷ []; value = []; last = suc n; ok = tt; reads = λ us h a. refl; starts = λ us h. head })
+  properties f (turn w) s = must (mark marks.RightBrace) (Punctuator marks.RightBrace) (put (Punctuator marks.RightBrace)) (λ span. refl) _ _ _ _ s (λ t c. done)
+      (bind-half _ _ (h.property f s).half (λ x c. may _ _ _ _ _ c (λ t d. past (bind _ _ (properties f w d) (λ y k. done) (λ y us t. tt))) (bind _ _ (take-mark {F = Free} marks.RightBrace (λ span. refl) c) (λ t d. done) (λ y us t. tt)) (on-head _ (λ span us. refl))) (λ y us t. t))
 
   held-parts : (f : Flags) (role : Role) {n m : ℕ} (w : Turns (suc l) n m) (s : Input) → Viable lim (λ y us. Head (Punctuator marks.RightParenthesis) us) ClosesHeld (λ us. Head x_ us) (e.held_parts i f role n) (e.held_parts j f role m) s
   unfolding e.held_parts
-  held-parts f role over s = endless (fresh-bind _ (λ x last u. fresh-may (mark marks.Comma) _ _ last (finished-ok refl) (on-head _ (λ us. refl))) (λ y us v z. closing y us z) (h.assignment (with_in f) s).fresh)
-  held-parts f role (turn w) s = bind _ _ (h.assignment (with_in f) s) (λ x c. may _ _ _ _ _ c (λ t d. past (looks-no _ _ _ _ _ d rests (bind-if _ _ (held-parts f role w d) (λ y k. rests) (λ y last ok. finished-ok ok) (λ y us ok z. z)) (on-head _ (λ us. no-dots role us)))) (done-ok refl) (on-head _ (λ us. refl))) closing
+  held-parts f role over s = endless (fresh-bind _ (λ x last u. fresh-may (mark marks.Comma) _ _ last (finished-ok refl) (on-head _ (λ span us. refl))) (λ y us v z. closing y us z) (h.assignment (with_in f) s).fresh)
+  held-parts f role (turn w) s = bind _ _ (h.assignment (with_in f) s) (λ x c. may _ _ _ _ _ c (λ t d. past (looks-no _ _ _ _ _ d rests (bind-if _ _ (held-parts f role w d) (λ y k. rests) (λ y last ok. finished-ok ok) (λ y us ok z. z)) (on-head _ (λ span us. no-dots role span)))) (done-ok refl) (on-head _ (λ span us. refl))) closing
     where
-      no-dots : (role : Role) (us : List Filled) → (is_leading role && next_mark marks.Ellipsis (fill x_)) ≡ false
-      no-dots Leading us = refl
-      no-dots Among us = refl
-      no-dots Heritage us = refl
-      no-dots Callee us = refl
+      no-dots : (role : Role) (span : Span) → (is_leading role && next_mark marks.Ellipsis (put x_ span)) ≡ false
+      no-dots Leading span = refl
+      no-dots Among span = refl
+      no-dots Heritage span = refl
+      no-dots Callee span = refl
 
   -- no rest stands in parentheses that are no arrow's parameters
   held-closes : (f : Flags) (role : Role) → is_leading role ≡ false → (n : ℕ) (s : Input) → Holds (λ k c. ClosesHeld k) (e.held_parts i f role n s)
@@ -255,21 +255,21 @@ module _ {lim : Limit} {l : ℕ} (i j : Inner) (h : Better lim l i j) where
 
   held-leading : (f : Flags) (at : ℕ) (s : Input) → Viable lim Follow (Allowed Leading j.fuel) (λ us. Head x_ us) (e.held_group i f Leading at) (e.held_group j f Leading at) s
   unfolding e.held_group
-  held-leading f at s = begins (primary'.held_group_from i f Leading at) (primary'.held_group_from j f Leading at) s head-zero (λ place. bind-if _ _ (held-parts f Leading h.turns s)
+  held-leading f at s = begins (primary'.held_group_from i f Leading at) (primary'.held_group_from j f Leading at) s head-place (λ place. bind-if _ _ (held-parts f Leading h.turns s)
       (λ k c. half-either k.before_rest _ _ _ _ c (half-begins (primary'.rest_from at (e.whole place k) (parameters_of i.fuel (k.first ∷ k.more))) (primary'.rest_from at (e.whole place k) (parameters_of j.fuel (k.first ∷ k.more))) c
       (λ dots. rest-after Leading j.fuel refl at dots place k (deeper (λ n. parameters_of n (k.first ∷ k.more)) (λ m more. kept-parameters-of m more (k.first ∷ k.more)) h.turns) c)) (closed-group Leading j.fuel at (e.whole place k) c).half)
       (λ k last ok. fresh-choice-no k.before_rest ok _ _ last (closed-group Leading j.fuel {lim = lim} at (e.whole place k) (record { tokens = []; last = last })).fresh) (λ k us ok z. z))
 
   held-among : (f : Flags) (role : Role) → is_leading role ≡ false → (at : ℕ) (s : Input) → Viable lim Follow (Allowed role j.fuel) (λ us. Head x_ us) (e.held_group i f role at) (e.held_group j f role at) s
   unfolding e.held_group
-  held-among f role leads at s = begins (primary'.held_group_from i f role at) (primary'.held_group_from j f role at) s head-zero (λ place. bind-seen _ _ (held-parts f role h.turns s)
+  held-among f role leads at s = begins (primary'.held_group_from i f role at) (primary'.held_group_from j f role at) s head-place (λ place. bind-seen _ _ (held-parts f role h.turns s)
       (λ k c seen. half-choice-no k.before_rest (of_took {Q = λ k c. ClosesHeld k} {x = k} {c = c} (subst (λ o. Holds (λ k c. ClosesHeld k) o) seen (held-closes f role leads i.fuel s))) _ _ _ _ c (closed-group role j.fuel at (e.whole place k) c).half)
       (λ k last ok. fresh-choice-no k.before_rest ok _ _ last (closed-group role j.fuel {lim = lim} at (e.whole place k) (record { tokens = []; last = last })).fresh) (λ k us ok z. z))
 
   grouped : (f : Flags) (role : Role) (at : ℕ) (s : Input) → Viable lim Follow (Allowed role j.fuel) (λ us. Head x_ us) (e.grouped i f role at) (e.grouped j f role at) s
   unfolding e.grouped
-  grouped f Leading at s = may (mark marks.RightParenthesis) _ _ _ _ s (λ t c. past (covered Leading j.fuel refl at None None (empty-refines j.fuel) c)) (begins (primary'.dots_from i f Leading at) (primary'.dots_from j f Leading at) s head-zero (λ dots. may (mark marks.Ellipsis) _ _ _ _ s
-      (λ t c. past (covered-rest Leading j.fuel refl at dots None (rest-refines j.fuel) c)) (held-leading f at s) (on-head _ (λ us. refl)))) (on-head _ (λ us. refl))
+  grouped f Leading at s = may (mark marks.RightParenthesis) _ _ _ _ s (λ t c. past (covered Leading j.fuel refl at None None (empty-refines j.fuel) c)) (begins (primary'.dots_from i f Leading at) (primary'.dots_from j f Leading at) s head-place (λ dots. may (mark marks.Ellipsis) _ _ _ _ s
+      (λ t c. past (covered-rest Leading j.fuel refl at dots None (rest-refines j.fuel) c)) (held-leading f at s) (on-head _ (λ span us. refl)))) (on-head _ (λ span us. refl))
   grouped f Among at s = held-among f Among refl at s
   grouped f Heritage at s = held-among f Heritage refl at s
   grouped f Callee at s = held-among f Callee refl at s
@@ -286,22 +286,22 @@ module _ {lim : Limit} {l : ℕ} (i j : Inner) (h : Better lim l i j) where
 
   primary : (f : Flags) (role : Role) (at : ℕ) (s : Input) → Viable lim Follow (Allowed role j.fuel) (λ us. Head x_ us) (e.primary i f role at) (e.primary j f role at) s
   unfolding e.primary
-  primary f role at s = may _ _ _ _ _ s (λ t c. past (done-ok tt)) (must free_name x_ (codes "x") x-free _ _ _ _ s (λ name c. done-ok tt) (half-on _ _ _ _ _ s (λ t c. past (done-ok tt)) (composed f role at s))) (on-head _ (λ us. refl))
+  primary f role at s = may _ _ _ _ _ s (λ t c. past (done-ok tt)) (must free_name x_ (λ span. codes "x") x-free _ _ _ _ s (λ name c. done-ok tt) (half-on _ _ _ _ _ s (λ t c. past (done-ok tt)) (composed f role at s))) (on-head _ (λ span us. refl))
 
   after-new : (f : Flags) (role : Role) (at : ℕ) (s : Input) → Viable lim Follow (Allowed role j.fuel) (λ us. Head x_ us) (e.after_new i f at) (e.after_new j f at) s
   unfolding e.after_new e.after_callee
-  after-new f role at s = may _ _ _ _ _ s (λ t c. past (bind _ _ (take-word {F = Free} (codes "target") refl c) (λ u d. done-ok tt) (λ y us t. tt)))
-      (bind _ _ (h.callee f s) (λ x c. group-may i j h.opens marks.LeftParenthesis _ _ _ _ c (λ d. bind _ _ (arguments f d) (λ y k. done-ok tt) (λ y us t. tt)) (done-ok tt) no-call) (λ y us t. t)) (on-head _ (λ us. refl))
+  after-new f role at s = may _ _ _ _ _ s (λ t c. past (bind _ _ (take-word {F = Free} (codes "target") (λ span. refl) c) (λ u d. done-ok tt) (λ y us t. tt)))
+      (bind _ _ (h.callee f s) (λ x c. group-may i j h.opens marks.LeftParenthesis _ _ _ _ c (λ d. bind _ _ (arguments f d) (λ y k. done-ok tt) (λ y us t. tt)) (done-ok tt) no-call) (λ y us t. t)) (on-head _ (λ span us. refl))
 
   after-super : (f : Flags) (role : Role) (at : ℕ) (s : Input) → Viable lim Follow (Allowed role j.fuel) (λ us. Head (Punctuator marks.Dot) us) (e.after_super i f role at) (e.after_super j f role at) s
   unfolding e.after_super e.super_call
-  after-super f role at s = must (mark marks.Dot) (Punctuator marks.Dot) (fill (Punctuator marks.Dot)) refl _ _ _ _ s (λ t c. bind _ _ (any-name c) (λ n d. done-ok tt) (λ y us t. tt))
-      (half-group i j h.opens marks.LeftBracket _ _ _ _ s (λ c. bind _ _ (h.sequence (with_in f) c) (λ x d. bind _ _ (take-mark {F = Free} marks.RightBracket refl d) (λ t k. done-ok tt) (λ y us t. tt)) bracket-closes)
+  after-super f role at s = must (mark marks.Dot) (Punctuator marks.Dot) (put (Punctuator marks.Dot)) (λ span. refl) _ _ _ _ s (λ t c. bind _ _ (any-name c) (λ n d. done-ok tt) (λ y us t. tt))
+      (half-group i j h.opens marks.LeftBracket _ _ _ _ s (λ c. bind _ _ (h.sequence (with_in f) c) (λ x d. bind _ _ (take-mark {F = Free} marks.RightBracket (λ span. refl) d) (λ t k. done-ok tt) (λ y us t. tt)) bracket-closes)
       (half-either (has_calls role) _ _ _ _ s (half-group i j h.opens marks.LeftParenthesis _ _ _ _ s (λ c. bind _ _ (arguments f c) (λ x d. done-ok tt) (λ y us t. tt)) (nowhere s)) (nowhere s)))
 
   head_ : (f : Flags) (role : Role) (at : ℕ) (s : Input) → Viable lim Follow (Allowed role j.fuel) (λ us. Head x_ us) (e.head i f role at) (e.head j f role at) s
   unfolding e.head
-  head_ f role at s = may _ _ _ _ _ s (λ t c. past (after-new f role at c)) (may _ _ _ _ _ s (λ t c. past (after-super f role at c)) (primary f role at s) (on-head _ (λ us. refl))) (on-head _ (λ us. refl))
+  head_ f role at s = may _ _ _ _ _ s (λ t c. past (after-new f role at c)) (may _ _ _ _ _ s (λ t c. past (after-super f role at c)) (primary f role at s) (on-head _ (λ span us. refl))) (on-head _ (λ span us. refl))
 
   -- ## Accesses and calls
 
@@ -311,7 +311,7 @@ module _ {lim : Limit} {l : ℕ} (i j : Inner) (h : Better lim l i j) where
 
   index : (f : Flags) (at : ℕ) (s : Input) → Viable lim Free Any (λ us. Head x_ us) (e.index_link i f at) (e.index_link j f at) s
   unfolding e.index_link
-  index f at s = bind _ _ (h.sequence (with_in f) s) (λ x c. bind _ _ (take-mark {F = Free} marks.RightBracket refl c) (λ t d. done) (λ y us t. tt)) bracket-closes
+  index f at s = bind _ _ (h.sequence (with_in f) s) (λ x c. bind _ _ (take-mark {F = Free} marks.RightBracket (λ span. refl) c) (λ t d. done) (λ y us t. tt)) bracket-closes
 
   call : (f : Flags) (at : ℕ) (s : Input) → Viable lim Free Any (λ us. Head (Punctuator marks.RightParenthesis) us) (e.call_link i f at) (e.call_link j f at) s
   unfolding e.call_link
@@ -346,7 +346,7 @@ module _ {lim : Limit} {l : ℕ} (i j : Inner) (h : Better lim l i j) where
 
   pub chain : (f : Flags) (role : Role) (s : Input) → Viable lim Follow (Allowed role j.fuel) (λ us. Head x_ us) (e.chain i f role) (e.chain j f role) s
   unfolding e.chain
-  chain f role s = begins (primary'.chain_from i f role) (primary'.chain_from j f role) s head-zero (λ place. bind-if _ _ (head_ f role _ s)
+  chain f role s = begins (primary'.chain_from i f role) (primary'.chain_from j f role) s head-place (λ place. bind-if _ _ (head_ f role _ s)
       (λ x c. half-bind _ _ (λ ls last u. chained-fresh role place x ls last u) (λ y us u k. k) _ (links-some f (has_calls role) h.turns c) (λ ls d e. rests))
       (λ x last ok. links-end f (has_calls role) role place x h.turns last ok) (λ x us ok k. k))
 
@@ -354,7 +354,7 @@ module _ {lim : Limit} {l : ℕ} (i j : Inner) (h : Better lim l i j) where
 
   postfix : (f : Flags) (role : Role) (s : Input) → Viable lim Follow (Allowed role j.fuel) (λ us. Head x_ us) (e.postfix i f role) (e.postfix j f role) s
   unfolding e.postfix
-  postfix f role s = begins (levels'.postfix_from i f role) (levels'.postfix_from j f role) s head-zero (λ place. bind-if _ _ (chain f role s) (λ x c. half-on _ _ _ _ _ c (λ op d. past (done-ok tt)) rests)
+  postfix f role s = begins (levels'.postfix_from i f role) (levels'.postfix_from j f role) s head-place (λ place. bind-if _ _ (chain f role s) (λ x c. half-on _ _ _ _ _ c (λ op d. past (done-ok tt)) rests)
       (λ y last ok. fresh-may after_at _ _ last (finished-ok ok) (λ us k. no-postfix us (follow-after y.shape us k))) (λ y us ok k. k))
 
   prefixed : (f : Flags) (role : Role) (at : ℕ) (op : UnaryOperator) (s : Input) → Viable lim Follow (Allowed role j.fuel) (λ us. Head x_ us) (e.prefixed i f at op) (e.prefixed j f at op) s
@@ -363,17 +363,17 @@ module _ {lim : Limit} {l : ℕ} (i j : Inner) (h : Better lim l i j) where
 
   update : (f : Flags) (role : Role) (s : Input) → Viable lim Follow (Allowed role j.fuel) (λ us. Head x_ us) (e.update i f role) (e.update j f role) s
   unfolding e.update e.updated
-  update f role s = begins (levels'.update_from i f role) (levels'.update_from j f role) s head-zero (λ place. may before_at _ _ _ _ s (λ op c. past (bind _ _ (h.unary f c) (λ x d. done-ok tt) (λ y us t. t))) (postfix f role s) (on-head _ (λ us. refl)))
+  update f role s = begins (levels'.update_from i f role) (levels'.update_from j f role) s head-place (λ place. may before_at _ _ _ _ s (λ op c. past (bind _ _ (h.unary f c) (λ x d. done-ok tt) (λ y us t. t))) (postfix f role s) (on-head _ (λ span us. refl)))
 
   pub unary : (f : Flags) (s : Input) → Viable lim Follow (Allowed Among j.fuel) (λ us. Head x_ us) (e.unary i f) (e.unary j f) s
   unfolding e.unary
-  unary f s = begins (levels'.unary_from i f) (levels'.unary_from j f) s head-zero (λ place. may unary_at _ _ _ _ s (λ op c. past (prefixed f Among _ op c)) (update f Among s) (on-head _ (λ us. x-no-unary)))
+  unary f s = begins (levels'.unary_from i f) (levels'.unary_from j f) s head-place (λ place. may unary_at _ _ _ _ s (λ op c. past (prefixed f Among _ op c)) (update f Among s) (on-head _ (λ span us. x-no-unary span)))
 
   pub power : (f : Flags) (role : Role) (s : Input) → Viable lim Follow (Allowed role j.fuel) (λ us. Head x_ us) (e.power i f role) (e.power j f role) s
   unfolding e.power e.raised
-  power f role s = begins (levels'.power_from i f role) (levels'.power_from j f role) s head-zero (λ place. may unary_at _ _ _ _ s (λ op c. past (prefixed f role _ op c))
+  power f role s = begins (levels'.power_from i f role) (levels'.power_from j f role) s head-place (λ place. may unary_at _ _ _ _ s (λ op c. past (prefixed f role _ op c))
       (bind-if _ _ (update f role s) (λ x c. half-on _ _ _ _ _ c (λ t d. past (bind _ _ (h.power f d) (λ y k. done-ok tt) (λ y us t. t))) rests) (λ y last ok. fresh-may (mark marks.StarStar) _ _ last (finished-ok ok) (λ us k. no-power us (follow-after y.shape us k))) (λ y us ok k. k))
-      (on-head _ (λ us. x-no-unary)))
+      (on-head _ (λ span us. x-no-unary span)))
 
   module _ (f : Flags) (level : ℕ) (q q' : Parser Reading) (k : (s : Input) → Viable lim (λ y us. After us) Any (λ us. Head x_ us) q q' s) where
     operands : {n m : ℕ} (w : Turns (suc l) n m) (s : Input) → Viable lim (λ y us. After us) Any (λ us. After us) (e.operands q f level n) (e.operands q' f level m) s
@@ -400,24 +400,24 @@ module _ {lim : Limit} {l : ℕ} (i j : Inner) (h : Better lim l i j) where
   binary_ : (f : Flags) (role : Role) (up level : ℕ) (s : Input) → Viable lim Follow (Allowed role j.fuel) (λ us. Head x_ us) (e.binary_from i f role up level) (e.binary_from j f role up level) s
   unfolding e.binary_from
   binary_ f role zero level s = power f role s
-  binary_ f role (suc up) level s = begins (levels'.binary_body i f role up level) (levels'.binary_body j f role up level) s head-zero (λ place. bind-if _ _ (binary_ f role up _ s)
+  binary_ f role (suc up) level s = begins (levels'.binary_body i f role up level) (levels'.binary_body j f role up level) s head-place (λ place. bind-if _ _ (binary_ f role up _ s)
       (λ x c. half-bind _ _ (λ os last u. operated-fresh role place x os last u) (λ y us u k. k) _ (operands-some f level _ _ (λ d. weaken (λ y ok. tt) (λ y us ok k. among-follow j.fuel y.shape y.value ok us k) (binary_ f Among up (level + 1) d)) h.turns c) (λ os d e. rests))
       (λ x last ok. operands-end f level _ _ (λ d. weaken (λ y ok. tt) (λ y us ok k. among-follow j.fuel y.shape y.value ok us k) (binary_ f Among up (level + 1) d)) role place x h.turns last ok) (λ x us ok k. k))
 
   branches : (f : Flags) (at : ℕ) (test : Expression) (s : Input) → Viable lim End_ (Allowed Leading j.fuel) (λ us. Head x_ us) (e.branches i f at test) (e.branches j f at test) s
   unfolding e.branches
-  branches f at test s = bind _ _ (h.assignment (with_in f) s) (λ y c. bind _ _ (take-mark {F = Free} marks.Colon refl c) (λ u d. bind _ _ (h.assignment f d) (λ z k. done-ok tt) (λ y us t. t)) (λ y us t. tt)) colon-closes
+  branches f at test s = bind _ _ (h.assignment (with_in f) s) (λ y c. bind _ _ (take-mark {F = Free} marks.Colon (λ span. refl) c) (λ u d. bind _ _ (h.assignment f d) (λ z k. done-ok tt) (λ y us t. t)) (λ y us t. tt)) colon-closes
 
   conditional : (f : Flags) (s : Input) → Viable lim End_ (Allowed Leading j.fuel) (λ us. Head x_ us) (e.conditional i f) (e.conditional j f) s
   unfolding e.conditional
-  conditional f s = begins (levels'.conditional_from i f) (levels'.conditional_from j f) s head-zero (λ place. bind-if _ _ (binary_ f Leading 10 3 s) (λ x c. half-on _ _ _ _ _ c (λ t d. past (branches f _ x.value d)) rests)
+  conditional f s = begins (levels'.conditional_from i f) (levels'.conditional_from j f) s head-place (λ place. bind-if _ _ (binary_ f Leading 10 3 s) (λ x c. half-on _ _ _ _ _ c (λ t d. past (branches f _ x.value d)) rests)
       (λ y last ok. fresh-may (mark marks.Question) _ _ last (finished-ok ok) (λ us k. no-question us (follow-after y.shape us (end-follow y.shape us k)))) (λ y us ok k. end-follow y.shape us k))
 
   -- ## Arrows and assignments
 
   arrow-body : (f : Flags) (at : ℕ) (es : List Parameter) (s : Input) → Viable lim (λ y us. Closer false us) Any (λ us. Head x_ us) (e.arrow_body i f at es) (e.arrow_body j f at es) s
   unfolding e.arrow_body
-  arrow-body f at es s = looks-no-seen _ _ _ _ _ s (λ seen. bind-half _ _ (h.block (of_function false) s seen) (λ b c. done) (λ y us t. tt)) (bind _ _ (h.assignment (of_arrow f) s) (λ x c. done) (λ y us t. t)) (on-head _ (λ us. refl))
+  arrow-body f at es s = looks-no-seen _ _ _ _ _ s (λ seen. bind-half _ _ (h.block (of_function false) s seen) (λ b c. done) (λ y us t. tt)) (bind _ _ (h.assignment (of_arrow f) s) (λ x c. done) (λ y us t. t)) (on-head _ (λ span us. refl))
 
   arrow-if : (f : Flags) (at : ℕ) (x : Reading) {r r' : Refined (List Parameter)} → Deeper (suc l) r r' → (s : Input) → Partly lim (λ y us. Closer false us) Any (e.arrow_if i f at x r) (e.arrow_if j f at x r') s
   arrow-if f at x {r = Fits es} as_before s = half-on _ _ _ _ _ s (λ t c. past (arrow-body f at es c)) (nowhere s)
@@ -453,8 +453,8 @@ module _ {lim : Limit} {l : ℕ} (i j : Inner) (h : Better lim l i j) where
   after-fresh f at x Other last ok = fresh-no is_arrow _ _ last finished no-arrow
   after-fresh f at x Covered last (leads, (es, r)) = fresh-yes is_arrow _ _ last
       (subst (λ q. Begins (λ (y : Reading) us. Closer false us) Any (λ us. Head (Punctuator marks.Arrow) us) (e.arrow_if j f at (record { value = x; shape = Covered }) q) last) (sym r)
-      (fresh-must arrow_at (Punctuator marks.Arrow) (fill (Punctuator marks.Arrow)) refl _ _ last (free (arrow-body f at es (record { tokens = []; last = 0 })).fresh)))
-      (on-head _ (λ us. refl))
+      (fresh-must arrow_at (Punctuator marks.Arrow) (put (Punctuator marks.Arrow)) (λ span. refl) _ _ last (λ n. free (arrow-body f at es (record { tokens = []; last = suc n })).fresh)))
+      (on-head _ (λ span us. refl))
 
   after-yield : (f : Flags) (at : ℕ) (s : Input) → Viable lim (λ y us. Closer false us) Any (λ us. Closer false us) (e.after_yield i f at) (e.after_yield j f at) s
   unfolding e.after_yield
@@ -473,7 +473,7 @@ module _ {lim : Limit} {l : ℕ} (i j : Inner) (h : Better lim l i j) where
 
   pub assignment : (f : Flags) (s : Input) → Viable lim (λ y us. Closer false us) Any (λ us. Head x_ us) (e.assignment i f) (e.assignment j f) s
   unfolding e.assignment
-  assignment f s = begins (levels'.assignment_from i f) (levels'.assignment_from j f) s head-zero (λ place. either f.has_yield _ _ _ _ s (may _ _ _ _ _ s (λ t c. past (after-yield f _ c)) (without-yield f _ s) (on-head _ (λ us. refl))) (without-yield f _ s))
+  assignment f s = begins (levels'.assignment_from i f) (levels'.assignment_from j f) s head-place (λ place. either f.has_yield _ _ _ _ s (may _ _ _ _ _ s (λ t c. past (after-yield f _ c)) (without-yield f _ s) (on-head _ (λ span us. refl))) (without-yield f _ s))
 
   parts : (f : Flags) {n m : ℕ} (w : Turns (suc l) n m) (s : Input) → Viable lim (λ y us. Closer false us) Any (λ us. Head x_ us) (e.parts i f n) (e.parts j f m) s
   unfolding e.parts
@@ -482,20 +482,20 @@ module _ {lim : Limit} {l : ℕ} (i j : Inner) (h : Better lim l i j) where
 
   pub sequence : (f : Flags) (s : Input) → Viable lim (λ y us. Closer false us) Any (λ us. Head x_ us) (e.sequence i f) (e.sequence j f) s
   unfolding e.sequence e.more_parts
-  sequence f s = begins (levels'.sequence_from i f) (levels'.sequence_from j f) s head-zero (λ place. bind _ _ (assignment f s) (λ x c. may _ _ _ _ _ c (λ t d. past (bind _ _ (parts f h.turns d) (λ y k. done) (λ y us t. t))) done no-comma) (λ y us t. t))
+  sequence f s = begins (levels'.sequence_from i f) (levels'.sequence_from j f) s head-place (λ place. bind _ _ (assignment f s) (λ x c. may _ _ _ _ _ c (λ t d. past (bind _ _ (parts f h.turns d) (λ y k. done) (λ y us t. t))) done no-comma) (λ y us t. t))
 
   -- ## Properties
 
   after-key : (f : Flags) (at : ℕ) (k : Key) (s : Input) → Viable lim (λ y us. Head (Punctuator marks.RightBrace) us) Any (λ us. Head (Punctuator marks.Colon) us) (e.after_key i f at k) (e.after_key j f at k) s
   unfolding e.after_key e.value_of_key e.method_of_key
-  after-key f at k s = must (mark marks.Colon) (Punctuator marks.Colon) (fill (Punctuator marks.Colon)) refl _ _ _ _ s (λ t c. bind _ _ (assignment (with_in f) c) (λ x d. done) brace-closes) (bind-half _ _ (method-after-key i j h _ false at k s).half (λ m c. done) (λ y us t. tt))
+  after-key f at k s = must (mark marks.Colon) (Punctuator marks.Colon) (put (Punctuator marks.Colon)) (λ span. refl) _ _ _ _ s (λ t c. bind _ _ (assignment (with_in f) c) (λ x d. done) brace-closes) (bind-half _ _ (method-after-key i j h _ false at k s).half (λ m c. done) (λ y us t. tt))
 
   after-name : (f : Flags) (at : ℕ) (n : Identifier) (s : Input) → Viable lim (λ y us. Head (Punctuator marks.RightBrace) us) Any (λ us. Head (Punctuator marks.RightBrace) us) (e.after_name i f at n) (e.after_name j f at n) s
   unfolding e.after_name e.shorthand
-  after-name f at n s = looks-no _ _ _ _ _ s (after-key f at _ s).half (may _ _ _ _ _ s (λ t c. past (bind _ _ (h.assignment (with_in f) c) (λ x d. done) brace-closes)) done (on-head _ (λ us. refl))) (on-head _ (λ us. refl))
+  after-name f at n s = looks-no _ _ _ _ _ s (after-key f at _ s).half (may _ _ _ _ _ s (λ t c. past (bind _ _ (h.assignment (with_in f) c) (λ x d. done) brace-closes)) done (on-head _ (λ span us. refl))) (on-head _ (λ span us. refl))
 
   pub property : (f : Flags) (s : Input) → Viable lim (λ y us. Head (Punctuator marks.RightBrace) us) Any (λ us. Head x_ us) (e.one_property i f) (e.one_property j f) s
   unfolding e.one_property e.after_accessor_word
-  property f s = begins (levels'.property_from i f) (levels'.property_from j f) s head-zero (λ place. may _ _ _ _ _ s (λ t c. past (bind _ _ (generator-method i j h f _ c) (λ m d. done) (λ y us t. tt)))
-      (may _ _ _ _ _ s (λ setter c. past (looks-yes _ _ _ _ _ c (after-name f _ _ c) (bind-half _ _ (accessor i j h f _ setter c).half (λ m d. done) (λ y us t. tt)) (on-head _ (λ us. refl))))
-      (must free_name x_ (codes "x") x-free _ _ _ _ s (λ name c. after-name f _ _ c) (bind-half _ _ (key i j h f s).half (λ k c. after-key f _ k c) (λ y us t. tt))) (on-head _ (λ us. refl))) (on-head _ (λ us. refl)))
+  property f s = begins (levels'.property_from i f) (levels'.property_from j f) s head-place (λ place. may _ _ _ _ _ s (λ t c. past (bind _ _ (generator-method i j h f _ c) (λ m d. done) (λ y us t. tt)))
+      (may _ _ _ _ _ s (λ setter c. past (looks-yes _ _ _ _ _ c (after-name f _ _ c) (bind-half _ _ (accessor i j h f _ setter c).half (λ m d. done) (λ y us t. tt)) (on-head _ (λ span us. refl))))
+      (must free_name x_ (λ span. codes "x") x-free _ _ _ _ s (λ name c. after-name f _ _ c) (bind-half _ _ (key i j h f s).half (λ k c. after-key f _ k c) (λ y us t. tt))) (on-head _ (λ span us. refl))) (on-head _ (λ span us. refl)))

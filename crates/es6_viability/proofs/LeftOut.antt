@@ -192,10 +192,11 @@ module _ {A : Type 0} (p : Bool → ℕ → ℕ → Parser A) (Full : List Fille
       -- it can't, for nothing goes on
       completed : {o : Outcome A} → left o ≡ [] → Half (lasting false fuel) F Any (run false (suc fuel) (plus (suc room) 3)) short o → ⊥
       completed n (stands e k) = never-nil before (read t) (e ∙ n)
-      completed n (some u front e k more) =
+      completed n (some u front e k filled) =
           let whole : short ≡ u ∷ front = e ∙ ap (λ us. (u ∷ front) ++ us) n ∙ append-nil (u ∷ front) in
-          let row : short ++ (fills more.more ++ []) ≡ (u ∷ front) ++ (fills more.more ++ []) = ap (λ us. us ++ (fills more.more ++ [])) whole in
-          dead (fills more.more ++ [], full (suc fuel) (plus (suc room) 3) (short ++ (fills more.more ++ [])) more.value more.last (ap (run false (suc fuel) (plus (suc room) 3)) row ∙ more.reads [] (ends more.value)))
+          let more = filled 0 in
+          let row : short ++ (fills 0 more.more ++ []) ≡ (u ∷ front) ++ (fills 0 more.more ++ []) = ap (λ us. us ++ (fills 0 more.more ++ [])) whole in
+          dead (fills 0 more.more ++ [], full (suc fuel) (plus (suc room) 3) (short ++ (fills 0 more.more ++ [])) more.value more.last (ap (run false (suc fuel) (plus (suc room) 3)) row ∙ more.reads [] (ends more.value) tt))
       completed n (beyond front e more) = absurd (cc)
       completed n (gives_up a) = few (length short) fuel turns (a refl)
         where

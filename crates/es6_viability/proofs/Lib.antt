@@ -32,6 +32,7 @@ pub mod LongerModules
 pub mod LongerReaders
 pub mod TooDeep
 pub mod NoStop
+pub mod Placed
 pub mod SpelledAlone
 pub mod AliveAlone
 pub mod DeadAlone

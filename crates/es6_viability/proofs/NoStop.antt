@@ -24,7 +24,7 @@ use Rattle.es6_viability.proofs.ReadInserted.{ended-true, none-past}
 use Rattle.es6_viability.proofs.Readers.{tokens-alive}
 use Rattle.es6_viability.proofs.TooDeep.{none-too-deep}
 
-module-read : (fuel : ℕ) (tokens : List Filled) → read_module fuel tokens ≡ whole_module (readers true fuel most_open) (record { tokens = tokens; last = 0 })
+pub module-read : (fuel : ℕ) (tokens : List Filled) → read_module fuel tokens ≡ whole_module (readers true fuel most_open) (record { tokens = tokens; last = 0 })
 unfolding read_module
 module-read fuel tokens = refl
 
@@ -59,7 +59,7 @@ dead-there = faults-dead places (none-past what-is-derived-is-read)
 ended-not : (stop : Stop) → IsFinal stop → stop ≡ Endless → ⊥
 ended-not stop final e = subst IsFinal e final
 
-before-it : (q p b n : ℕ) → q < p → p + b ≡ n → q + b < n
+pub before-it : (q p b n : ℕ) → q < p → p + b ≡ n → q + b < n
 before-it q p b n l e = omega (arith, l, e)
 
 pub first-stops : FaultsStandAtStops

@@ -53,7 +53,7 @@ use Rattle.es6_reading.proofs.Locality.{Turns, over, turn}
 use Rattle.es6_viability.specs.Alive.{DepthFaultsAreAlive, TokensBeforeFaultsAreAlive}
 use Rattle.es6_viability.proofs.Begun as begun
 use Rattle.es6_viability.proofs.Begun.{Bare as IsBare, Over, over-left}
-use Rattle.es6_viability.proofs.Viable.{Limit, fill, fills, Head, head, Any, Stays, Ends, Half, stands, some, beyond, gives_up, Fresh, Begins, Partly, run_of, left, stops, expression-by, number-by, weaken, on-missed, no-next}
+use Rattle.es6_viability.proofs.Viable.{Limit, put, at_place, fills, Head, head, Any, Stays, Ends, Half, stands, some, beyond, gives_up, Fresh, Begins, Partly, run_of, left, stops, expression-by, number-by, weaken, on-missed, no-next}
 use Rattle.es6_viability.proofs.Completions.{x_, Free, Closer, After, after-closer, FollowOf, AllowedOf, HasDefault, Better, into, Behind, no-postfix, no-power, no-question, no-arrow, no-assign, no-comma, no-initializer}
 use Rattle.es6_viability.proofs.Parts as parts'
 use Rattle.es6_viability.proofs.Expressions as expressions'
@@ -62,58 +62,58 @@ use Rattle.es6_viability.proofs.Statements as statements'
 
 -- ## A name is read, whatever else may open
 
-abbrev x_reading : Reading
-x_reading = record { value = expr.Name (record { begin = 0; end = 0 }) (codes "x"); shape = Bare }
+abbrev x_reading : ℕ → Reading
+x_reading here = record { value = expr.Name (at_place here) (codes "x"); shape = Bare }
 
-abbrev x_then : List Filled → ℕ → Input
-x_then us last = record { tokens = fill x_ ∷ us; last = last }
+abbrev x_then : ℕ → List Filled → ℕ → Input
+x_then here us last = record { tokens = put x_ (at_place here) ∷ us; last = last }
 
-abbrev Reads : Parser Reading → List Filled → ℕ → Type 0
-Reads p us last = p (x_then us last) ≡ Took x_reading (record { tokens = us; last = 0 })
+abbrev Reads : ℕ → Parser Reading → List Filled → ℕ → Type 0
+Reads here p us last = p (x_then here us last) ≡ Took (x_reading here) (record { tokens = us; last = suc here })
 
-module _ (j : Inner) (n : ℕ) (turns : j.fuel ≡ suc n) (f : Flags) where
-  chain-reads : (role : Role) (us : List Filled) (last : ℕ) → After us → Reads (e6.chain j f role) us last
+module _ (j : Inner) (n : ℕ) (turns : j.fuel ≡ suc n) (f : Flags) (here : ℕ) where
+  chain-reads : (role : Role) (us : List Filled) (last : ℕ) → After us → Reads here (e6.chain j f role) us last
   unfolding e6.chain e6.head e6.primary reserved_words
-  chain-reads role us last k = ap (λ m. after (e6.links j f (has_calls role) m (record { tokens = us; last = 0 })) (λ ls. made 0 (e6.chained x_reading ls))) turns ∙ ap (λ o. after o (λ ls. made 0 (e6.chained x_reading ls))) (links-none j f (has_calls role) n us 0 k)
+  chain-reads role us last k = ap (λ m. after (e6.links j f (has_calls role) m (record { tokens = us; last = suc here })) (λ ls. made here (e6.chained (x_reading here) ls))) turns ∙ ap (λ o. after o (λ ls. made here (e6.chained (x_reading here) ls))) (links-none j f (has_calls role) n us (suc here) k)
 
-  update-reads : (role : Role) (us : List Filled) (last : ℕ) → After us → Reads (e6.update j f role) us last
+  update-reads : (role : Role) (us : List Filled) (last : ℕ) → After us → Reads here (e6.update j f role) us last
   unfolding e6.update e6.postfix
-  update-reads role us last k = ap (λ o. after o (λ x. on after_at (λ op. made 0 (λ span. e6.other (expr.Update span op x.value))) (λ c. Took x c))) (chain-reads role us last k) ∙ on-missed after_at _ _ us 0 (no-postfix us k)
+  update-reads role us last k = ap (λ o. after o (λ x. on after_at (λ op. made here (λ span. e6.other (expr.Update span op x.value))) (λ c. Took x c))) (chain-reads role us last k) ∙ on-missed after_at _ _ us (suc here) (no-postfix us k)
 
-  unary-reads : (us : List Filled) (last : ℕ) → After us → Reads (e6.unary j f) us last
+  unary-reads : (us : List Filled) (last : ℕ) → After us → Reads here (e6.unary j f) us last
   unfolding e6.unary unary_operators
   unary-reads us last k = update-reads Among us last k
 
-  power-reads : (role : Role) (us : List Filled) (last : ℕ) → After us → Reads (e6.power j f role) us last
+  power-reads : (role : Role) (us : List Filled) (last : ℕ) → After us → Reads here (e6.power j f role) us last
   unfolding e6.power e6.raised unary_operators
-  power-reads role us last k = ap (λ o. after o (λ x. e6.raised j f 0 x)) (update-reads role us last k) ∙ on-missed (mark marks.StarStar) _ _ us 0 (no-power us k)
+  power-reads role us last k = ap (λ o. after o (λ x. e6.raised j f here x)) (update-reads role us last k) ∙ on-missed (mark marks.StarStar) _ _ us (suc here) (no-power us k)
 
-  binary-reads : (role : Role) (up level : ℕ) (us : List Filled) (last : ℕ) → After us → Reads (e6.binary_from j f role up level) us last
+  binary-reads : (role : Role) (up level : ℕ) (us : List Filled) (last : ℕ) → After us → Reads here (e6.binary_from j f role up level) us last
   unfolding e6.binary_from
   binary-reads role zero level us last k = power-reads role us last k
-  binary-reads role (suc up) level us last k = ap (λ o. after o (λ x. (λ c. after (e6.operands (e6.binary_from j f Among up (level + 1)) f level j.fuel c) (λ os. made 0 (e6.operated x os))))) (binary-reads role up (level + 1) us last k)
-      ∙ ap (λ m. after (e6.operands (e6.binary_from j f Among up (level + 1)) f level m (record { tokens = us; last = 0 })) (λ os. made 0 (e6.operated x_reading os))) turns
-      ∙ ap (λ o. after o (λ os. made 0 (e6.operated x_reading os))) (operands-none f level (e6.binary_from j f Among up (level + 1)) n us 0 k)
+  binary-reads role (suc up) level us last k = ap (λ o. after o (λ x. (λ c. after (e6.operands (e6.binary_from j f Among up (level + 1)) f level j.fuel c) (λ os. made here (e6.operated x os))))) (binary-reads role up (level + 1) us last k)
+      ∙ ap (λ m. after (e6.operands (e6.binary_from j f Among up (level + 1)) f level m (record { tokens = us; last = suc here })) (λ os. made here (e6.operated (x_reading here) os))) turns
+      ∙ ap (λ o. after o (λ os. made here (e6.operated (x_reading here) os))) (operands-none f level (e6.binary_from j f Among up (level + 1)) n us (suc here) k)
 
-  conditional-reads : (us : List Filled) (last : ℕ) → After us → Reads (e6.conditional j f) us last
+  conditional-reads : (us : List Filled) (last : ℕ) → After us → Reads here (e6.conditional j f) us last
   unfolding e6.conditional
-  conditional-reads us last k = ap (λ o. after o (λ x. on (mark marks.Question) (λ t. e6.branches j f 0 x.value) (λ c. Took x c))) (binary-reads Leading 10 3 us last k) ∙ on-missed (mark marks.Question) _ _ us 0 (no-question us k)
+  conditional-reads us last k = ap (λ o. after o (λ x. on (mark marks.Question) (λ t. e6.branches j f here x.value) (λ c. Took x c))) (binary-reads Leading 10 3 us last k) ∙ on-missed (mark marks.Question) _ _ us (suc here) (no-question us k)
 
-  without-reads : (at : ℕ) (us : List Filled) (last : ℕ) → Closer false us → Reads (e6.without_yield j f at) us last
+  without-reads : (us : List Filled) (last : ℕ) → Closer false us → Reads here (e6.without_yield j f here) us last
   unfolding e6.without_yield e6.after_conditional
-  without-reads at us last k = ap (λ o. after o (λ x. e6.after_conditional j f at x)) (conditional-reads us last (after-closer us k)) ∙ no-next is_arrow _ _ us 0 (no-arrow us k) ∙ on-missed assign_at _ _ us 0 (no-assign us k)
+  without-reads us last k = ap (λ o. after o (λ x. e6.after_conditional j f here x)) (conditional-reads us last (after-closer us k)) ∙ no-next is_arrow _ _ us (suc here) (no-arrow us k) ∙ on-missed assign_at _ _ us (suc here) (no-assign us k)
 
-  assignment-reads : (us : List Filled) (last : ℕ) → Closer false us → Reads (e6.assignment j f) us last
+  assignment-reads : (us : List Filled) (last : ℕ) → Closer false us → Reads here (e6.assignment j f) us last
   unfolding e6.assignment
-  assignment-reads us last k = by f.has_yield ∙ without-reads 0 us last k
+  assignment-reads us last k = by f.has_yield ∙ without-reads us last k
     where
-      by : (b : Bool) → choose b (on (word (codes "yield")) (λ t. e6.after_yield j f 0) (e6.without_yield j f 0)) (e6.without_yield j f 0) (x_then us last) ≡ e6.without_yield j f 0 (x_then us last)
+      by : (b : Bool) → choose b (on (word (codes "yield")) (λ t. e6.after_yield j f here) (e6.without_yield j f here)) (e6.without_yield j f here) (x_then here us last) ≡ e6.without_yield j f here (x_then here us last)
       by true = refl
       by false = refl
 
-  sequence-reads : (us : List Filled) (last : ℕ) → Closer false us → Reads (e6.sequence j f) us last
+  sequence-reads : (us : List Filled) (last : ℕ) → Closer false us → Reads here (e6.sequence j f) us last
   unfolding e6.sequence
-  sequence-reads us last k = ap (λ o. after o (λ x. on (mark marks.Comma) (λ t. e6.more_parts j f 0 x.value) (λ c. Took x c))) (assignment-reads us last k) ∙ on-missed (mark marks.Comma) _ _ us 0 (no-comma us k)
+  sequence-reads us last k = ap (λ o. after o (λ x. on (mark marks.Comma) (λ t. e6.more_parts j f here x.value) (λ c. Took x c))) (assignment-reads us last k) ∙ on-missed (mark marks.Comma) _ _ us (suc here) (no-comma us k)
 
 -- ## The least readers
 
@@ -126,46 +126,49 @@ module _ (mode : Bool) (n : ℕ) where
   least-fuel zero = refl
   least-fuel (suc room) = refl
 
-  by-name : {K : List Filled → Type 0} (p : Parser Reading) (last : ℕ) → ((us : List Filled) → K us → Reads p us last) → Begins (λ y us. K us) Any (λ us. Head x_ us) p last
-  by-name p last r = record { more = x_ ∷ []; value = x_reading; last = 0; ok = tt; reads = r; starts = λ us h. head }
+  by-name : {K : List Filled → Type 0} (p : Parser Reading) (last : ℕ) → ((here : ℕ) (us : List Filled) → K us → Reads here p us last) → Begins (λ y us. K us) Any (λ us. Head x_ us) p last
+  by-name p last r = λ n. record { more = x_ ∷ []; value = x_reading n; last = suc n; ok = tt; reads = λ us h a. r n us h; starts = λ us h. head }
 
   block-fresh : (room : ℕ) (f : Flags) (last : ℕ) → Begins Free Any (λ us. Head (Punctuator marks.LeftBrace) us) (t6.block (least (suc room)) f) last
   unfolding readers t6.block t6.statements
-  block-fresh room f last = record { more = Punctuator marks.LeftBrace ∷ Punctuator marks.RightBrace ∷ []; value = roll-Block (record { span = record { begin = 0; end = 0 }; statements = [] }); last = 0; ok = tt; reads = λ us h. refl; starts = λ us h. head }
+  block-fresh room f last = λ at. record { more = Punctuator marks.LeftBrace ∷ Punctuator marks.RightBrace ∷ []; value = roll-Block (record { span = record { begin = at; end = suc (suc at) }; statements = [] }); last = suc (suc at); ok = tt; reads = λ us h a. refl; starts = λ us h. head }
 
   property-fresh : (k : Inner) (f : Flags) (last : ℕ) → Begins (λ y us. Head (Punctuator marks.RightBrace) us) Any (λ us. Head x_ us) (e6.one_property k f) last
   unfolding e6.one_property e6.after_name e6.shorthand reserved_words
-  property-fresh k f last = record { more = x_ ∷ []; value = property.Shorthand (record { begin = 0; end = 0 }) (codes "x"); last = 0; ok = tt; reads = λ us h. by us h; starts = λ us h. head }
+  property-fresh k f last = λ at. record { more = x_ ∷ []; value = property.Shorthand (at_place at) (codes "x"); last = suc at; ok = tt; reads = λ us h a. by at us h; starts = λ us h. head }
     where
-      by : (us : List Filled) → Head (Punctuator marks.RightBrace) us → e6.one_property k f (x_then us last) ≡ Took (property.Shorthand (record { begin = 0; end = 0 }) (codes "x")) (record { tokens = us; last = 0 })
-      by us head = refl
+      by : (at : ℕ) (us : List Filled) → Head (Punctuator marks.RightBrace) us → e6.one_property k f (x_then at us last) ≡ Took (property.Shorthand (at_place at) (codes "x")) (record { tokens = us; last = suc at })
+      by at us head = refl
 
   target-fresh : (k : Inner) (f : Flags) (last : ℕ) → Begins Free Any (λ us. Head x_ us) (t6.binding k f) last
   unfolding t6.binding reserved_words
-  target-fresh k f last = record { more = x_ ∷ []; value = name_target (record { span = record { begin = 0; end = 0 }; name = codes "x" }); last = 0; ok = tt; reads = λ us h. refl; starts = λ us h. head }
+  target-fresh k f last = λ at. record { more = x_ ∷ []; value = name_target (record { span = at_place at; name = codes "x" }); last = suc at; ok = tt; reads = λ us h a. refl; starts = λ us h. head }
 
   part-fresh : (k : Inner) (f : Flags) (last : ℕ) → Begins (λ y us. Closer false us) Any (λ us. Head x_ us) (t6.one_part k f) last
   unfolding t6.one_part t6.initialized t6.binding reserved_words
-  part-fresh k f last = record { more = x_ ∷ []; value = roll-Part (record { span = record { begin = 0; end = 0 }; pattern = name_target (record { span = record { begin = 0; end = 0 }; name = codes "x" }); default = None }); last = 0; ok = tt; reads = λ us h. on-missed (mark marks.Assign) _ _ us 0 (no-initializer us h); starts = λ us h. head }
+  part-fresh k f last = λ at. record { more = x_ ∷ []; value = roll-Part (record { span = at_place at; pattern = name_target (record { span = at_place at; name = codes "x" }); default = None }); last = suc at; ok = tt; reads = λ us h a. on-missed (mark marks.Assign) _ _ us (suc at) (no-initializer us h); starts = λ us h. head }
 
   object-part-fresh : (k : Inner) (f : Flags) (last : ℕ) → Begins (λ y us. Head (Punctuator marks.RightBrace) us) Any (λ us. Head x_ us) (t6.one_object_part k f) last
   unfolding t6.one_object_part t6.named_part reserved_words
-  object-part-fresh k f last = record { more = x_ ∷ []; value = NamedPart (name_alone (record { span = record { begin = 0; end = 0 }; name = codes "x" })); last = 0; ok = tt; reads = λ us h. by us h; starts = λ us h. head }
+  object-part-fresh k f last = λ at. record { more = x_ ∷ []; value = NamedPart (name_alone (record { span = at_place at; name = codes "x" })); last = suc at; ok = tt; reads = λ us h a. by at us h; starts = λ us h. head }
     where
-      by : (us : List Filled) → Head (Punctuator marks.RightBrace) us → t6.one_object_part k f (x_then us last) ≡ Took (NamedPart (name_alone (record { span = record { begin = 0; end = 0 }; name = codes "x" }))) (record { tokens = us; last = 0 })
-      by us head = refl
+      by : (at : ℕ) (us : List Filled) → Head (Punctuator marks.RightBrace) us → t6.one_object_part k f (x_then at us last) ≡ Took (NamedPart (name_alone (record { span = at_place at; name = codes "x" }))) (record { tokens = us; last = suc at })
+      by at us head = refl
 
   variable-fresh : (room : ℕ) (f : Flags) (last : ℕ) → Begins (λ y us. Closer false us) HasDefault (λ us. Head x_ us) (t6.initialized (least (suc room)) f f) last
   unfolding readers t6.initialized t6.binding reserved_words
-  variable-fresh room f last = record { more = x_ ∷ Punctuator marks.Assign ∷ x_ ∷ []; value = roll-Part (record { span = record { begin = 0; end = 0 }; pattern = name_target (record { span = record { begin = 0; end = 0 }; name = codes "x" }); default = Some x_reading.value }); last = 0; ok = refl; reads = λ us h. ap (λ o. after o (λ y. made 0 (λ span. roll-Part (record { span = span; pattern = name_target (record { span = record { begin = 0; end = 0 }; name = codes "x" }); default = Some y.value })))) (assignment-reads (least room) n (least-fuel room) f us 0 h); starts = λ us h. head }
+  variable-fresh room f last = λ at. record { more = x_ ∷ Punctuator marks.Assign ∷ x_ ∷ []; value = roll-Part (record { span = record { begin = at; end = suc (suc (suc at)) }; pattern = name_target (record { span = at_place at; name = codes "x" }); default = Some (x_reading (suc (suc at))).value }); last = suc (suc (suc at)); ok = refl; reads = λ us h a. ap (λ o. after o (λ y. made at (λ span. roll-Part (record { span = span; pattern = name_target (record { span = at_place at; name = codes "x" }); default = Some y.value })))) (assignment-reads (least room) n (least-fuel room) f (suc (suc at)) us (suc (suc at)) h); starts = λ us h. head }
+
+  abbrev member-end : ℕ → ℕ
+  member-end at = suc (suc (suc (suc (suc at))))
 
   member-fresh : (room : ℕ) (f : Flags) (last : ℕ) → Begins Free Any (λ us. Head x_ us) (t6.one_member (least (suc room)) f) last
   unfolding readers t6.one_member t6.method t6.key t6.method_after_key t6.signature t6.parameters t6.function_body t6.statements
-  member-fresh room f last = record { more = x_ ∷ Punctuator marks.LeftParenthesis ∷ Punctuator marks.RightParenthesis ∷ Punctuator marks.LeftBrace ∷ Punctuator marks.RightBrace ∷ []; value = t6.member_of false (method_of (record { begin = 0; end = 0 }) PlainMethod (WordKey (record { begin = 0; end = 0 }) (codes "x")) (record { begin = 0; end = 0 }) [] []) (record { begin = 0; end = 0 }); last = 0; ok = tt; reads = λ us h. refl; starts = λ us h. head }
+  member-fresh room f last = λ at. record { more = x_ ∷ Punctuator marks.LeftParenthesis ∷ Punctuator marks.RightParenthesis ∷ Punctuator marks.LeftBrace ∷ Punctuator marks.RightBrace ∷ []; value = t6.member_of false (method_of (record { begin = at; end = member-end at }) PlainMethod (WordKey (at_place at) (codes "x")) (record { begin = suc at; end = member-end at }) [] []) (record { begin = at; end = member-end at }); last = member-end at; ok = tt; reads = λ us h a. refl; starts = λ us h. head }
 
   statement-fresh : (k : Inner) (f : Flags) (stand : Stand) (last : ℕ) → Begins (λ y us. Behind us) Any (λ us. Head (Punctuator marks.Semicolon) us) (s6.statement k f stand) last
   unfolding s6.statement
-  statement-fresh k f stand last = record { more = Punctuator marks.Semicolon ∷ []; value = stat.Empty (record { begin = 0; end = 0 }); last = 0; ok = tt; reads = λ us h. refl; starts = λ us h. head }
+  statement-fresh k f stand last = λ at. record { more = Punctuator marks.Semicolon ∷ []; value = stat.Empty (at_place at); last = suc at; ok = tt; reads = λ us h a. refl; starts = λ us h. head }
 
 -- ## Where no construct may open any more
 
@@ -247,12 +250,12 @@ module _ (mode : Bool) (fuel n l extra : ℕ) (lim : Limit) (w : Turns (suc l) f
         mode = refl;
         turns = w;
         opens = refl;
-        sequence = λ f s. record { half = limits.sequence f s; fresh = by-name mode n (e6.sequence k f) s.last (λ us h. sequence-reads k n (least-fuel mode n (suc (suc extra))) f us s.last h) };
-        assignment = λ f s. record { half = limits.assignment f s; fresh = by-name mode n (e6.assignment k f) s.last (λ us h. assignment-reads k n (least-fuel mode n (suc (suc extra))) f us s.last h) };
-        power = λ f s. record { half = limits.power f s; fresh = by-name mode n (e6.power k f Among) s.last (λ us h. power-reads k n (least-fuel mode n (suc (suc extra))) f Among us s.last h) };
-        unary = λ f s. record { half = limits.unary f s; fresh = by-name mode n (e6.unary k f) s.last (λ us h. unary-reads k n (least-fuel mode n (suc (suc extra))) f us s.last h) };
-        callee = λ f s. record { half = limits.callee f s; fresh = by-name mode n (e6.chain k f Callee) s.last (λ us h. chain-reads k n (least-fuel mode n (suc (suc extra))) f Callee us s.last h) };
-        heritage = λ f s. record { half = limits.heritage f s; fresh = by-name mode n (e6.chain k f Heritage) s.last (λ us h. chain-reads k n (least-fuel mode n (suc (suc extra))) f Heritage us s.last h) };
+        sequence = λ f s. record { half = limits.sequence f s; fresh = by-name mode n (e6.sequence k f) s.last (λ here us h. sequence-reads k n (least-fuel mode n (suc (suc extra))) f here us s.last h) };
+        assignment = λ f s. record { half = limits.assignment f s; fresh = by-name mode n (e6.assignment k f) s.last (λ here us h. assignment-reads k n (least-fuel mode n (suc (suc extra))) f here us s.last h) };
+        power = λ f s. record { half = limits.power f s; fresh = by-name mode n (e6.power k f Among) s.last (λ here us h. power-reads k n (least-fuel mode n (suc (suc extra))) f here Among us s.last h) };
+        unary = λ f s. record { half = limits.unary f s; fresh = by-name mode n (e6.unary k f) s.last (λ here us h. unary-reads k n (least-fuel mode n (suc (suc extra))) f here us s.last h) };
+        callee = λ f s. record { half = limits.callee f s; fresh = by-name mode n (e6.chain k f Callee) s.last (λ here us h. chain-reads k n (least-fuel mode n (suc (suc extra))) f here Callee us s.last h) };
+        heritage = λ f s. record { half = limits.heritage f s; fresh = by-name mode n (e6.chain k f Heritage) s.last (λ here us h. chain-reads k n (least-fuel mode n (suc (suc extra))) f here Heritage us s.last h) };
         block = limits.block;
         property = λ f s. record { half = stops (λ e. inr refl); fresh = property-fresh mode n k f s.last };
         target = λ f s. record { half = stops (λ e. inr refl); fresh = target-fresh mode n k f s.last };
@@ -446,16 +449,20 @@ spelled complete fuel room tokens m after k =
 
 -- ## The tokens before a fault
 
--- a token that is put in
-abbrev token_of : TokenKind → Token
-token_of k = record { kind = k; span = record { begin = 0; end = 0 }; newline = false }
+-- tokens that are put in from a place on
+abbrev pub token_at : ℕ → TokenKind → Token
+token_at n k = record { kind = k; span = at_place n; newline = false }
 
-tokens-of : (ks : List TokenKind) → fills ks ≡ map read (map token_of ks)
-tokens-of [] = refl
-tokens-of (k ∷ ks) = ap (λ us. fill k ∷ us) (tokens-of ks)
+abbrev pub tokens_at : ℕ → List TokenKind → List Token
+tokens_at n [] = []
+tokens_at n (k ∷ ks) = token_at n k ∷ tokens_at (suc n) ks
 
-row-of : (front : List Token) (ks : List TokenKind) → map read front ++ (fills ks ++ []) ≡ map read (front ++ map token_of ks)
-row-of front ks = ap (λ us. map read front ++ us) (append-nil (fills ks) ∙ tokens-of ks) ∙ sym (map-append read front (map token_of ks))
+pub tokens-of : (n : ℕ) (ks : List TokenKind) → fills n ks ≡ map read (tokens_at n ks)
+tokens-of n [] = refl
+tokens-of n (k ∷ ks) = ap (λ us. put k (at_place n) ∷ us) (tokens-of (suc n) ks)
+
+row-of : (front : List Token) (n : ℕ) (ks : List TokenKind) → map read front ++ (fills n ks ++ []) ≡ map read (front ++ tokens_at n ks)
+row-of front n ks = ap (λ us. map read front ++ us) (append-nil (fills n ks) ∙ tokens-of n ks) ∙ sym (map-append read front (tokens_at n ks))
 
 seen-alive : (front behind : List Token) (t : Token) → IsAlive (front ++ t ∷ []) → IsAlive front
 seen-alive front behind t a = (t ∷ a.0, a.1, subst (λ ts. SpellsModule ts a.1) (append_assoc front (t ∷ []) a.0) a.2)
@@ -473,26 +480,37 @@ module _ (complete : IsComplete) (n room : ℕ) where
   abbrev run : List Filled → Outcome Module
   run us = whole_module (readers true n room) (record { tokens = us; last = 0 })
 
-  alive-with : (front : List Token) (more : List TokenKind) (m : Module) (last : ℕ) → run (map read front ++ (fills more ++ [])) ≡ Took m (record { tokens = []; last = last }) → IsAlive front
-  alive-with front more m last r = (map token_of more, m, spelled complete n room (front ++ map token_of more) m (record { tokens = []; last = last }) (ap run (sym (row-of front more)) ∙ r))
+  -- the tokens and those that complete them, wherever these begin
+  abbrev IsPlaced : List Token → Type 0
+  IsPlaced front = (at : ℕ) → (ks : List TokenKind) × (m : Module) × SpellsModule (front ++ tokens_at at ks) m
+
+  placed-with : (front : List Token) (at : ℕ) (ks : List TokenKind) (m : Module) (last : ℕ) → run (map read front ++ (fills at ks ++ [])) ≡ Took m (record { tokens = []; last = last }) → SpellsModule (front ++ tokens_at at ks) m
+  placed-with front at ks m last r = spelled complete n room (front ++ tokens_at at ks) m (record { tokens = []; last = last }) (ap run (sym (row-of front at ks)) ∙ r)
+
+  alive-with : (front : List Token) (more : List TokenKind) (m : Module) (last : ℕ) → run (map read front ++ (fills 0 more ++ [])) ≡ Took m (record { tokens = []; last = last }) → IsAlive front
+  alive-with front more m last r = (tokens_at 0 more, m, placed-with front 0 more m last r)
 
   -- with the token at which a reader stopped for depth
-  alive-beyond : (front behind : List Token) (t : Token) (taken : List Filled) {u : Filled} {us : List Filled} → map read (front ++ t ∷ behind) ≡ taken ++ u ∷ us → u ∷ us ≡ map read (t ∷ behind) → Ends (λ (y : Module) vs. vs ≡ []) Any run (taken ++ u ∷ []) → IsAlive (front ++ t ∷ [])
-  alive-beyond front behind t taken {u = u} e k more =
+  alive-beyond : (front behind : List Token) (t : Token) (taken : List Filled) {u : Filled} {us : List Filled} → map read (front ++ t ∷ behind) ≡ taken ++ u ∷ us → u ∷ us ≡ map read (t ∷ behind) → Ends (λ (y : Module) vs. vs ≡ []) Any run (taken ++ u ∷ []) → IsPlaced (front ++ t ∷ [])
+  alive-beyond front behind t taken {u = u} e k ends = λ at.
+      let more = ends at in
       let same-front : map read front ≡ taken = append_cancel_right (map read front) taken (map read (t ∷ behind)) (sym (map-append read front (t ∷ behind)) ∙ e ∙ ap (λ vs. taken ++ vs) k) in
       let row : map read (front ++ t ∷ []) ≡ taken ++ u ∷ [] = map-append read front (t ∷ []) ∙ ap (λ vs. vs ++ read t ∷ []) same-front ∙ ap (λ v. taken ++ v ∷ []) (sym (head-is k)) in
-      alive-with (front ++ t ∷ []) more.more more.value more.last (ap (λ vs. run (vs ++ (fills more.more ++ []))) row ∙ more.reads [] refl)
+      (more.more, more.value, placed-with (front ++ t ∷ []) at more.more more.value more.last (ap (λ vs. run (vs ++ (fills at more.more ++ []))) row ∙ more.reads [] refl tt))
+
+  placed-alive : (front : List Token) → IsPlaced front → IsAlive front
+  placed-alive front p = let q = p 0 in (tokens_at 0 q.0, q.1, q.2)
 
   alive-seen : (front behind : List Token) (taken : List Filled) {u : Filled} {us : List Filled} → map read (front ++ behind) ≡ taken ++ u ∷ us → u ∷ us ≡ map read behind → Ends (λ (y : Module) vs. vs ≡ []) Any run (taken ++ u ∷ []) → IsAlive front
   alive-seen front [] taken e k more = absurd (nothing-there k)
-  alive-seen front (t ∷ behind) taken e k more = seen-alive front behind t (alive-beyond front behind t taken e k more)
+  alive-seen front (t ∷ behind) taken e k more = seen-alive front behind t (placed-alive (front ++ t ∷ []) (alive-beyond front behind t taken e k more))
 
   alive-by : {fuel : ℕ} (front behind : List Token) (stop : Stop) {o : Outcome Module} → (stop ≡ Endless → ⊥) → o ≡ Fault stop (map read behind) → Half (lasting true fuel) (λ y us. us ≡ []) Any run (map read (front ++ behind)) o → Fresh (λ y us. us ≡ []) Any (λ us. Head kinds.End us) run → IsAlive front
-  alive-by front behind stop {o = o} final k (stands e t) f = alive-with front f.more f.value f.last (ap (λ us. run (us ++ (fills f.more ++ []))) none ∙ f.reads [] refl)
+  alive-by front behind stop {o = o} final k (stands e t) fresh = let f = fresh 0 in alive-with front f.more f.value f.last (ap (λ us. run (us ++ (fills 0 f.more ++ []))) none ∙ f.reads [] refl tt)
     where
       none : map read front ≡ []
       none = append_cancel_right (map read front) [] (map read behind) (sym (map-append read front behind) ∙ e ∙ ap left k)
-  alive-by front behind stop {o = o} final k (some t before e l more) f = alive-with front more.more more.value more.last (ap (λ us. run (us ++ (fills more.more ++ []))) whole ∙ more.reads [] refl)
+  alive-by front behind stop {o = o} final k (some t before e l ends) f = let more = ends 0 in alive-with front more.more more.value more.last (ap (λ us. run (us ++ (fills 0 more.more ++ []))) whole ∙ more.reads [] refl tt)
     where
       whole : map read front ≡ t ∷ before
       whole = append_cancel_right (map read front) (t ∷ before) (map read behind) (sym (map-append read front behind) ∙ e ∙ ap (λ us. (t ∷ before) ++ us) (ap left k))
@@ -502,7 +520,7 @@ module _ (complete : IsComplete) (n room : ℕ) where
       stop-of : {us vs : List Filled} → ◌≡◌ {A = Outcome Module} (Fault Endless us) (Fault stop vs) → stop ≡ Endless
       stop-of e = cc
 
-  alive-deep : {fuel : ℕ} (front behind : List Token) (t : Token) {o : Outcome Module} → o ≡ Fault Depth (map read (t ∷ behind)) → Half (deepest true fuel) (λ y us. us ≡ []) Any run (map read (front ++ t ∷ behind)) o → IsAlive (front ++ t ∷ [])
+  alive-deep : {fuel : ℕ} (front behind : List Token) (t : Token) {o : Outcome Module} → o ≡ Fault Depth (map read (t ∷ behind)) → Half (deepest true fuel) (λ y us. us ≡ []) Any run (map read (front ++ t ∷ behind)) o → IsPlaced (front ++ t ∷ [])
   alive-deep {fuel = fuel} front behind t k (stands e l) = absurd (subst (λ o. Stays (deepest true fuel) run [] o) k l refl)
   alive-deep {fuel = fuel} front behind t k (some u before e l more) = absurd (subst (λ o. Stays (deepest true fuel) run (u ∷ before) o) k l refl)
   alive-deep front behind t k (beyond taken e more) = alive-beyond front behind t taken e (fault-rest k) more
@@ -514,8 +532,12 @@ tokens-alive complete fuel front behind stop k final =
     let g = statements'.whole-module (readers true fuel most_open) (readers true (suc fuel) (plus most_open 3)) (better true fuel most_open) (record { tokens = map read (front ++ behind); last = 0 }) in
     alive-by complete (suc fuel) (plus most_open 3) front behind stop final k g.half g.fresh
 
-pub depth-alive : IsComplete → DepthFaultsAreAlive
+-- the completing tokens stand where they are to
+pub depth-placed : IsComplete → (fuel : ℕ) (front behind : List Token) (t : Token) → read_module fuel (map read (front ++ t ∷ behind)) ≡ Fault Depth (map read (t ∷ behind)) → (at : ℕ) → (ks : List TokenKind) × (m : Module) × SpellsModule ((front ++ t ∷ []) ++ tokens_at at ks) m
 unfolding read_module
-depth-alive complete fuel front behind t k =
+depth-placed complete fuel front behind t k =
     let g = statements'.whole-module (readers true fuel most_open) (readers true (suc (suc (suc fuel))) (plus most_open 6)) (deepest-completed true fuel most_open) (record { tokens = map read (front ++ t ∷ behind); last = 0 }) in
     alive-deep complete (suc (suc (suc fuel))) (plus most_open 6) front behind t k g.half
+
+pub depth-alive : IsComplete → DepthFaultsAreAlive
+depth-alive complete fuel front behind t k = let q = depth-placed complete fuel front behind t k 0 in (tokens_at 0 q.0, q.1, q.2)

@@ -18,7 +18,7 @@ use Rattle.es6_reading.specs.Statements.{statement}
 use Rattle.es6_reading.proofs.Completeness.{what-is-derived-is-read}
 use Rattle.es6_reading.proofs.Follows.{plus}
 use Rattle.es6_viability.specs.Fronts.{BeginWithExpression, BeginWithStatement}
-use Rattle.es6_viability.specs.TooDeep.{ExpressionsAreTooDeep, StatementsAreTooDeep, ModulesAreTooDeep, StopsWhereTooManyAreOpen, open_in_expression, open_in_module, open_in_statement}
+use Rattle.es6_viability.specs.TooDeep.{AreOfText, ExpressionsAreTooDeep, StatementsAreTooDeep, ModulesAreTooDeep, StopsWhereTooManyAreOpen, open_in_expression, open_in_module, open_in_statement}
 use Rattle.es6_viability.specs.TooDeep.{ExpressionsPassNoDeepToken, NoDeepTokenIsPassed, Passes, PassesWhereFewAreOpen, StatementsPassNoDeepToken}
 use Rattle.es6_viability.proofs.DeepLaws.{IsDeep, expressions, statements, modules}
 use Rattle.es6_viability.proofs.Fronts.{expression-is-read, statement-is-read, more-left}
@@ -139,11 +139,18 @@ module-read : (fuel : ℕ) (tokens : List Filled) → read_module fuel tokens �
 unfolding read_module
 module-read fuel tokens = refl
 
+-- tokens in order that spell a module are those of a text
+pub spelled-text : (tokens : List Token) (m : Module) → SpellsModule tokens m → AreInOrder tokens → AreOfText tokens
+spelled-text tokens m spells order =
+    let r = read-spelled what-is-derived-is-read tokens m spells in
+    let k = r.1 r.0 r.0 (same-low r.0) (same-low r.0) in
+    text-of r.0 r.0 tokens m k.0 k.1 order
+  where
+    same-low : (n : ℕ) → n ≤ n
+    same-low n = omega arith
+
 never-more : (a b : ℕ) → b < a → a ≤ b → ⊥
 never-more a b h k = omega arith
-
-same-low : (n : ℕ) → n ≤ n
-same-low n = omega arith
 
 none-behind : (fuel : ℕ) (front behind : List Token) (t : Token) → Passes (length behind) (read_module fuel (map read (front ++ t ∷ behind))) → IsTooDeep (front ++ t ∷ behind) (length front) → ⊥
 none-behind fuel front behind t h d =
@@ -151,9 +158,7 @@ none-behind fuel front behind t h d =
     let row : take (length front + 1) (front ++ t ∷ behind) ≡ front ++ t ∷ [] = ap (λ n. take n (front ++ t ∷ behind)) next ∙ take-next front t behind in
     let whole : take (length front + 1) (front ++ t ∷ behind) ++ d.rest ≡ front ++ t ∷ d.rest = ap (λ ts. ts ++ d.rest) row ∙ append_assoc front (t ∷ []) d.rest in
     let spells : SpellsModule (front ++ t ∷ d.rest) d.tree = subst (λ ts. SpellsModule ts d.tree) whole d.spelled in
-    let r = read-spelled what-is-derived-is-read (front ++ t ∷ d.rest) d.tree spells in
-    let k = r.1 r.0 r.0 (same-low r.0) (same-low r.0) in
-    let text = text-of r.0 r.0 (front ++ t ∷ d.rest) d.tree k.0 k.1 (subst AreInOrder whole d.placed) in
+    let text = spelled-text (front ++ t ∷ d.rest) d.tree spells (subst AreInOrder whole d.placed) in
     let few = modules-pass-none fuel front behind t (subst (λ o. Passes (length behind) o) (module-read fuel (map read (front ++ t ∷ behind))) h) d.rest text d.tree spells in
     never-more (open_in_module d.tree (front ++ t ∷ [])) most_open (subst (λ ts. most_open < open_in_module d.tree ts) row d.deep) few
 

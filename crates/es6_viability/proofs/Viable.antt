@@ -1,8 +1,8 @@
 -- What a reader took can be completed: there are tokens with which a reader with more turns and more room reads the whole. So can it
 -- with the token at which it stops for depth, but where a limit says that it needn't.
-use Rattle.std.proofs.Common.{◌≡◌, ◌∙◌, ℕ, suc, ◌≤◌, arith, Bool, true, false, List, [], ◌∷◌, ◌++◌, map, length, Option, Some, None, refl, sym, ap, subst, append_assoc}
+use Rattle.std.proofs.Common.{◌≡◌, ◌∙◌, ℕ, suc, ◌≤◌, arith, Bool, true, false, List, [], ◌∷◌, ◌++◌, length, Option, Some, None, refl, sym, ap, subst, append_assoc}
 use Rattle.std.proofs.lemmas.Bool.{false≢true}
-use Rattle.std.proofs.lemmas.List.{map-append}
+use Rattle.es_text.specs.declared.Span.{Span}
 use Rattle.es6_lexer.specs.declared.token.TokenKind.{TokenKind}
 use Rattle.es6_lexer.specs.declared.token.NumberToken.TheVariants.{TooLarge, Marked}
 use Rattle.es6_lexer.specs.declared.token.TokenKind.TheVariants as kinds
@@ -19,14 +19,28 @@ use Rattle.es6_reading.proofs.Posts.{Misses}
 -- ## What completes
 
 -- a token that is put in
-abbrev pub fill : TokenKind → Filled
-fill k = record { kind = Read k; span = record { begin = 0; end = 0 }; newline = false }
+abbrev pub put : TokenKind → Span → Filled
+put k span = record { kind = Read k; span = span; newline = false }
 
-abbrev pub fills : List TokenKind → List Filled
-fills ks = map fill ks
+-- such tokens, one behind another from a place on
+abbrev pub at_place : ℕ → Span
+at_place n = record { begin = n; end = suc n }
+
+abbrev pub fills : ℕ → List TokenKind → List Filled
+fills n [] = []
+fills n (k ∷ ks) = put k (at_place n) ∷ fills (suc n) ks
+
+abbrev pub behind : ℕ → List TokenKind → ℕ
+behind n [] = n
+behind n (k ∷ ks) = behind (suc n) ks
+
+-- what follows begins at the place
+abbrev pub Stands : ℕ → List Filled → Type 0
+Stands n [] = Unit {0}
+Stands n (t ∷ us) = t.span.begin ≡ n
 
 pub data Head (k : TokenKind) : List Filled → Type 0 where
-  head : {us : List Filled} → Head k (fill k ∷ us)
+  head : {span : Span} {us : List Filled} → Head k (put k span ∷ us)
 
 abbrev pub Anything : List Filled → Type 0
 Anything us = Unit {0}
@@ -34,8 +48,17 @@ Anything us = Unit {0}
 abbrev pub Any : {A : Type 0} → A → Type 0
 Any x = Unit {0}
 
-fills-append : (ks ms : List TokenKind) (us : List Filled) → fills (ks ++ ms) ++ us ≡ fills ks ++ (fills ms ++ us)
-fills-append ks ms us = ap (λ vs. vs ++ us) (map-append fill ks ms) ∙ append_assoc (fills ks) (fills ms) us
+fills-append : (n : ℕ) (ks ms : List TokenKind) (us : List Filled) → fills n (ks ++ ms) ++ us ≡ fills n ks ++ (fills (behind n ks) ms ++ us)
+fills-append n [] ms us = refl
+fills-append n (k ∷ ks) ms us = ap (λ vs. put k (at_place n) ∷ vs) (fills-append (suc n) ks ms us)
+
+behind-append : (n : ℕ) (ks ms : List TokenKind) → behind n (ks ++ ms) ≡ behind (behind n ks) ms
+behind-append n [] ms = refl
+behind-append n (k ∷ ks) ms = behind-append (suc n) ks ms
+
+pub filled-stand : (n : ℕ) (ks : List TokenKind) (us : List Filled) → Stands (behind n ks) us → Stands n (fills n ks ++ us)
+filled-stand n [] us a = a
+filled-stand n (k ∷ ks) us a = refl
 
 -- what stops a reader at a token isn't depth
 stop-deep : (k : Filling) → stop_in k ≡ Depth → ⊥
@@ -74,22 +97,29 @@ abbrev pub Stays : {A : Type 0} → Limit → (List Filled → Outcome A) → Li
 Stays lim run front (Took x c) = (rest : List Filled) → SameHead c.tokens rest → run (front ++ rest) ≡ Took x (record { tokens = rest; last = c.last })
 Stays lim run front (Fault stop ts) = stop ≡ Depth → lim.shallow
 
--- Completions: before any tokens that may follow their value, the whole is read.
-pub record Ends {A : Type 0} (F : A → List Filled → Type 0) (P : A → Type 0) (run : List Filled → Outcome A) (front : List Filled) : Type 0 where
+-- Completions, which begin at the place: before any tokens that may follow their value and begin behind them, the whole is read.
+pub record EndsAt {A : Type 0} (F : A → List Filled → Type 0) (P : A → Type 0) (run : List Filled → Outcome A) (front : List Filled) (n : ℕ) : Type 0 where
   pub more : List TokenKind
   pub value : A
   pub last : ℕ
   pub ok : P value
-  pub reads : (us : List Filled) → F value us → run (front ++ (fills more ++ us)) ≡ Took value (record { tokens = us; last = last })
+  pub reads : (us : List Filled) → F value us → Stands (behind n more) us → run (front ++ (fills n more ++ us)) ≡ Took value (record { tokens = us; last = last })
 
 -- from nothing on, by tokens that begin so
-pub record Fresh {A : Type 0} (F : A → List Filled → Type 0) (P : A → Type 0) (S : List Filled → Type 0) (run : List Filled → Outcome A) : Type 0 where
+pub record FreshAt {A : Type 0} (F : A → List Filled → Type 0) (P : A → Type 0) (S : List Filled → Type 0) (run : List Filled → Outcome A) (n : ℕ) : Type 0 where
   pub more : List TokenKind
   pub value : A
   pub last : ℕ
   pub ok : P value
-  pub reads : (us : List Filled) → F value us → run (fills more ++ us) ≡ Took value (record { tokens = us; last = last })
-  pub starts : (us : List Filled) → F value us → S (fills more ++ us)
+  pub reads : (us : List Filled) → F value us → Stands (behind n more) us → run (fills n more ++ us) ≡ Took value (record { tokens = us; last = last })
+  pub starts : (us : List Filled) → F value us → S (fills n more ++ us)
+
+-- at whatever place they begin
+abbrev pub Ends : {A : Type 0} → (A → List Filled → Type 0) → (A → Type 0) → (List Filled → Outcome A) → List Filled → Type 0
+Ends F P run front = (n : ℕ) → EndsAt F P run front n
+
+abbrev pub Fresh : {A : Type 0} → (A → List Filled → Type 0) → (A → Type 0) → (List Filled → Type 0) → (List Filled → Outcome A) → Type 0
+Fresh F P S run = (n : ℕ) → FreshAt F P S run n
 
 -- From where a reader stood, if it took a token, or with the token at which it stopped for depth; or it gave up what nests too far.
 pub data Half (lim : Limit) {A : Type 0} (F : A → List Filled → Type 0) (P : A → Type 0) (run : List Filled → Outcome A) (ts : List Filled) : Outcome A → Type 0 where
@@ -153,13 +183,13 @@ stays-within lim other run front v (Fault stop us) k = λ e. v (k e)
 
 module _ {A : Type 0} {F : A → List Filled → Type 0} {P : A → Type 0} where
   pub free : {S : List Filled → Type 0} {run : List Filled → Outcome A} → Fresh F P S run → Fresh F P Anything run
-  free f = record { more = f.more; value = f.value; last = f.last; ok = f.ok; reads = f.reads; starts = λ us h. tt }
+  free f = λ n. let g = f n in record { more = g.more; value = g.value; last = g.last; ok = g.ok; reads = g.reads; starts = λ us h. tt }
 
   pub past : {lim : Limit} {S : List Filled → Type 0} {run : List Filled → Outcome A} {ts : List Filled} {o : Outcome A} → Goes lim F P S run ts o → Past lim F P run ts o
   past g = goes g.half (free g.fresh)
 
   ends-of : {S : List Filled → Type 0} {run : List Filled → Outcome A} → Fresh F P S run → Ends F P run []
-  ends-of f = record { more = f.more; value = f.value; last = f.last; ok = f.ok; reads = f.reads }
+  ends-of f = λ n. let g = f n in record { more = g.more; value = g.value; last = g.last; ok = g.ok; reads = g.reads }
 
   -- ## Tokens before
 
@@ -167,26 +197,26 @@ module _ {A : Type 0} {F : A → List Filled → Type 0} {P : A → Type 0} wher
   pub relay : {lim : Limit} {run run' : List Filled → Outcome A} {ts : List Filled} {o : Outcome A} → ((us : List Filled) → SameHead ts us → run' us ≡ run us) → Half lim F P run ts o → Half lim F P run' ts o
   relay h (stands {o = Took x c} e k) = stands e (λ rest m. h rest (subst (λ vs. SameHead vs rest) (sym e) m) ∙ k rest m)
   relay h (stands {o = Fault stop us} e k) = stands e k
-  relay {run' = run'} h (some {o = Took x c} t front e k n) = some t front e (λ rest m. h ((t ∷ front) ++ rest) (same-through c.tokens t front rest e) ∙ k rest m)
-      (record { more = n.more; value = n.value; last = n.last; ok = n.ok; reads = λ us m. h ((t ∷ front) ++ (fills n.more ++ us)) (same-through c.tokens t front (fills n.more ++ us) e) ∙ n.reads us m })
-  relay {run' = run'} h (some {o = Fault stop vs} t front e k n) = some t front e k
-      (record { more = n.more; value = n.value; last = n.last; ok = n.ok; reads = λ us m. h ((t ∷ front) ++ (fills n.more ++ us)) (same-through vs t front (fills n.more ++ us) e) ∙ n.reads us m })
-  relay h (beyond {t = t} {us = vs} front e n) = beyond front e (record { more = n.more; value = n.value; last = n.last; ok = n.ok; reads = λ us m. h ((front ++ t ∷ []) ++ (fills n.more ++ us)) (same-up-to front t vs (fills n.more ++ us) e) ∙ n.reads us m })
+  relay {run' = run'} h (some {o = Took x c} t front e k ends) = some t front e (λ rest m. h ((t ∷ front) ++ rest) (same-through c.tokens t front rest e) ∙ k rest m)
+      (λ at. let n = ends at in record { more = n.more; value = n.value; last = n.last; ok = n.ok; reads = λ us m a. h ((t ∷ front) ++ (fills at n.more ++ us)) (same-through c.tokens t front (fills at n.more ++ us) e) ∙ n.reads us m a })
+  relay {run' = run'} h (some {o = Fault stop vs} t front e k ends) = some t front e k
+      (λ at. let n = ends at in record { more = n.more; value = n.value; last = n.last; ok = n.ok; reads = λ us m a. h ((t ∷ front) ++ (fills at n.more ++ us)) (same-through vs t front (fills at n.more ++ us) e) ∙ n.reads us m a })
+  relay h (beyond {t = t} {us = vs} front e ends) = beyond front e (λ at. let n = ends at in record { more = n.more; value = n.value; last = n.last; ok = n.ok; reads = λ us m a. h ((front ++ t ∷ []) ++ (fills at n.more ++ us)) (same-up-to front t vs (fills at n.more ++ us) e) ∙ n.reads us m a })
   relay h (gives_up k) = gives_up k
 
   -- after a token that was taken
   behind-it : {lim : Limit} {run run' : List Filled → Outcome A} {ts : List Filled} {o : Outcome A} (t : Filled) → ((us : List Filled) → run' (t ∷ us) ≡ run us) → Past lim F P run ts o → Half lim F P run' (t ∷ ts) o
-  behind-it {lim = lim} {run = run} {run' = run'} t h (goes (stands {o = o} e k) n) = some t [] (ap (λ vs. t ∷ vs) e) (stays-behind o k) (record { more = n.more; value = n.value; last = n.last; ok = n.ok; reads = λ us m. h (fills n.more ++ us) ∙ n.reads us m })
+  behind-it {lim = lim} {run = run} {run' = run'} t h (goes (stands {o = o} e k) ends) = some t [] (ap (λ vs. t ∷ vs) e) (stays-behind o k) (λ at. let n = ends at in record { more = n.more; value = n.value; last = n.last; ok = n.ok; reads = λ us m a. h (fills at n.more ++ us) ∙ n.reads us m a })
     where
       stays-behind : (o : Outcome A) → Stays lim run [] o → Stays lim run' (t ∷ []) o
       stays-behind (Took x c) k = λ rest m. h rest ∙ k rest m
       stays-behind (Fault stop us) k = k
-  behind-it {lim = lim} {run = run} {run' = run'} t h (goes (some {o = o} u front e k n) f) = some t (u ∷ front) (ap (λ vs. t ∷ vs) e) (stays-behind o k) (record { more = n.more; value = n.value; last = n.last; ok = n.ok; reads = λ us m. h ((u ∷ front) ++ (fills n.more ++ us)) ∙ n.reads us m })
+  behind-it {lim = lim} {run = run} {run' = run'} t h (goes (some {o = o} u front e k ends) f) = some t (u ∷ front) (ap (λ vs. t ∷ vs) e) (stays-behind o k) (λ at. let n = ends at in record { more = n.more; value = n.value; last = n.last; ok = n.ok; reads = λ us m a. h ((u ∷ front) ++ (fills at n.more ++ us)) ∙ n.reads us m a })
     where
       stays-behind : (o : Outcome A) → Stays lim run (u ∷ front) o → Stays lim run' (t ∷ u ∷ front) o
       stays-behind (Took x c) k = λ rest m. h ((u ∷ front) ++ rest) ∙ k rest m
       stays-behind (Fault stop us) k = k
-  behind-it t h (goes (beyond {t = u} front e n) f) = beyond (t ∷ front) (ap (λ vs. t ∷ vs) e) (record { more = n.more; value = n.value; last = n.last; ok = n.ok; reads = λ us m. h ((front ++ u ∷ []) ++ (fills n.more ++ us)) ∙ n.reads us m })
+  behind-it t h (goes (beyond {t = u} front e ends) f) = beyond (t ∷ front) (ap (λ vs. t ∷ vs) e) (λ at. let n = ends at in record { more = n.more; value = n.value; last = n.last; ok = n.ok; reads = λ us m a. h ((front ++ u ∷ []) ++ (fills at n.more ++ us)) ∙ n.reads us m a })
   behind-it {lim = lim} {ts = ts} t h (goes (gives_up k) f) = gives_up (lim.grows (length ts) (suc (length ts)) (up-one (length ts)) k)
   behind-it {lim = lim} {ts = ts} t h (used_up k) = gives_up (lim.grows (length ts) (suc (length ts)) (up-one (length ts)) k)
 
@@ -204,7 +234,7 @@ module _ {A : Type 0} {F : A → List Filled → Type 0} {P : A → Type 0} wher
   -- ## Readers that take nothing
 
   pub done-ok : {lim : Limit} {ts : List Filled} {last : ℕ} {x : A} → P x → Goes lim F P (λ us. F x us) (λ us. Took x (record { tokens = us; last = last })) ts (Took x (record { tokens = ts; last = last }))
-  done-ok {last = last} {x = x} ok = record { half = stands refl (λ rest k. refl); fresh = record { more = []; value = x; last = last; ok = ok; reads = λ us h. refl; starts = λ us h. h } }
+  done-ok {last = last} {x = x} ok = record { half = stands refl (λ rest k. refl); fresh = λ n. record { more = []; value = x; last = last; ok = ok; reads = λ us h a. refl; starts = λ us h. h } }
 
   -- it takes nothing, or stops at once
   pub rests : {lim : Limit} {last : ℕ} {ts : List Filled} {x : A} → Half lim F P (λ us. Took x (record { tokens = us; last = last })) ts (Took x (record { tokens = ts; last = last }))
@@ -243,26 +273,30 @@ nil-front (t ∷ front) us e = absurd (cc)
 module _ {A B : Type 0} {F : A → List Filled → Type 0} {P : A → Type 0} {G : B → List Filled → Type 0} {Q : B → Type 0} {T : A → List Filled → Type 0} {run : List Filled → Outcome A} (q' : A → Parser B)
     (f : (y : A) (last : ℕ) → P y → Fresh G Q (T y) (run_of (q' y) last)) (k : (y : A) (us : List Filled) → P y → T y us → F y us) where
   pub fresh-bind : {S : List Filled → Type 0} → Fresh F P S run → Fresh G Q S (λ us. after (run us) q')
-  fresh-bind {S = S} e =
-      let b = f e.value e.last e.ok in
+  fresh-bind {S = S} first = λ n.
+      let e = first n in
+      let m : ℕ = behind n e.more in
+      let b = f e.value e.last e.ok m in
       record {
         more = e.more ++ b.more;
         value = b.value;
         last = b.last;
         ok = b.ok;
-        reads = λ us h. ap (λ ts. after (run ts) q') (fills-append e.more b.more us) ∙ ap (λ o. after o q') (e.reads (fills b.more ++ us) (k e.value (fills b.more ++ us) e.ok (b.starts us h))) ∙ b.reads us h;
-        starts = λ us h. subst (λ ts. S ts) (sym (fills-append e.more b.more us)) (e.starts (fills b.more ++ us) (k e.value (fills b.more ++ us) e.ok (b.starts us h)));
+        reads = λ us h a. let there = subst (λ l. Stands l us) (behind-append n e.more b.more) a in ap (λ ts. after (run ts) q') (fills-append n e.more b.more us) ∙ ap (λ o. after o q') (e.reads (fills m b.more ++ us) (k e.value (fills m b.more ++ us) e.ok (b.starts us h)) (filled-stand m b.more us there)) ∙ b.reads us h there;
+        starts = λ us h. subst (λ ts. S ts) (sym (fills-append n e.more b.more us)) (e.starts (fills m b.more ++ us) (k e.value (fills m b.more ++ us) e.ok (b.starts us h)));
       }
 
   ends-bind : {front : List Filled} → Ends F P run front → Ends G Q (λ us. after (run us) q') front
-  ends-bind {front = front} e =
-      let b = f e.value e.last e.ok in
+  ends-bind {front = front} first = λ n.
+      let e = first n in
+      let m : ℕ = behind n e.more in
+      let b = f e.value e.last e.ok m in
       record {
         more = e.more ++ b.more;
         value = b.value;
         last = b.last;
         ok = b.ok;
-        reads = λ us h. ap (λ ts. after (run (front ++ ts)) q') (fills-append e.more b.more us) ∙ ap (λ o. after o q') (e.reads (fills b.more ++ us) (k e.value (fills b.more ++ us) e.ok (b.starts us h))) ∙ b.reads us h;
+        reads = λ us h a. let there = subst (λ l. Stands l us) (behind-append n e.more b.more) a in ap (λ ts. after (run (front ++ ts)) q') (fills-append n e.more b.more us) ∙ ap (λ o. after o q') (e.reads (fills m b.more ++ us) (k e.value (fills m b.more ++ us) e.ok (b.starts us h)) (filled-stand m b.more us there)) ∙ b.reads us h there;
       }
 
 module _ {A B : Type 0} {F : A → List Filled → Type 0} {P : A → Type 0} {G : B → List Filled → Type 0} {Q : B → Type 0} {T : A → List Filled → Type 0} (run : List Filled → Outcome A) (q' : A → Parser B)
@@ -287,7 +321,7 @@ module _ {A B : Type 0} {F : A → List Filled → Type 0} {P : A → Type 0} {G
       stays-both front (Fault stop us) l j = j
 
       ends-both : (front : List Filled) → Stays lim run front (Took x c) → Ends G Q (λ us. after (run us) q') (front ++ (u ∷ inner))
-      ends-both front l = record { more = n.more; value = n.value; last = n.last; ok = n.ok; reads = λ us m. onto front (fills n.more ++ us) l ∙ n.reads us m }
+      ends-both front l = λ at. let m = n at in record { more = m.more; value = m.value; last = m.last; ok = m.ok; reads = λ us h a. onto front (fills at m.more ++ us) l ∙ m.reads us h a }
 
       parts-both : (front : List Filled) → ts ≡ front ++ c.tokens → ts ≡ (front ++ (u ∷ inner)) ++ left o
       parts-both front e = e ∙ ap (λ us. front ++ us) i ∙ sym (append_assoc front (u ∷ inner) (left o))
@@ -299,8 +333,8 @@ module _ {A B : Type 0} {F : A → List Filled → Type 0} {P : A → Type 0} {G
   -- behind what the first took, the second stopped for depth
   beyond-both : {lim : Limit} {ts us : List Filled} {x : A} {c : Input} {t : Filled} (front inner : List Filled) → ts ≡ front ++ c.tokens → Stays lim run front (Took x c) → c.tokens ≡ inner ++ t ∷ us → Ends G Q (run_of (q' x) c.last) (inner ++ t ∷ []) → Half lim G Q (λ us. after (run us) q') ts (Fault Depth (t ∷ us))
   beyond-both {us = us} {x = x} {c = c} {t = t} front inner e l i n = beyond (front ++ inner) (e ∙ ap (λ vs. front ++ vs) i ∙ sym (append_assoc front inner (t ∷ us)))
-      (record { more = n.more; value = n.value; last = n.last; ok = n.ok; reads = λ vs m. ap (λ ws. after (run (ws ++ (fills n.more ++ vs))) q') (append_assoc front inner (t ∷ [])) ∙ ap (λ ws. after (run ws) q') (append_assoc front (inner ++ t ∷ []) (fills n.more ++ vs))
-          ∙ ap (λ o. after o q') (l ((inner ++ t ∷ []) ++ (fills n.more ++ vs)) (same-up-to inner t us (fills n.more ++ vs) i)) ∙ n.reads vs m })
+      (λ at. let m = n at in record { more = m.more; value = m.value; last = m.last; ok = m.ok; reads = λ vs h a. ap (λ ws. after (run (ws ++ (fills at m.more ++ vs))) q') (append_assoc front inner (t ∷ [])) ∙ ap (λ ws. after (run ws) q') (append_assoc front (inner ++ t ∷ []) (fills at m.more ++ vs))
+          ∙ ap (λ o. after o q') (l ((inner ++ t ∷ []) ++ (fills at m.more ++ vs)) (same-up-to inner t us (fills at m.more ++ vs) i)) ∙ m.reads vs h a })
 
   -- the first took nothing
   none-then : {lim : Limit} {ts : List Filled} {x : A} {c : Input} (o : Outcome B) → ts ≡ c.tokens → Stays lim run [] (Took x c) → c.tokens ≡ left o → Stays lim (run_of (q' x) c.last) [] o → Half lim G Q (λ us. after (run us) q') ts o
@@ -394,16 +428,16 @@ module _ {A B : Type 0} {F : A → List Filled → Type 0} {P : A → Type 0} wh
 
   -- completed with no such token
   pub fresh-may : {S : List Filled → Type 0} (test : Filled → Option B) (p' : B → Parser A) (q' : Parser A) (last : ℕ) → Begins F P S q' last → ((us : List Filled) → S us → Misses test us) → Begins F P S (on test p' q') last
-  fresh-may test p' q' last f miss = record { more = f.more; value = f.value; last = f.last; ok = f.ok; reads = λ us h. on-missed test p' q' (fills f.more ++ us) last (miss (fills f.more ++ us) (f.starts us h)) ∙ f.reads us h; starts = f.starts }
+  fresh-may test p' q' last f miss = λ n. let g = f n in record { more = g.more; value = g.value; last = g.last; ok = g.ok; reads = λ us h a. on-missed test p' q' (fills n g.more ++ us) last (miss (fills n g.more ++ us) (g.starts us h)) ∙ g.reads us h a; starts = g.starts }
 
   -- with such a token
-  pub fresh-must : {S : List Filled → Type 0} (test : Filled → Option B) (k : TokenKind) (x : B) → test (fill k) ≡ Some x → (p' : B → Parser A) (q' : Parser A) (last : ℕ) → Begins F P S (p' x) 0 → Begins F P (λ us. Head k us) (on test p' q') last
-  fresh-must test k x e p' q' last f = record {
-    more = k ∷ f.more;
-    value = f.value;
-    last = f.last;
-    ok = f.ok;
-    reads = λ us h. ap (λ o. on_taken o (fill k) (fills f.more ++ us) p' q' (record { tokens = fill k ∷ (fills f.more ++ us); last = last })) e ∙ f.reads us h;
+  pub fresh-must : {S : ℕ → List Filled → Type 0} (test : Filled → Option B) (k : TokenKind) (x : Span → B) → ((span : Span) → test (put k span) ≡ Some (x span)) → (p' : B → Parser A) (q' : Parser A) (last : ℕ) → ((n : ℕ) → Begins F P (S n) (p' (x (at_place n))) (suc n)) → Begins F P (λ us. Head k us) (on test p' q') last
+  fresh-must test k x e p' q' last f = λ n. let g = f n (suc n) in record {
+    more = k ∷ g.more;
+    value = g.value;
+    last = g.last;
+    ok = g.ok;
+    reads = λ us h a. ap (λ o. on_taken o (put k (at_place n)) (fills (suc n) g.more ++ us) p' q' (record { tokens = put k (at_place n) ∷ (fills (suc n) g.more ++ us); last = last })) (e (at_place n)) ∙ g.reads us h a;
     starts = λ us h. head;
   }
 
@@ -411,9 +445,9 @@ module _ {A B : Type 0} {F : A → List Filled → Type 0} {P : A → Type 0} wh
       → Viable lim F P S (on test p q) (on test p' q') s
   may test p p' q q' s f g miss = record { half = half-on test p p' q q' s f g.half; fresh = fresh-may test p' q' s.last g.fresh miss }
 
-  pub must : {lim : Limit} {S : B → List Filled → Type 0} (test : Filled → Option B) (k : TokenKind) (x : B) → test (fill k) ≡ Some x → (p p' : B → Parser A) (q q' : Parser A) (s : Input) → ((y : B) (c : Input) → Viable lim F P (S y) (p y) (p' y) c) → Partly lim F P q q' s
+  pub must : {lim : Limit} {S : B → List Filled → Type 0} (test : Filled → Option B) (k : TokenKind) (x : Span → B) → ((span : Span) → test (put k span) ≡ Some (x span)) → (p p' : B → Parser A) (q q' : Parser A) (s : Input) → ((y : B) (c : Input) → Viable lim F P (S y) (p y) (p' y) c) → Partly lim F P q q' s
       → Viable lim F P (λ us. Head k us) (on test p q) (on test p' q') s
-  must test k x e p p' q q' s f g = record { half = half-on test p p' q q' s (λ y c. past (f y c)) g; fresh = fresh-must test k x e p' q' s.last (f x (record { tokens = []; last = 0 })).fresh }
+  must {S = S} test k x e p p' q q' s f g = record { half = half-on test p p' q q' s (λ y c. past (f y c)) g; fresh = fresh-must {S = λ n. S (x (at_place n))} test k x e p' q' s.last (λ n. (f (x (at_place n)) (record { tokens = []; last = suc n })).fresh) }
 
 module _ {A : Type 0} {F : A → List Filled → Type 0} {P : A → Type 0} where
   pub either : {lim : Limit} {S : List Filled → Type 0} (b : Bool) (p p' q q' : Parser A) (s : Input) → Viable lim F P S p p' s → Viable lim F P S q q' s → Viable lim F P S (choose b p q) (choose b p' q') s
@@ -445,10 +479,10 @@ module _ {A : Type 0} {F : A → List Filled → Type 0} {P : A → Type 0} wher
   half-looks test p p' q q' s f g = relay (λ us k. ap (λ b. choose b p' q' (record { tokens = us; last = s.last })) (same-next test k)) (half-either (next_is test s.tokens) p p' q q' s f g)
 
   pub fresh-no : {S : List Filled → Type 0} (test : Filled → Bool) (p' q' : Parser A) (last : ℕ) → Begins F P S q' last → ((us : List Filled) → S us → next_is test us ≡ false) → Begins F P S (if_next test p' q') last
-  fresh-no test p' q' last f miss = record { more = f.more; value = f.value; last = f.last; ok = f.ok; reads = λ us h. ap (λ b. choose b p' q' (record { tokens = fills f.more ++ us; last = last })) (miss (fills f.more ++ us) (f.starts us h)) ∙ f.reads us h; starts = f.starts }
+  fresh-no test p' q' last f miss = λ n. let g = f n in record { more = g.more; value = g.value; last = g.last; ok = g.ok; reads = λ us h a. ap (λ b. choose b p' q' (record { tokens = fills n g.more ++ us; last = last })) (miss (fills n g.more ++ us) (g.starts us h)) ∙ g.reads us h a; starts = g.starts }
 
   pub fresh-yes : {S : List Filled → Type 0} (test : Filled → Bool) (p' q' : Parser A) (last : ℕ) → Begins F P S p' last → ((us : List Filled) → S us → next_is test us ≡ true) → Begins F P S (if_next test p' q') last
-  fresh-yes test p' q' last f hit = record { more = f.more; value = f.value; last = f.last; ok = f.ok; reads = λ us h. ap (λ b. choose b p' q' (record { tokens = fills f.more ++ us; last = last })) (hit (fills f.more ++ us) (f.starts us h)) ∙ f.reads us h; starts = f.starts }
+  fresh-yes test p' q' last f hit = λ n. let g = f n in record { more = g.more; value = g.value; last = g.last; ok = g.ok; reads = λ us h a. ap (λ b. choose b p' q' (record { tokens = fills n g.more ++ us; last = last })) (hit (fills n g.more ++ us) (g.starts us h)) ∙ g.reads us h a; starts = g.starts }
 
   -- completed with the second reader, or with the first
   pub looks-no : {lim : Limit} {S : List Filled → Type 0} (test : Filled → Bool) (p p' q q' : Parser A) (s : Input) → Partly lim F P p p' s → Viable lim F P S q q' s → ((us : List Filled) → S us → next_is test us ≡ false) → Viable lim F P S (if_next test p q) (if_next test p' q') s
@@ -464,12 +498,11 @@ module _ {A : Type 0} {F : A → List Filled → Type 0} {P : A → Type 0} wher
   pub half-begins : {lim : Limit} (p p' : ℕ → Parser A) (s : Input) → ((at : ℕ) → Partly lim F P (p at) (p' at) s) → Partly lim F P (from p) (from p') s
   half-begins p p' s f = relay (λ us k. ap (λ at. p' at (record { tokens = us; last = s.last })) (same-begin k)) (f (begin_of s.tokens))
 
-  pub begins : {lim : Limit} {S : List Filled → Type 0} (p p' : ℕ → Parser A) (s : Input) → ((us : List Filled) → S us → begin_of us ≡ 0) → ((at : ℕ) → Viable lim F P S (p at) (p' at) s) → Viable lim F P S (from p) (from p') s
-  begins p p' s zeros f =
-      let e = (f 0).fresh in
+  pub begins : {lim : Limit} {S : List Filled → Type 0} (p p' : ℕ → Parser A) (s : Input) → ((n : ℕ) (us : List Filled) → S us → Stands n us → begin_of us ≡ n) → ((at : ℕ) → Viable lim F P S (p at) (p' at) s) → Viable lim F P S (from p) (from p') s
+  begins p p' s place f =
       record {
         half = half-begins p p' s (λ at. (f at).half);
-        fresh = record { more = e.more; value = e.value; last = e.last; ok = e.ok; reads = λ us h. ap (λ at. p' at (record { tokens = fills e.more ++ us; last = s.last })) (zeros (fills e.more ++ us) (e.starts us h)) ∙ e.reads us h; starts = e.starts };
+        fresh = λ n. let e = (f n).fresh n in record { more = e.more; value = e.value; last = e.last; ok = e.ok; reads = λ us h a. ap (λ at. p' at (record { tokens = fills n e.more ++ us; last = s.last })) (place n (fills n e.more ++ us) (e.starts us h) (filled-stand n e.more us a)) ∙ e.reads us h a; starts = e.starts };
       }
 
   -- ## Groups and semicolons
@@ -493,8 +526,8 @@ module _ {A : Type 0} {F : A → List Filled → Type 0} {P : A → Type 0} wher
     where
       ends-at : (t : Filled) (x : B) (last : ℕ) → test t ≡ Some x → Ends F P (λ us. on test p' q' (record { tokens = us; last = last })) (t ∷ [])
       ends-at t x last e =
-          let n = (f x (record { tokens = []; last = t.span.end })).fresh in
-          record { more = n.more; value = n.value; last = n.last; ok = n.ok; reads = λ us m. ap (λ z. on_taken z t (fills n.more ++ us) p' q' (record { tokens = t ∷ (fills n.more ++ us); last = last })) e ∙ n.reads us m }
+          λ at. let n = (f x (record { tokens = []; last = t.span.end })).fresh at in
+          record { more = n.more; value = n.value; last = n.last; ok = n.ok; reads = λ us m a. ap (λ z. on_taken z t (fills at n.more ++ us) p' q' (record { tokens = t ∷ (fills at n.more ++ us); last = last })) e ∙ n.reads us m a }
 
       by : (b : Bool) → i.may_open ≡ b → (ts : List Filled) (last : ℕ) → next_is opens ts ≡ true → Partly lim F P q q' (record { tokens = ts; last = last })
           → Half lim F P (λ us. on test p' q' (record { tokens = us; last = last })) ts (choose b (on test p q) (fails Depth) (record { tokens = ts; last = last }))
@@ -509,25 +542,25 @@ module _ {A : Type 0} {F : A → List Filled → Type 0} {P : A → Type 0} wher
   pub half-group : {S : List Filled → Type 0} {lim : Limit} (i j : Inner) → j.may_open ≡ true → (m : Mark) (p p' q q' : Parser A) (s : Input) → ((c : Input) → Viable lim F P S p p' c) → Partly lim F P q q' s → Partly lim F P (on_group i m p q) (on_group j m p' q') s
   half-group i j o m p p' q q' s f g = half-group-in i j o (λ n a. a) (λ e z. z) m p p' q q' s f g
 
-  fresh-group : {S : List Filled → Type 0} (j : Inner) → j.may_open ≡ true → (m : Mark) → next_mark m (fill (Punctuator m)) ≡ true → (p' q' : Parser A) (last : ℕ) → Begins F P S p' 0 → Begins F P (λ us. Head (Punctuator m) us) (on_group j m p' q') last
-  fresh-group j o m e p' q' last f = record {
-    more = Punctuator m ∷ f.more;
-    value = f.value;
-    last = f.last;
-    ok = f.ok;
-    reads = λ us h. ap (λ b. choose b (choose j.may_open (on (mark m) (λ t. p') q') (fails Depth)) q' (at_mark us)) e ∙ ap (λ b. choose b (on (mark m) (λ t. p') q') (fails Depth) (at_mark us)) o
-        ∙ ap (λ b. on_taken (kept_if b (fill (Punctuator m))) (fill (Punctuator m)) (fills f.more ++ us) (λ t. p') q' (at_mark us)) e ∙ f.reads us h;
+  fresh-group : {S : List Filled → Type 0} (j : Inner) → j.may_open ≡ true → (m : Mark) → ((span : Span) → next_mark m (put (Punctuator m) span) ≡ true) → (p' q' : Parser A) (last : ℕ) → ((n : ℕ) → Begins F P S p' (suc n)) → Begins F P (λ us. Head (Punctuator m) us) (on_group j m p' q') last
+  fresh-group j o m e p' q' last f = λ n. let g = f n (suc n) in record {
+    more = Punctuator m ∷ g.more;
+    value = g.value;
+    last = g.last;
+    ok = g.ok;
+    reads = λ us h a. ap (λ b. choose b (choose j.may_open (on (mark m) (λ t. p') q') (fails Depth)) q' (at_mark n (fills (suc n) g.more ++ us))) (e (at_place n)) ∙ ap (λ b. choose b (on (mark m) (λ t. p') q') (fails Depth) (at_mark n (fills (suc n) g.more ++ us))) o
+        ∙ ap (λ b. on_taken (kept_if b (put (Punctuator m) (at_place n))) (put (Punctuator m) (at_place n)) (fills (suc n) g.more ++ us) (λ t. p') q' (at_mark n (fills (suc n) g.more ++ us))) (e (at_place n)) ∙ g.reads us h a;
     starts = λ us h. head;
   }
     where
-      at_mark : List Filled → Input
-      at_mark us = record { tokens = fill (Punctuator m) ∷ (fills f.more ++ us); last = last }
+      at_mark : ℕ → List Filled → Input
+      at_mark n us = record { tokens = put (Punctuator m) (at_place n) ∷ us; last = last }
 
-  pub group-must-in : {lim other : Limit} {S : List Filled → Type 0} (i j : Inner) → j.may_open ≡ true → ((n : ℕ) → other.allows n → lim.allows n) → (i.may_open ≡ true → other.shallow → lim.shallow) → (m : Mark) → next_mark m (fill (Punctuator m)) ≡ true → (p p' q q' : Parser A) (s : Input) → ((c : Input) → Viable other F P S p p' c) → Partly lim F P q q' s
+  pub group-must-in : {lim other : Limit} {S : List Filled → Type 0} (i j : Inner) → j.may_open ≡ true → ((n : ℕ) → other.allows n → lim.allows n) → (i.may_open ≡ true → other.shallow → lim.shallow) → (m : Mark) → ((span : Span) → next_mark m (put (Punctuator m) span) ≡ true) → (p p' q q' : Parser A) (s : Input) → ((c : Input) → Viable other F P S p p' c) → Partly lim F P q q' s
       → Viable lim F P (λ us. Head (Punctuator m) us) (on_group i m p q) (on_group j m p' q') s
-  group-must-in i j o w v m e p p' q q' s f g = record { half = half-group-in i j o w v m p p' q q' s f g; fresh = fresh-group j o m e p' q' s.last (f (record { tokens = []; last = 0 })).fresh }
+  group-must-in i j o w v m e p p' q q' s f g = record { half = half-group-in i j o w v m p p' q q' s f g; fresh = fresh-group j o m e p' q' s.last (λ n. (f (record { tokens = []; last = suc n })).fresh) }
 
-  pub group-must : {lim : Limit} {S : List Filled → Type 0} (i j : Inner) → j.may_open ≡ true → (m : Mark) → next_mark m (fill (Punctuator m)) ≡ true → (p p' q q' : Parser A) (s : Input) → ((c : Input) → Viable lim F P S p p' c) → Partly lim F P q q' s
+  pub group-must : {lim : Limit} {S : List Filled → Type 0} (i j : Inner) → j.may_open ≡ true → (m : Mark) → ((span : Span) → next_mark m (put (Punctuator m) span) ≡ true) → (p p' q q' : Parser A) (s : Input) → ((c : Input) → Viable lim F P S p p' c) → Partly lim F P q q' s
       → Viable lim F P (λ us. Head (Punctuator m) us) (on_group i m p q) (on_group j m p' q') s
   group-must i j o m e p p' q q' s f g = group-must-in i j o (λ n a. a) (λ e z. z) m e p p' q q' s f g
 
@@ -545,37 +578,37 @@ module _ {A : Type 0} {F : A → List Filled → Type 0} {P : A → Type 0} wher
 
   -- other completions
   pub weaken : {lim : Limit} {G : A → List Filled → Type 0} {Q : A → Type 0} {S : List Filled → Type 0} {run : List Filled → Outcome A} {ts : List Filled} {o : Outcome A} → ((y : A) → P y → Q y) → ((y : A) (us : List Filled) → P y → G y us → F y us) → Goes lim F P S run ts o → Goes lim G Q S run ts o
-  weaken {lim = lim} {G = G} {Q = Q} v w g = record { half = half-weak g.half; fresh = record { more = g.fresh.more; value = g.fresh.value; last = g.fresh.last; ok = v g.fresh.value g.fresh.ok; reads = λ us h. g.fresh.reads us (w g.fresh.value us g.fresh.ok h); starts = λ us h. g.fresh.starts us (w g.fresh.value us g.fresh.ok h) } }
+  weaken {lim = lim} {G = G} {Q = Q} v w g = record { half = half-weak g.half; fresh = λ at. let n = g.fresh at in record { more = n.more; value = n.value; last = n.last; ok = v n.value n.ok; reads = λ us h a. n.reads us (w n.value us n.ok h) a; starts = λ us h. n.starts us (w n.value us n.ok h) } }
     where
       half-weak : {run : List Filled → Outcome A} {ts : List Filled} {o : Outcome A} → Half lim F P run ts o → Half lim G Q run ts o
       half-weak (stands e k) = stands e k
-      half-weak (some t front e k n) = some t front e k (record { more = n.more; value = n.value; last = n.last; ok = v n.value n.ok; reads = λ us h. n.reads us (w n.value us n.ok h) })
-      half-weak (beyond front e n) = beyond front e (record { more = n.more; value = n.value; last = n.last; ok = v n.value n.ok; reads = λ us h. n.reads us (w n.value us n.ok h) })
+      half-weak (some t front e k ends) = some t front e k (λ at. let n = ends at in record { more = n.more; value = n.value; last = n.last; ok = v n.value n.ok; reads = λ us h a. n.reads us (w n.value us n.ok h) a })
+      half-weak (beyond front e ends) = beyond front e (λ at. let n = ends at in record { more = n.more; value = n.value; last = n.last; ok = v n.value n.ok; reads = λ us h a. n.reads us (w n.value us n.ok h) a })
       half-weak (gives_up k) = gives_up k
 
 -- ## Single tokens
 
-pub take : {lim : Limit} {B : Type 0} {F : B → List Filled → Type 0} (test : Filled → Option B) (k : TokenKind) (x : B) → test (fill k) ≡ Some x → (s : Input) → Viable lim F Any (λ us. Head k us) (take_as test) (take_as test) s
+pub take : {lim : Limit} {B : Type 0} {F : B → List Filled → Type 0} (test : Filled → Option B) (k : TokenKind) (x : Span → B) → ((span : Span) → test (put k span) ≡ Some (x span)) → (s : Input) → Viable lim F Any (λ us. Head k us) (take_as test) (take_as test) s
 take test k x e s = must test k x e _ _ _ _ s (λ y c. done-ok tt) (nowhere s)
 
 pub done : {lim : Limit} {A : Type 0} {F : A → List Filled → Type 0} {ts : List Filled} {last : ℕ} {x : A} → Goes lim F Any (λ us. F x us) (λ us. Took x (record { tokens = us; last = last })) ts (Took x (record { tokens = ts; last = last }))
 done = done-ok tt
 
-pub head-zero : {k : TokenKind} (us : List Filled) → Head k us → begin_of us ≡ 0
-head-zero us head = refl
+pub head-place : {k : TokenKind} (n : ℕ) (us : List Filled) → Head k us → Stands n us → begin_of us ≡ n
+head-place n us head a = a
 
-pub on-head : {k : TokenKind} (Q : List Filled → Type 0) → ((us : List Filled) → Q (fill k ∷ us)) → (us : List Filled) → Head k us → Q us
-on-head Q f us (head {us = vs}) = f vs
+pub on-head : {k : TokenKind} (Q : List Filled → Type 0) → ((span : Span) (us : List Filled) → Q (put k span ∷ us)) → (us : List Filled) → Head k us → Q us
+on-head Q f us (head {span = span} {us = vs}) = f span vs
 
 -- nothing is left to be completed
 pub finished-ok : {A : Type 0} {F : A → List Filled → Type 0} {P : A → Type 0} {last : ℕ} {x : A} → P x → Fresh F P (λ us. F x us) (λ us. Took x (record { tokens = us; last = last }))
-finished-ok {last = last} {x = x} ok = record { more = []; value = x; last = last; ok = ok; reads = λ us h. refl; starts = λ us h. h }
+finished-ok {last = last} {x = x} ok = λ n. record { more = []; value = x; last = last; ok = ok; reads = λ us h a. refl; starts = λ us h. h }
 
 pub finished : {A : Type 0} {F : A → List Filled → Type 0} {last : ℕ} {x : A} → Fresh F Any (λ us. F x us) (λ us. Took x (record { tokens = us; last = last }))
 finished = finished-ok tt
 
-pub begins-fresh : {A : Type 0} {F : A → List Filled → Type 0} {P : A → Type 0} {S : List Filled → Type 0} (p' : ℕ → Parser A) (last : ℕ) → ((us : List Filled) → S us → begin_of us ≡ 0) → Begins F P S (p' 0) last → Begins F P S (from p') last
-begins-fresh p' last zeros e = record { more = e.more; value = e.value; last = e.last; ok = e.ok; reads = λ us h. ap (λ at. p' at (record { tokens = fills e.more ++ us; last = last })) (zeros (fills e.more ++ us) (e.starts us h)) ∙ e.reads us h; starts = e.starts }
+pub begins-fresh : {A : Type 0} {F : A → List Filled → Type 0} {P : A → Type 0} {S : List Filled → Type 0} (p' : ℕ → Parser A) (last : ℕ) → ((n : ℕ) (us : List Filled) → S us → Stands n us → begin_of us ≡ n) → ((at : ℕ) → Begins F P S (p' at) last) → Begins F P S (from p') last
+begins-fresh p' last place f = λ n. let e = f n n in record { more = e.more; value = e.value; last = e.last; ok = e.ok; reads = λ us h a. ap (λ at. p' at (record { tokens = fills n e.more ++ us; last = last })) (place n (fills n e.more ++ us) (e.starts us h) (filled-stand n e.more us a)) ∙ e.reads us h a; starts = e.starts }
 
 -- by tokens of which is not said how they begin
 pub anywhere : {lim : Limit} {A : Type 0} {F : A → List Filled → Type 0} {P : A → Type 0} {S : List Filled → Type 0} {run : List Filled → Outcome A} {ts : List Filled} {o : Outcome A} → Goes lim F P S run ts o → Goes lim F P Anything run ts o
@@ -586,4 +619,4 @@ no-next test p q us last e = ap (λ b. choose b p q (record { tokens = us; last 
 
 -- what takes nothing there
 pub nothing-more : {A : Type 0} {F : A → List Filled → Type 0} {P : A → Type 0} {run : List Filled → Outcome A} (x : A) (last : ℕ) → P x → ((us : List Filled) → F x us → run us ≡ Took x (record { tokens = us; last = last })) → Fresh F P (λ us. F x us) run
-nothing-more x last ok r = record { more = []; value = x; last = last; ok = ok; reads = r; starts = λ us h. h }
+nothing-more x last ok r = λ n. record { more = []; value = x; last = last; ok = ok; reads = λ us h a. r us h; starts = λ us h. h }

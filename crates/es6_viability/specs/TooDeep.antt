@@ -114,3 +114,7 @@ FaultsStandAtStops = (fuel : ℕ) (tokens : List Token) (stop : Stop) (rest : Li
 
 abbrev pub LexicalFaultsAreStops : Type 0
 LexicalFaultsAreStops = (fuel : ℕ) (tokens : List Token) (kind : LexicalKind) (rest : List Filled) → read_module fuel (map read tokens) ≡ Fault (Lexical kind) rest → StopsAt tokens (begin_of rest) (Lexical kind)
+
+-- And so does one for depth, of tokens in order, if the token isn't empty, as only the last of a text is.
+abbrev pub DepthFaultsAreStops : Type 0
+DepthFaultsAreStops = (fuel : ℕ) (front behind : List Token) (t : Token) → read_module fuel (map read (front ++ t ∷ behind)) ≡ Fault Depth (map read (t ∷ behind)) → AreInOrder (front ++ t ∷ behind) → t.span.begin < t.span.end → StopsAt (front ++ t ∷ behind) t.span.begin Depth
