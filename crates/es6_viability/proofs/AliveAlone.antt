@@ -106,7 +106,7 @@ module _ {A : Type 0} (Spells : A → List Token → List Token → Type 0) (k :
     where
       whole : map read front ≡ t ∷ before
       whole = append_cancel_right (map read front) (t ∷ before) (map read behind) (sym (map-append read front behind) ∙ e ∙ ap (λ us. (t ∷ before) ++ us) (ap left h))
-  alive-by front behind stop final h (beyond taken e more) f = alive-seen front behind taken e (fault-rest h) more
+  alive-by front behind stop final h (beyond taken e z more) f = alive-seen front behind taken e (fault-rest h) more
   alive-by front behind stop final h (gives_up a) f = absurd (final (stop-of h))
     where
       stop-of : {us vs : List Filled} → ◌≡◌ {A = Outcome A} (Fault Endless us) (Fault stop vs) → stop ≡ Endless
@@ -115,7 +115,7 @@ module _ {A : Type 0} (Spells : A → List Token → List Token → Type 0) (k :
   alive-deep : {fuel : ℕ} (front behind : List Token) (t : Token) {o : Outcome A} → o ≡ Fault Depth (map read (t ∷ behind)) → Half (deepest true fuel) F Any run (map read (front ++ t ∷ behind)) o → IsBegun Spells (front ++ t ∷ [])
   alive-deep {fuel = fuel} front behind t h (stands e l) = absurd (subst (λ o. Stays (deepest true fuel) run [] o) h l refl)
   alive-deep {fuel = fuel} front behind t h (some u before e l more) = absurd (subst (λ o. Stays (deepest true fuel) run (u ∷ before) o) h l refl)
-  alive-deep front behind t h (beyond taken e more) = alive-beyond front behind t taken e (fault-rest h) more
+  alive-deep front behind t h (beyond taken e z more) = alive-beyond front behind t taken e (fault-rest h) more
   alive-deep front behind t h (gives_up a) = absurd (cc)
 
 -- one token ends what is spelled before it

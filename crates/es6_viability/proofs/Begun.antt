@@ -12,19 +12,17 @@ use Rattle.es6_ast.specs.declared.operators.VariableKind.{VariableKind}
 use Rattle.es6_ast.specs.declared.operators.VariableKind.TheVariants.{Var}
 use Rattle.es6_ast.specs.declared.settings.Flags.{Flags}
 use Rattle.es6_ast.specs.declared.settings.Role.{Role}
-use Rattle.es6_ast.specs.declared.settings.Role.TheVariants.{Leading, Among, Heritage, Callee}
+use Rattle.es6_ast.specs.declared.settings.Role.TheVariants.{Leading, Among}
 use Rattle.es6_ast.specs.declared.settings.Stand.{Stand}
 use Rattle.es6_ast.specs.declared.settings.Stand.TheVariants.{Listed, Under, Labelled}
-use Rattle.es6_ast.specs.declared.settings.Stop.{Stop}
 use Rattle.es6_ast.specs.declared.settings.Stop.TheVariants.{Depth, Endless, Syntax}
 use Rattle.es6_ast.specs.declared.tree.Expression.{Expression}
 use Rattle.es6_ast.specs.declared.tree.Identifier.{Identifier}
-use Rattle.es6_ast.specs.declared.tree.Statement.{Statement}
 use Rattle.es6_ast.specs.declared.tree.Stretch.{Stretch}
 use Rattle.es6_ast.specs.Grammar.{with_in}
 use Rattle.es6_ast.specs.Settings.{has_calls, is_leading}
 use Rattle.es6_ast.specs.Tokens.{Filled, Filling, Read, is_word}
-use Rattle.es6_reading.specs.Parser.{Input, Outcome, Took, Fault, Parser, Reading, fails, after, on, on_taken, choose, next_is, if_next, is_mark, is_left, mark, next_mark, word, next_word, take_as, refused, no_expression, semicolon, inserts, Inner, on_group}
+use Rattle.es6_reading.specs.Parser.{Input, Outcome, Took, Fault, Parser, Reading, fails, after, on, on_taken, choose, if_next, is_mark, is_left, mark, next_mark, word, next_word, take_as, refused, no_expression, semicolon, Inner, on_group}
 use Rattle.es6_reading.specs.Words.{begins_expression, begins_operand, begins_unary, before_at, free_name, is_any_word, is_template_head, lexical_kind_at, literal_at, operand_words, stretch_at, stretch_in, unary_at, unary_operators}
 use Rattle.es6_reading.specs.Parts as t6
 use Rattle.es6_reading.specs.Expressions as e

@@ -150,7 +150,7 @@ module _ {A : Type 0} (count : A → List Token → ℕ) (D : A → ℕ → ℕ)
   over : (front behind others : List Token) (t : Token) → Passes (length behind) (made_of (front ++ t ∷ behind)) → suc (length others) ≤ length (left (made_of (front ++ t ∷ others))) → ⊥
   over front behind others t h l =
       let e = not-passed p p0 same-run local (map read front) (map read others) (map read behind) (read t)
-          (subst (λ ts. suc (length (map read others)) ≤ length (left (p (record { tokens = ts; last = 0 })))) (map-append read front (t ∷ others)) (subst (λ n. suc n ≤ length (left (made_of (front ++ t ∷ others)))) (sym (length-map others read)) l)) in
+      (subst (λ ts. suc (length (map read others)) ≤ length (left (p (record { tokens = ts; last = 0 })))) (map-append read front (t ∷ others)) (subst (λ n. suc n ≤ length (left (made_of (front ++ t ∷ others)))) (sym (length-map others read)) l)) in
       let n : length (map read behind) ≡ length behind = length-map behind read in
       let short = passes-left (made_of (front ++ t ∷ behind)) (length behind) h in
       never-both (length behind) (length (left (made_of (front ++ t ∷ behind)))) (subst (λ ts. suc (length behind) ≤ length (left (p (record { tokens = ts; last = 0 })))) (sym (map-append read front (t ∷ behind))) (subst (λ k. suc k ≤ length (left (p (record { tokens = map read front ++ read t ∷ map read behind; last = 0 })))) n e)) short

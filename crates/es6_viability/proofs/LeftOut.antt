@@ -197,7 +197,7 @@ module _ {A : Type 0} (p : Bool → ℕ → ℕ → Parser A) (Full : List Fille
           let more = filled 0 in
           let row : short ++ (fills 0 more.more ++ []) ≡ (u ∷ front) ++ (fills 0 more.more ++ []) = ap (λ us. us ++ (fills 0 more.more ++ [])) whole in
           dead (fills 0 more.more ++ [], full (suc fuel) (plus (suc room) 3) (short ++ (fills 0 more.more ++ [])) more.value more.last (ap (run false (suc fuel) (plus (suc room) 3)) row ∙ more.reads [] (ends more.value) tt))
-      completed n (beyond front e more) = absurd (cc)
+      completed n (beyond front e z more) = absurd (cc)
       completed n (gives_up a) = few (length short) fuel turns (a refl)
         where
           few : (n m : ℕ) → suc (suc n) ≤ m → m ≤ suc n → ⊥

@@ -1,19 +1,16 @@
 -- A reader of a module stops no later than at the first token that is dead or too deep, and of a module that is read there is none. What
 -- stops it but for depth is the first.
 use Rattle.std.specs.Prelude.{slice_get}
-use Rattle.std.proofs.Common.{◌≡◌, ◌∙◌, ◌⊎◌, inl, inr, ℕ, suc, ◌+◌, ◌-◌, ◌<◌, ◌≤◌, true, List, [], ◌∷◌, ◌++◌, drop, length, length-append, map, take, ap, refl, sym, subst, arith}
+use Rattle.std.proofs.Common.{◌≡◌, ◌∙◌, inl, inr, ℕ, suc, ◌+◌, ◌-◌, ◌<◌, ◌≤◌, true, List, [], ◌∷◌, ◌++◌, drop, length, length-append, map, ap, refl, sym, subst, arith}
 use Rattle.std.proofs.lemmas.List.{length-map, take-append-drop}
-use Rattle.es6_lexer.specs.declared.token.LexicalKind.{LexicalKind}
 use Rattle.es6_lexer.specs.declared.token.Token.{Token}
-use Rattle.es6_ast.specs.declared.module.Module.{Module}
 use Rattle.es6_ast.specs.declared.settings.Stop.{Stop}
 use Rattle.es6_ast.specs.declared.settings.Stop.TheVariants.{Endless, Lexical}
-use Rattle.es6_ast.specs.Dead.{IsDead, IsTooDeep, StopsAt}
+use Rattle.es6_ast.specs.Dead.{StopsAt}
 use Rattle.es6_ast.specs.Semicolons.{SpellsModule}
 use Rattle.es6_ast.specs.Tokens.{Filled, begin_of, read}
 use Rattle.es6_reading.specs.Laws.{IsFinal, Says}
 use Rattle.es6_reading.specs.Modules.{most_open, read_module, readers, whole_module}
-use Rattle.es6_reading.specs.Parser.{Input, Took, Fault}
 use Rattle.es6_reading.proofs.Completeness.{what-is-derived-is-read}
 use Rattle.es6_reading.proofs.PlacesOfModules.{places, says}
 use Rattle.es6_reading.proofs.Spelled.{spelled}

@@ -1,9 +1,9 @@
 -- Names, patterns, functions and classes can be completed wherever their readers stop.
 use Rattle.std.specs.Prelude.{codes, is_some}
-use Rattle.std.proofs.Common.{◌≡◌, ℕ, suc, Bool, true, false, List, [], ◌∷◌, Option, Some, None, refl}
+use Rattle.std.proofs.Common.{◌≡◌, ℕ, suc, Bool, true, false, List, [], ◌∷◌, Option, Some, None, ap, refl}
 use Rattle.std.proofs.lemmas.Bool.{false≢true}
 use Rattle.es_text.specs.declared.Span.{Span}
-use Rattle.es6_lexer.specs.declared.token.TokenKind.TheVariants.{Word, Punctuator, Template}
+use Rattle.es6_lexer.specs.declared.token.TokenKind.TheVariants.{Word, Punctuator, Template, End}
 use Rattle.es6_lexer.specs.declared.token.Punctuator.{Punctuator as Mark}
 use Rattle.es6_lexer.specs.declared.token.Punctuator.TheVariants as marks
 use Rattle.es6_ast.specs.declared.operators.MethodKind.{MethodKind}
@@ -13,11 +13,11 @@ use Rattle.es6_ast.specs.declared.tree.Identifier.{Identifier}
 use Rattle.es6_ast.specs.declared.tree.Key.{Key}
 use Rattle.es6_ast.specs.declared.tree.Stretch.{Stretch}
 use Rattle.es6_ast.specs.declared.tree.Template.{Template as Template'}
-use Rattle.es6_ast.specs.Tokens.{Filled}
+use Rattle.es6_ast.specs.Tokens.{Filled, Read}
 use Rattle.es6_ast.specs.Grammar.{with_in, of_function}
 use Rattle.es6_reading.specs.Parser as p
 use Rattle.es6_reading.specs.Parser.{Input, Outcome, Took, Parser, returns, mark, word, next_is, next_mark, take_as, Inner, semicolon}
-use Rattle.es6_reading.specs.Words.{free_name, any_name, key_at, WordToken, stretch_at}
+use Rattle.es6_reading.specs.Words.{free_name, any_name, key_at, WordToken, stretch_at, stretch_in}
 use Rattle.es6_reading.specs.Parts as t6
 use Rattle.es6_reading.proofs.FollowParts as parts'
 use Rattle.es6_reading.proofs.Locality.{Turns, over, turn}
@@ -94,6 +94,9 @@ semicolon_ i j e s = must _ (Punctuator marks.Semicolon) (put (Punctuator marks.
 pub do-while-end : {lim : Limit} (i j : Inner) → j.inserting ≡ i.inserting → (s : Input) → Viable lim Free Any (λ us. Head (Punctuator marks.Semicolon) us) (p.semicolon_of_do_while i) (p.semicolon_of_do_while j) s
 unfolding p.semicolon_of_do_while
 do-while-end i j e s = must _ (Punctuator marks.Semicolon) (put (Punctuator marks.Semicolon)) (λ span. refl) _ _ _ _ s (λ t c. done) (half-mode i.inserting j.inserting e _ _ s (half-looks _ _ _ _ _ s rests (nowhere s)))
+
+no-stretch : (t : Filled) → t.kind ≡ Read End → is_some (stretch_at true false t) ≡ false
+no-stretch t e = ap (λ k. is_some (stretch_in true false t.span k)) e
 
 known-some : {A : Type 0} (o : Option A) → is_some o ≡ true → (x : A) × (o ≡ Some x)
 known-some (Some x) e = (x, refl)
@@ -262,4 +265,4 @@ module _ {lim : Limit} {l : ℕ} (i j : Inner) (h : Better lim l i j) where
 
   pub half-template : {A : Type 0} {F : A → List Filled → Type 0} {P : A → Type 0} {S : Template' → List Filled → Type 0} (f : Flags) (at : ℕ) (p p' : Template' → Parser A) (q q' : Parser A) (s : Input) → ((m : Template') (c : Input) → Viable lim F P (S m) (p m) (p' m) c) → Partly lim F P q q' s
       → Partly lim F P (t6.on_template i f at p q) (t6.on_template j f at p' q') s
-  half-template {F = F} {P = P} f at p p' q q' s k g = half-on _ _ _ _ _ s (λ r c. past (k _ c)) (half-opening {S = λ r us. Head x_ us} i j h.opens (λ n a. a) (λ e z. z) (stretch_at true false) (λ t. is_some (stretch_at true false t)) (λ t e. known-some (stretch_at true false t) e) _ _ _ _ s (λ r c. bind _ _ (parted f at r c) (λ m d. k m d) (λ y us t. tt)) g)
+  half-template {F = F} {P = P} f at p p' q q' s k g = half-on _ _ _ _ _ s (λ r c. past (k _ c)) (half-opening {S = λ r us. Head x_ us} i j h.opens (λ n a. a) (λ e z. z) (stretch_at true false) (λ t. is_some (stretch_at true false t)) (λ t e. known-some (stretch_at true false t) e) no-stretch _ _ _ _ s (λ r c. bind _ _ (parted f at r c) (λ m d. k m d) (λ y us t. tt)) g)

@@ -4,7 +4,6 @@ use Rattle.std.proofs.Common.{◌≡◌, ◌∙◌, inr, ℕ, suc, ◌+◌, ◌<
 use Rattle.std.proofs.lemmas.List.{length-map}
 use Rattle.es6_lexer.specs.declared.token.Token.{Token}
 use Rattle.es6_lexer.specs.declared.token.TokenKind.{TokenKind}
-use Rattle.es6_ast.specs.declared.settings.Stop.{Stop}
 use Rattle.es6_ast.specs.declared.settings.Stop.TheVariants.{Depth, Endless}
 use Rattle.es6_ast.specs.Dead.{AreInOrder, IsBefore, IsTooDeep, too_deep}
 use Rattle.es6_ast.specs.Semicolons.{SpellsModule}
@@ -12,7 +11,7 @@ use Rattle.es6_ast.specs.Tokens.{read}
 use Rattle.es6_reading.specs.Modules.{most_open, read_module}
 use Rattle.es6_reading.specs.Parser.{Fault}
 use Rattle.es6_reading.proofs.Completeness.{what-is-derived-is-read}
-use Rattle.es6_viability.specs.TooDeep.{DepthFaultsAreStops, open_in_module}
+use Rattle.es6_viability.specs.TooDeep.{DepthFaultsAreStops, DepthFaultsStandBeforeTheEnd, open_in_module}
 use Rattle.es6_viability.proofs.NoStop.{before-it, module-read, no-stop-passed}
 use Rattle.es6_viability.proofs.Passed.{seam, take-next}
 use Rattle.es6_viability.proofs.Readers.{depth-placed, tokens_at}
@@ -51,7 +50,7 @@ row-of front behind t = ap (λ n. take n (front ++ t ∷ behind)) (next-is (leng
 
 deep-there : (fuel : ℕ) (front behind : List Token) (t : Token) → read_module fuel (map read (front ++ t ∷ behind)) ≡ Fault Depth (map read (t ∷ behind)) → AreInOrder (front ++ t ∷ behind) → t.span.begin < t.span.end → IsTooDeep (front ++ t ∷ behind) (length front)
 deep-there fuel front behind t e order h =
-    let q = depth-placed what-is-derived-is-read fuel front behind t e t.span.end in
+    let q = (depth-placed what-is-derived-is-read fuel front behind t e).1 t.span.end in
     let rest : List Token = tokens_at t.span.end q.0 in
     let row = row-of front behind t in
     let stands : AreInOrder ((front ++ t ∷ []) ++ rest) = completed front behind t order h q.0 in
@@ -91,3 +90,6 @@ depth-stops fuel front behind t e order h =
       reported = too_deep deep;
       place = refl;
     }
+
+pub depth-before-end : DepthFaultsStandBeforeTheEnd
+depth-before-end fuel front behind t e = (depth-placed what-is-derived-is-read fuel front behind t e).0

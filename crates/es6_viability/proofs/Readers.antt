@@ -1,7 +1,7 @@
 -- The readers tied into one another can be completed, each by those with more room; and so the tokens before a fault are alive, and the
 -- token at which one stands for depth.
 use Rattle.std.specs.Prelude.{codes}
-use Rattle.std.proofs.Common.{◌≡◌, ◌∙◌, inr, ℕ, zero, suc, ◌+◌, ◌≤◌, arith, Bool, true, false, List, [], ◌∷◌, ◌++◌, map, Some, None, refl, sym, ap, subst, append_assoc}
+use Rattle.std.proofs.Common.{◌≡◌, ◌∙◌, ◌||◌, ◌&&◌, inr, ℕ, zero, suc, ◌+◌, ◌≤◌, arith, Bool, true, false, List, [], ◌∷◌, ◌++◌, map, Some, None, refl, sym, ap, subst, append_assoc}
 use Rattle.std.proofs.lemmas.Bool.{false≢true}
 use Rattle.std.proofs.lemmas.List.{append_cancel_right, map-append, append-nil}
 use Rattle.es_outside.specs.HostNames.{reserved_words}
@@ -15,7 +15,7 @@ use Rattle.es6_ast.specs.Modules.{IsModule}
 use Rattle.es6_ast.specs.Semicolons as semicolons'
 use Rattle.es6_ast.specs.Semicolons.{Fills, SpellsModule}
 use Rattle.es6_ast.specs.Settings.{is_leading, has_calls}
-use Rattle.es6_ast.specs.Tokens.{Filled, read}
+use Rattle.es6_ast.specs.Tokens.{Filled, Read, is_word, read}
 use Rattle.es6_ast.specs.declared.module.Module.{Module}
 use Rattle.es6_ast.specs.declared.settings.Flags.{Flags}
 use Rattle.es6_ast.specs.declared.settings.Role.{Role}
@@ -39,8 +39,8 @@ use Rattle.es6_ast.specs.declared.operators.MethodKind.TheVariants.{PlainMethod}
 use Rattle.es6_ast.specs.Grammar.{name_target, name_alone, method_of}
 use Rattle.es6_reading.specs.Laws.{IsComplete, IsReadAlone}
 use Rattle.es6_reading.specs.Modules.{readers, whole_module, most_open, read_module}
-use Rattle.es6_reading.specs.Parser.{Input, Outcome, Took, Fault, Parser, fails, after, choose, next_is, if_next, on, mark, next_mark, word, next_word, made, no_expression, no_number, Reading, Inner}
-use Rattle.es6_reading.specs.Words.{after_at, assign_at, begins_expression, begins_operand, begins_unary, is_arrow, unary_operators}
+use Rattle.es6_reading.specs.Parser.{Input, Outcome, Took, Fault, Parser, fails, after, choose, next_is, if_next, on, mark, next_mark, word, next_word, made, no_expression, no_number, is_mark, Reading, Inner}
+use Rattle.es6_reading.specs.Words.{after_at, assign_at, begins_expression, begins_operand, begins_unary, is_any_word, is_arrow, operand_words, unary_operators}
 use Rattle.es6_reading.specs.Parts as t6
 use Rattle.es6_reading.specs.Expressions as e6
 use Rattle.es6_reading.specs.Statements as s6
@@ -310,7 +310,7 @@ token-ends {A = A} {F = F} {P = P} {run = run} t (stands {o = o} e k) h = absurd
     never : t ∷ [] ≡ [] → ⊥
     never e = absurd (cc)
 token-ends {A = A} {F = F} {P = P} {run = run} t (some {o = o} u front e k n) h = subst (λ vs. Ends F P run vs) (sym (e ∙ ap (λ vs. (u ∷ front) ++ vs) (over-left o h) ∙ append-nil (u ∷ front))) n
-token-ends t (beyond front e n) h = absurd (never h.1)
+token-ends t (beyond front e z n) h = absurd (never h.1)
   where
     never : {u : Filled} {us : List Filled} → u ∷ us ≡ [] → ⊥
     never e = absurd (cc)
@@ -319,11 +319,34 @@ token-ends t (gives_up a) h = absurd (h.0 refl)
 abbrev pub deepest : Bool → ℕ → Limit
 deepest mode fuel = record { allows = λ m. mode ≡ false → fuel ≤ suc m; grows = λ m k l a e. lasting-grows fuel m k l (a e); shallow = ⊥ }
 
-at-limit-ends : {lim : Limit} {A : Type 0} {F : A → List Filled → Type 0} {P : A → Type 0} (test : Filled → Bool) (p' q : Parser A) → ((s : Input) → Partly lim F P q p' s) → ((t : Filled) (last : ℕ) → test t ≡ true → Ends F P (run_of p' last) (t ∷ [])) → (s : Input) → Partly lim F P (if_next test (fails Depth) q) p' s
-at-limit-ends {lim = lim} {A = A} {F = F} {P = P} test p' q g h s = by s.tokens s.last
+-- nothing begins with the end of the text
+and-false : (b : Bool) → (b && false) ≡ false
+and-false true = refl
+and-false false = refl
+
+end-operand : (t : Filled) → t.kind ≡ Read kinds.End → begins_operand t ≡ false
+unfolding begins_operand operand_words reserved_words
+end-operand t e = subst (λ k. begins_operand (record { kind = k; span = t.span; newline = t.newline }) ≡ false) (sym e) refl
+
+end-unary : (t : Filled) → t.kind ≡ Read kinds.End → begins_unary t ≡ false
+unfolding begins_unary begins_operand operand_words reserved_words unary_operators
+end-unary t e = subst (λ k. begins_unary (record { kind = k; span = t.span; newline = t.newline }) ≡ false) (sym e) refl
+
+end-expression : (f : Flags) (t : Filled) → t.kind ≡ Read kinds.End → begins_expression f t ≡ false
+unfolding begins_expression
+end-expression f t e = ap (λ b. b || (f.has_yield && is_word (codes "yield") t.kind)) (end-unary t e) ∙ ap (λ k. f.has_yield && is_word (codes "yield") k) e ∙ and-false f.has_yield
+
+end-statement : (f : Flags) (stand : Stand) (t : Filled) → t.kind ≡ Read kinds.End → s6.begins_statement f stand t ≡ false
+unfolding s6.begins_statement
+end-statement f stand t e =
+    ap (λ k. is_mark marks.LeftBrace k || is_mark marks.Semicolon k || is_any_word s6.statement_words k || (f.has_return && is_word (codes "return") k) || (begins_expression f t && s6.may_declare stand t)) e
+    ∙ ap (λ b. b || (begins_expression f t && s6.may_declare stand t)) (and-false f.has_return) ∙ ap (λ b. b && s6.may_declare stand t) (end-expression f t e)
+
+at-limit-ends : {lim : Limit} {A : Type 0} {F : A → List Filled → Type 0} {P : A → Type 0} (test : Filled → Bool) (p' q : Parser A) → ((s : Input) → Partly lim F P q p' s) → ((t : Filled) → t.kind ≡ Read kinds.End → test t ≡ false) → ((t : Filled) (last : ℕ) → test t ≡ true → Ends F P (run_of p' last) (t ∷ [])) → (s : Input) → Partly lim F P (if_next test (fails Depth) q) p' s
+at-limit-ends {lim = lim} {A = A} {F = F} {P = P} test p' q g closed h s = by s.tokens s.last
   where
     known : (t : Filled) (ts : List Filled) (last : ℕ) (b : Bool) → test t ≡ b → Half lim F P (run_of p' last) (t ∷ ts) (choose b (fails Depth) q (record { tokens = t ∷ ts; last = last }))
-    known t ts last true e = beyond [] refl (h t last e)
+    known t ts last true e = beyond [] refl (λ k. false≢true (sym (closed t k) ∙ e)) (h t last e)
     known t ts last false e = g (record { tokens = t ∷ ts; last = last })
 
     by : (ts : List Filled) (last : ℕ) → Half lim F P (run_of p' last) ts (if_next test (fails Depth) q (record { tokens = ts; last = last }))
@@ -396,19 +419,19 @@ module _ (mode : Bool) (fuel : ℕ) where
 
   ends-block : (f : Flags) (ts : List Filled) (last : ℕ) → next_is (next_mark marks.LeftBrace) ts ≡ true → Half (deepest mode fuel) Free Any (run_of (t6.block ending_ f) last) ts (Fault Depth ts)
   ends-block f [] last seen = absurd (false≢true seen)
-  ends-block f (t ∷ ts) last seen = beyond [] refl (token-ends t (parts'.block taking ending_ completes f (record { tokens = t ∷ []; last = last })).half (begun.block taking (suc fuel) turns-taking bare-taking t f last seen))
+  ends-block f (t ∷ ts) last seen = beyond [] refl (λ k. false≢true (sym (ap (λ x. is_mark marks.LeftBrace x) k) ∙ seen)) (token-ends t (parts'.block taking ending_ completes f (record { tokens = t ∷ []; last = last })).half (begun.block taking (suc fuel) turns-taking bare-taking t f last seen))
 
   deep-limits : Limits (deepest mode fuel) (readers mode fuel zero) (readers mode (suc (suc (suc fuel))) 6)
   unfolding readers e6.expression_at_limit e6.operand_at_limit s6.statement_at_limit
   deep-limits = record {
-    sequence = λ f s. at-limit-ends (begins_expression f) (e6.sequence ending_ f) no_expression (λ c. expression-by (e6.sequence ending_ f) c) (ends-sequence f) s;
-    assignment = λ f s. at-limit-ends (begins_expression f) (e6.assignment ending_ f) no_expression (λ c. expression-by (e6.assignment ending_ f) c) (ends-assignment f) s;
-    power = λ f s. at-limit-ends begins_unary (e6.power ending_ f Among) no_expression (λ c. expression-by (e6.power ending_ f Among) c) (ends-power f) s;
-    unary = λ f s. at-limit-ends begins_unary (e6.unary ending_ f) no_expression (λ c. expression-by (e6.unary ending_ f) c) (ends-unary f) s;
-    callee = λ f s. at-limit-ends begins_operand (e6.chain ending_ f Callee) no_number (λ c. number-by (e6.chain ending_ f Callee) c) (ends-chain Callee refl f) s;
-    heritage = λ f s. at-limit-ends begins_operand (e6.chain ending_ f Heritage) no_number (λ c. number-by (e6.chain ending_ f Heritage) c) (ends-chain Heritage refl f) s;
+    sequence = λ f s. at-limit-ends (begins_expression f) (e6.sequence ending_ f) no_expression (λ c. expression-by (e6.sequence ending_ f) c) (end-expression f) (ends-sequence f) s;
+    assignment = λ f s. at-limit-ends (begins_expression f) (e6.assignment ending_ f) no_expression (λ c. expression-by (e6.assignment ending_ f) c) (end-expression f) (ends-assignment f) s;
+    power = λ f s. at-limit-ends begins_unary (e6.power ending_ f Among) no_expression (λ c. expression-by (e6.power ending_ f Among) c) end-unary (ends-power f) s;
+    unary = λ f s. at-limit-ends begins_unary (e6.unary ending_ f) no_expression (λ c. expression-by (e6.unary ending_ f) c) end-unary (ends-unary f) s;
+    callee = λ f s. at-limit-ends begins_operand (e6.chain ending_ f Callee) no_number (λ c. number-by (e6.chain ending_ f Callee) c) end-operand (ends-chain Callee refl f) s;
+    heritage = λ f s. at-limit-ends begins_operand (e6.chain ending_ f Heritage) no_number (λ c. number-by (e6.chain ending_ f Heritage) c) end-operand (ends-chain Heritage refl f) s;
     block = λ f s seen. ends-block f s.tokens s.last seen;
-    statement = λ f stand s. at-limit-ends (s6.begins_statement f stand) (s6.statement ending_ f stand) no_statement (λ c. no-statement (s6.statement ending_ f stand) c) (ends-statement f stand) s;
+    statement = λ f stand s. at-limit-ends (s6.begins_statement f stand) (s6.statement ending_ f stand) no_statement (λ c. no-statement (s6.statement ending_ f stand) c) (end-statement f stand) (ends-statement f stand) s;
   }
 
 turns-three : (n : ℕ) → Turns 3 n (suc (suc (suc n)))
@@ -514,16 +537,16 @@ module _ (complete : IsComplete) (n room : ℕ) where
     where
       whole : map read front ≡ t ∷ before
       whole = append_cancel_right (map read front) (t ∷ before) (map read behind) (sym (map-append read front behind) ∙ e ∙ ap (λ us. (t ∷ before) ++ us) (ap left k))
-  alive-by front behind stop final k (beyond taken e more) f = alive-seen front behind taken e (fault-rest k) more
+  alive-by front behind stop final k (beyond taken e z more) f = alive-seen front behind taken e (fault-rest k) more
   alive-by front behind stop final k (gives_up a) f = absurd (final (stop-of k))
     where
       stop-of : {us vs : List Filled} → ◌≡◌ {A = Outcome Module} (Fault Endless us) (Fault stop vs) → stop ≡ Endless
       stop-of e = cc
 
-  alive-deep : {fuel : ℕ} (front behind : List Token) (t : Token) {o : Outcome Module} → o ≡ Fault Depth (map read (t ∷ behind)) → Half (deepest true fuel) (λ y us. us ≡ []) Any run (map read (front ++ t ∷ behind)) o → IsPlaced (front ++ t ∷ [])
+  alive-deep : {fuel : ℕ} (front behind : List Token) (t : Token) {o : Outcome Module} → o ≡ Fault Depth (map read (t ∷ behind)) → Half (deepest true fuel) (λ y us. us ≡ []) Any run (map read (front ++ t ∷ behind)) o → (t.kind ≡ kinds.End → ⊥) × IsPlaced (front ++ t ∷ [])
   alive-deep {fuel = fuel} front behind t k (stands e l) = absurd (subst (λ o. Stays (deepest true fuel) run [] o) k l refl)
   alive-deep {fuel = fuel} front behind t k (some u before e l more) = absurd (subst (λ o. Stays (deepest true fuel) run (u ∷ before) o) k l refl)
-  alive-deep front behind t k (beyond taken e more) = alive-beyond front behind t taken e (fault-rest k) more
+  alive-deep front behind t k (beyond taken e z more) = (λ h. z (ap (λ x. x.kind) (head-is (fault-rest k)) ∙ ap Read h), alive-beyond front behind t taken e (fault-rest k) more)
   alive-deep front behind t k (gives_up a) = absurd (cc)
 
 pub tokens-alive : IsComplete → TokensBeforeFaultsAreAlive
@@ -532,12 +555,12 @@ tokens-alive complete fuel front behind stop k final =
     let g = statements'.whole-module (readers true fuel most_open) (readers true (suc fuel) (plus most_open 3)) (better true fuel most_open) (record { tokens = map read (front ++ behind); last = 0 }) in
     alive-by complete (suc fuel) (plus most_open 3) front behind stop final k g.half g.fresh
 
--- the completing tokens stand where they are to
-pub depth-placed : IsComplete → (fuel : ℕ) (front behind : List Token) (t : Token) → read_module fuel (map read (front ++ t ∷ behind)) ≡ Fault Depth (map read (t ∷ behind)) → (at : ℕ) → (ks : List TokenKind) × (m : Module) × SpellsModule ((front ++ t ∷ []) ++ tokens_at at ks) m
+-- it isn't the end, and the completing tokens stand where they are to
+pub depth-placed : IsComplete → (fuel : ℕ) (front behind : List Token) (t : Token) → read_module fuel (map read (front ++ t ∷ behind)) ≡ Fault Depth (map read (t ∷ behind)) → (t.kind ≡ kinds.End → ⊥) × ((at : ℕ) → (ks : List TokenKind) × (m : Module) × SpellsModule ((front ++ t ∷ []) ++ tokens_at at ks) m)
 unfolding read_module
 depth-placed complete fuel front behind t k =
     let g = statements'.whole-module (readers true fuel most_open) (readers true (suc (suc (suc fuel))) (plus most_open 6)) (deepest-completed true fuel most_open) (record { tokens = map read (front ++ t ∷ behind); last = 0 }) in
     alive-deep complete (suc (suc (suc fuel))) (plus most_open 6) front behind t k g.half
 
 pub depth-alive : IsComplete → DepthFaultsAreAlive
-depth-alive complete fuel front behind t k = let q = depth-placed complete fuel front behind t k 0 in (tokens_at 0 q.0, q.1, q.2)
+depth-alive complete fuel front behind t k = let q = (depth-placed complete fuel front behind t k).1 0 in (tokens_at 0 q.0, q.1, q.2)

@@ -12,7 +12,7 @@ use Rattle.es6_lexer.specs.declared.token.Punctuator.TheVariants as marks
 use Rattle.es6_ast.specs.declared.settings.Stop.{Stop}
 use Rattle.es6_ast.specs.declared.settings.Stop.TheVariants.{Depth, Endless}
 use Rattle.es6_ast.specs.Tokens.{Filled, Filling, Read, begin_of}
-use Rattle.es6_reading.specs.Parser.{Input, Outcome, Took, Fault, Parser, fails, after, stop_in, number_stop_in, expression_stop_in, stop_at, on, on_taken, choose, next_is, if_next, from, take_as, mark, next_mark, refused, no_number, no_expression, Inner, on_group, kept_if, is_insertable}
+use Rattle.es6_reading.specs.Parser.{Input, Outcome, Took, Fault, Parser, fails, after, stop_in, number_stop_in, expression_stop_in, stop_at, on, on_taken, choose, next_is, if_next, from, take_as, mark, next_mark, refused, no_number, no_expression, Inner, on_group, is_mark, kept_if, is_insertable}
 use Rattle.es6_reading.proofs.Follows.{SameHead, nothing, same}
 use Rattle.es6_reading.proofs.Posts.{Misses}
 
@@ -121,11 +121,15 @@ Ends F P run front = (n : ℕ) → EndsAt F P run front n
 abbrev pub Fresh : {A : Type 0} → (A → List Filled → Type 0) → (A → Type 0) → (List Filled → Type 0) → (List Filled → Outcome A) → Type 0
 Fresh F P S run = (n : ℕ) → FreshAt F P S run n
 
+-- it isn't the end of the text
+abbrev pub IsInner : Filled → Type 0
+IsInner t = t.kind ≡ Read kinds.End → ⊥
+
 -- From where a reader stood, if it took a token, or with the token at which it stopped for depth; or it gave up what nests too far.
 pub data Half (lim : Limit) {A : Type 0} (F : A → List Filled → Type 0) (P : A → Type 0) (run : List Filled → Outcome A) (ts : List Filled) : Outcome A → Type 0 where
   stands : {o : Outcome A} → ts ≡ left o → Stays lim run [] o → Half lim F P run ts o
   some : {o : Outcome A} (t : Filled) (front : List Filled) → ts ≡ (t ∷ front) ++ left o → Stays lim run (t ∷ front) o → Ends F P run (t ∷ front) → Half lim F P run ts o
-  beyond : {t : Filled} {us : List Filled} (front : List Filled) → ts ≡ front ++ t ∷ us → Ends F P run (front ++ t ∷ []) → Half lim F P run ts (Fault Depth (t ∷ us))
+  beyond : {t : Filled} {us : List Filled} (front : List Filled) → ts ≡ front ++ t ∷ us → IsInner t → Ends F P run (front ++ t ∷ []) → Half lim F P run ts (Fault Depth (t ∷ us))
   gives_up : {us : List Filled} → lim.allows (length ts) → Half lim F P run ts (Fault Endless us)
 
 pub record Goes (lim : Limit) {A : Type 0} (F : A → List Filled → Type 0) (P : A → Type 0) (S : List Filled → Type 0) (run : List Filled → Outcome A) (ts : List Filled) (o : Outcome A) : Type 0 where
@@ -201,7 +205,7 @@ module _ {A : Type 0} {F : A → List Filled → Type 0} {P : A → Type 0} wher
       (λ at. let n = ends at in record { more = n.more; value = n.value; last = n.last; ok = n.ok; reads = λ us m a. h ((t ∷ front) ++ (fills at n.more ++ us)) (same-through c.tokens t front (fills at n.more ++ us) e) ∙ n.reads us m a })
   relay {run' = run'} h (some {o = Fault stop vs} t front e k ends) = some t front e k
       (λ at. let n = ends at in record { more = n.more; value = n.value; last = n.last; ok = n.ok; reads = λ us m a. h ((t ∷ front) ++ (fills at n.more ++ us)) (same-through vs t front (fills at n.more ++ us) e) ∙ n.reads us m a })
-  relay h (beyond {t = t} {us = vs} front e ends) = beyond front e (λ at. let n = ends at in record { more = n.more; value = n.value; last = n.last; ok = n.ok; reads = λ us m a. h ((front ++ t ∷ []) ++ (fills at n.more ++ us)) (same-up-to front t vs (fills at n.more ++ us) e) ∙ n.reads us m a })
+  relay h (beyond {t = t} {us = vs} front e z ends) = beyond front e z (λ at. let n = ends at in record { more = n.more; value = n.value; last = n.last; ok = n.ok; reads = λ us m a. h ((front ++ t ∷ []) ++ (fills at n.more ++ us)) (same-up-to front t vs (fills at n.more ++ us) e) ∙ n.reads us m a })
   relay h (gives_up k) = gives_up k
 
   -- after a token that was taken
@@ -216,7 +220,7 @@ module _ {A : Type 0} {F : A → List Filled → Type 0} {P : A → Type 0} wher
       stays-behind : (o : Outcome A) → Stays lim run (u ∷ front) o → Stays lim run' (t ∷ u ∷ front) o
       stays-behind (Took x c) k = λ rest m. h ((u ∷ front) ++ rest) ∙ k rest m
       stays-behind (Fault stop us) k = k
-  behind-it t h (goes (beyond {t = u} front e ends) f) = beyond (t ∷ front) (ap (λ vs. t ∷ vs) e) (λ at. let n = ends at in record { more = n.more; value = n.value; last = n.last; ok = n.ok; reads = λ us m a. h ((front ++ u ∷ []) ++ (fills at n.more ++ us)) ∙ n.reads us m a })
+  behind-it t h (goes (beyond {t = u} front e z ends) f) = beyond (t ∷ front) (ap (λ vs. t ∷ vs) e) z (λ at. let n = ends at in record { more = n.more; value = n.value; last = n.last; ok = n.ok; reads = λ us m a. h ((front ++ u ∷ []) ++ (fills at n.more ++ us)) ∙ n.reads us m a })
   behind-it {lim = lim} {ts = ts} t h (goes (gives_up k) f) = gives_up (lim.grows (length ts) (suc (length ts)) (up-one (length ts)) k)
   behind-it {lim = lim} {ts = ts} t h (used_up k) = gives_up (lim.grows (length ts) (suc (length ts)) (up-one (length ts)) k)
 
@@ -225,7 +229,7 @@ module _ {A : Type 0} {F : A → List Filled → Type 0} {P : A → Type 0} wher
   pub half-within : {lim other : Limit} {run : List Filled → Outcome A} {ts : List Filled} {o : Outcome A} → ((n : ℕ) → lim.allows n → other.allows n) → (lim.shallow → other.shallow) → Half lim F P run ts o → Half other F P run ts o
   half-within {lim = lim} {other = other} {run = run} w v (stands {o = o} e k) = stands e (stays-within lim other run [] v o k)
   half-within {lim = lim} {other = other} {run = run} w v (some {o = o} t front e k n) = some t front e (stays-within lim other run (t ∷ front) v o k) n
-  half-within w v (beyond front e n) = beyond front e n
+  half-within w v (beyond front e z n) = beyond front e z n
   half-within {ts = ts} w v (gives_up k) = gives_up (w (length ts) k)
 
   pub goes-within : {lim other : Limit} {S : List Filled → Type 0} {run : List Filled → Outcome A} {ts : List Filled} {o : Outcome A} → ((n : ℕ) → lim.allows n → other.allows n) → (lim.shallow → other.shallow) → Goes lim F P S run ts o → Goes other F P S run ts o
@@ -331,10 +335,16 @@ module _ {A B : Type 0} {F : A → List Filled → Type 0} {P : A → Type 0} {G
       at (t ∷ front) e l = some t (front ++ (u ∷ inner)) (parts-both (t ∷ front) e) (stays-both (t ∷ front) o l j) (ends-both (t ∷ front) l)
 
   -- behind what the first took, the second stopped for depth
-  beyond-both : {lim : Limit} {ts us : List Filled} {x : A} {c : Input} {t : Filled} (front inner : List Filled) → ts ≡ front ++ c.tokens → Stays lim run front (Took x c) → c.tokens ≡ inner ++ t ∷ us → Ends G Q (run_of (q' x) c.last) (inner ++ t ∷ []) → Half lim G Q (λ us. after (run us) q') ts (Fault Depth (t ∷ us))
-  beyond-both {us = us} {x = x} {c = c} {t = t} front inner e l i n = beyond (front ++ inner) (e ∙ ap (λ vs. front ++ vs) i ∙ sym (append_assoc front inner (t ∷ us)))
-      (λ at. let m = n at in record { more = m.more; value = m.value; last = m.last; ok = m.ok; reads = λ vs h a. ap (λ ws. after (run (ws ++ (fills at m.more ++ vs))) q') (append_assoc front inner (t ∷ [])) ∙ ap (λ ws. after (run ws) q') (append_assoc front (inner ++ t ∷ []) (fills at m.more ++ vs))
-          ∙ ap (λ o. after o q') (l ((inner ++ t ∷ []) ++ (fills at m.more ++ vs)) (same-up-to inner t us (fills at m.more ++ vs) i)) ∙ m.reads vs h a })
+  beyond-both : {lim : Limit} {ts us : List Filled} {x : A} {c : Input} {t : Filled} (front inner : List Filled) → ts ≡ front ++ c.tokens → Stays lim run front (Took x c) → c.tokens ≡ inner ++ t ∷ us → IsInner t → Ends G Q (run_of (q' x) c.last) (inner ++ t ∷ []) → Half lim G Q (λ us. after (run us) q') ts (Fault Depth (t ∷ us))
+  beyond-both {us = us} {x = x} {c = c} {t = t} front inner e l i z n = beyond (front ++ inner) (e ∙ ap (λ vs. front ++ vs) i ∙ sym (append_assoc front inner (t ∷ us))) z
+      (λ at. let m = n at in record {
+        more = m.more;
+        value = m.value;
+        last = m.last;
+        ok = m.ok;
+        reads = λ vs h a. ap (λ ws. after (run (ws ++ (fills at m.more ++ vs))) q') (append_assoc front inner (t ∷ [])) ∙ ap (λ ws. after (run ws) q') (append_assoc front (inner ++ t ∷ []) (fills at m.more ++ vs))
+            ∙ ap (λ o. after o q') (l ((inner ++ t ∷ []) ++ (fills at m.more ++ vs)) (same-up-to inner t us (fills at m.more ++ vs) i)) ∙ m.reads vs h a;
+      })
 
   -- the first took nothing
   none-then : {lim : Limit} {ts : List Filled} {x : A} {c : Input} (o : Outcome B) → ts ≡ c.tokens → Stays lim run [] (Took x c) → c.tokens ≡ left o → Stays lim (run_of (q' x) c.last) [] o → Half lim G Q (λ us. after (run us) q') ts o
@@ -349,7 +359,7 @@ module _ {A B : Type 0} {F : A → List Filled → Type 0} {P : A → Type 0} {G
       by : {o : Outcome B} → Half (other x) G Q (run_of (q' x) c.last) c.tokens o → Half lim G Q (λ us. after (run us) q') ts o
       by (stands {o = o} i j) = none-then {lim = lim} o e l i (stays-within (other x) lim (run_of (q' x) c.last) [] (v x) o j)
       by (some {o = o} u inner i j n) = both-took {lim = lim} o [] e l u inner i (stays-within (other x) lim (run_of (q' x) c.last) (u ∷ inner) (v x) o j) n
-      by (beyond inner i n) = beyond-both {lim = lim} [] inner e l i n
+      by (beyond inner i z n) = beyond-both {lim = lim} [] inner e l i z n
       by (gives_up m) = gives_up (w x c [] refl e m)
   half-bind-by q (stands {o = Fault stop us} e l) h w v = stands e l
   half-bind-by {lim = lim} {other = other} {ts = ts} q (some {o = Took x c} t front e l n) h w v = by (h x c refl)
@@ -357,10 +367,10 @@ module _ {A B : Type 0} {F : A → List Filled → Type 0} {P : A → Type 0} {G
       by : {o : Outcome B} → Half (other x) G Q (run_of (q' x) c.last) c.tokens o → Half lim G Q (λ us. after (run us) q') ts o
       by (stands {o = o} i j) = some-then {lim = lim} o t front e l n i (stays-within (other x) lim (run_of (q' x) c.last) [] (v x) o j)
       by (some {o = o} u inner i j m) = both-took {lim = lim} o (t ∷ front) e l u inner i (stays-within (other x) lim (run_of (q' x) c.last) (u ∷ inner) (v x) o j) m
-      by (beyond inner i m) = beyond-both {lim = lim} (t ∷ front) inner e l i m
+      by (beyond inner i z m) = beyond-both {lim = lim} (t ∷ front) inner e l i z m
       by (gives_up m) = gives_up (w x c (t ∷ front) refl e m)
   half-bind-by q (some {o = Fault stop us} t front e l n) h w v = some t front e l (ends-bind q' f k n)
-  half-bind-by q (beyond front e n) h w v = beyond front e (ends-bind q' f k n)
+  half-bind-by q (beyond front e z n) h w v = beyond front e z (ends-bind q' f k n)
   half-bind-by q (gives_up k) h w v = gives_up k
 
   pub half-bind : {lim : Limit} {ts : List Filled} {o : Outcome A} (q : A → Parser B) → Half lim F P run ts o → ((x : A) (c : Input) → o ≡ Took x c → Half lim G Q (run_of (q' x) c.last) c.tokens (q x c)) → Half lim G Q (λ us. after (run us) q') ts (after o q)
@@ -520,9 +530,9 @@ module _ {A : Type 0} {F : A → List Filled → Type 0} {P : A → Type 0} wher
 
   -- The second reader goes on inside a construct that opens with a token of the test. Where the first one may open none, that token is
   -- completed by what stands inside.
-  pub half-opening : {B : Type 0} {S : B → List Filled → Type 0} {lim other : Limit} (i j : Inner) → j.may_open ≡ true → ((n : ℕ) → other.allows n → lim.allows n) → (i.may_open ≡ true → other.shallow → lim.shallow) → (test : Filled → Option B) (opens : Filled → Bool) → ((t : Filled) → opens t ≡ true → (x : B) × (test t ≡ Some x)) → (p p' : B → Parser A) (q q' : Parser A) (s : Input)
+  pub half-opening : {B : Type 0} {S : B → List Filled → Type 0} {lim other : Limit} (i j : Inner) → j.may_open ≡ true → ((n : ℕ) → other.allows n → lim.allows n) → (i.may_open ≡ true → other.shallow → lim.shallow) → (test : Filled → Option B) (opens : Filled → Bool) → ((t : Filled) → opens t ≡ true → (x : B) × (test t ≡ Some x)) → ((t : Filled) → t.kind ≡ Read kinds.End → opens t ≡ false) → (p p' : B → Parser A) (q q' : Parser A) (s : Input)
       → ((x : B) (c : Input) → Viable other F P (S x) (p x) (p' x) c) → Partly lim F P q q' s → Partly lim F P (if_next opens (choose i.may_open (on test p q) (fails Depth)) q) (if_next opens (choose j.may_open (on test p' q') (fails Depth)) q') s
-  half-opening {B = B} {S = S} {lim = lim} {other = other} i j o w v test opens known p p' q q' s f g = half-looks-seen opens _ _ q q' s (λ seen. relay (λ us k. ap (λ b. choose b (on test p' q') (fails Depth) (record { tokens = us; last = s.last })) o) (by i.may_open refl s.tokens s.last seen g)) g
+  half-opening {B = B} {S = S} {lim = lim} {other = other} i j o w v test opens known closed p p' q q' s f g = half-looks-seen opens _ _ q q' s (λ seen. relay (λ us k. ap (λ b. choose b (on test p' q') (fails Depth) (record { tokens = us; last = s.last })) o) (by i.may_open refl s.tokens s.last seen g)) g
     where
       ends-at : (t : Filled) (x : B) (last : ℕ) → test t ≡ Some x → Ends F P (λ us. on test p' q' (record { tokens = us; last = last })) (t ∷ [])
       ends-at t x last e =
@@ -533,11 +543,11 @@ module _ {A : Type 0} {F : A → List Filled → Type 0} {P : A → Type 0} wher
           → Half lim F P (λ us. on test p' q' (record { tokens = us; last = last })) ts (choose b (on test p q) (fails Depth) (record { tokens = ts; last = last }))
       by true e ts last seen g = half-on test p p' q q' (record { tokens = ts; last = last }) (λ x c. past (goes-within w (v e) (f x c))) g
       by false e [] last seen g = absurd (false≢true seen)
-      by false e (t ∷ ts) last seen g = let x = known t seen in beyond [] refl (ends-at t x.0 last x.1)
+      by false e (t ∷ ts) last seen g = let x = known t seen in beyond [] refl (λ k. false≢true (sym (closed t k) ∙ seen)) (ends-at t x.0 last x.1)
 
   -- a group, of which what is read inside has other limits
   pub half-group-in : {S : List Filled → Type 0} {lim other : Limit} (i j : Inner) → j.may_open ≡ true → ((n : ℕ) → other.allows n → lim.allows n) → (i.may_open ≡ true → other.shallow → lim.shallow) → (m : Mark) (p p' q q' : Parser A) (s : Input) → ((c : Input) → Viable other F P S p p' c) → Partly lim F P q q' s → Partly lim F P (on_group i m p q) (on_group j m p' q') s
-  half-group-in {S = S} i j o w v m p p' q q' s f g = half-opening {S = λ x. S} i j o w v (mark m) (next_mark m) (mark-is m) (λ t. p) (λ t. p') q q' s (λ t c. f c) g
+  half-group-in {S = S} i j o w v m p p' q q' s f g = half-opening {S = λ x. S} i j o w v (mark m) (next_mark m) (mark-is m) (λ t k. ap (λ x. is_mark m x) k) (λ t. p) (λ t. p') q q' s (λ t c. f c) g
 
   pub half-group : {S : List Filled → Type 0} {lim : Limit} (i j : Inner) → j.may_open ≡ true → (m : Mark) (p p' q q' : Parser A) (s : Input) → ((c : Input) → Viable lim F P S p p' c) → Partly lim F P q q' s → Partly lim F P (on_group i m p q) (on_group j m p' q') s
   half-group i j o m p p' q q' s f g = half-group-in i j o (λ n a. a) (λ e z. z) m p p' q q' s f g
@@ -583,7 +593,7 @@ module _ {A : Type 0} {F : A → List Filled → Type 0} {P : A → Type 0} wher
       half-weak : {run : List Filled → Outcome A} {ts : List Filled} {o : Outcome A} → Half lim F P run ts o → Half lim G Q run ts o
       half-weak (stands e k) = stands e k
       half-weak (some t front e k ends) = some t front e k (λ at. let n = ends at in record { more = n.more; value = n.value; last = n.last; ok = v n.value n.ok; reads = λ us h a. n.reads us (w n.value us n.ok h) a })
-      half-weak (beyond front e ends) = beyond front e (λ at. let n = ends at in record { more = n.more; value = n.value; last = n.last; ok = v n.value n.ok; reads = λ us h a. n.reads us (w n.value us n.ok h) a })
+      half-weak (beyond front e z ends) = beyond front e z (λ at. let n = ends at in record { more = n.more; value = n.value; last = n.last; ok = v n.value n.ok; reads = λ us h a. n.reads us (w n.value us n.ok h) a })
       half-weak (gives_up k) = gives_up k
 
 -- ## Single tokens

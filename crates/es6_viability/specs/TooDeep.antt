@@ -118,3 +118,6 @@ LexicalFaultsAreStops = (fuel : ℕ) (tokens : List Token) (kind : LexicalKind) 
 -- And so does one for depth, of tokens in order, if the token isn't empty, as only the last of a text is.
 abbrev pub DepthFaultsAreStops : Type 0
 DepthFaultsAreStops = (fuel : ℕ) (front behind : List Token) (t : Token) → read_module fuel (map read (front ++ t ∷ behind)) ≡ Fault Depth (map read (t ∷ behind)) → AreInOrder (front ++ t ∷ behind) → t.span.begin < t.span.end → StopsAt (front ++ t ∷ behind) t.span.begin Depth
+
+abbrev pub DepthFaultsStandBeforeTheEnd : Type 0
+DepthFaultsStandBeforeTheEnd = (fuel : ℕ) (front behind : List Token) (t : Token) → read_module fuel (map read (front ++ t ∷ behind)) ≡ Fault Depth (map read (t ∷ behind)) → t.kind ≡ End → ⊥

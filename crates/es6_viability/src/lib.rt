@@ -9,7 +9,7 @@ ghost use Rattle.es6_viability.specs.Fronts.{NoExpressionGoesOn, NoStatementGoes
 ghost use Rattle.es6_viability.specs.Spelled.{FaultsAreDead, LexicalFaultsAreReported, NoneIsSpelledPastFaults, ReadModulesAreSpelled, SpelledModulesAreRead, SpelledModulesAreReadOrLimited};
 ghost use Rattle.es6_viability.specs.TooDeep.{ExpressionsAreShallow, ExpressionsAreTooDeep, ModulesAreTooDeep};
 ghost use Rattle.es6_viability.specs.TooDeep.{ExpressionsPassNoDeepToken, NoDeepTokenIsPassed, StatementsPassNoDeepToken};
-ghost use Rattle.es6_viability.specs.TooDeep.{DepthFaultsAreStops, FaultsStandAtStops, LexicalFaultsAreStops, NoStopIsPassed, ReadModulesHaveNoStop};
+ghost use Rattle.es6_viability.specs.TooDeep.{DepthFaultsAreStops, DepthFaultsStandBeforeTheEnd, FaultsStandAtStops, LexicalFaultsAreStops, NoStopIsPassed, ReadModulesHaveNoStop};
 ghost use Rattle.es6_viability.specs.TooDeep.{StatementsAreShallow, StatementsAreTooDeep};
 
 /// Some module begins with the tokens that stand before a fault, unless that is for want of turns.
@@ -125,6 +125,11 @@ pub fn faults_stand_at_stops()
 /// A lexical fault stands where the definition has a reader stop, and is what it reports there.
 pub fn lexical_faults_are_stops()
     ensures { LexicalFaultsAreStops }
+{}
+
+/// A fault for depth doesn't stand at the end of the text.
+pub fn depth_faults_stand_before_the_end()
+    ensures { DepthFaultsStandBeforeTheEnd }
 {}
 
 /// A fault for depth, at a token of tokens in order that isn't empty, stands where the definition has a reader stop, and is what it reports
