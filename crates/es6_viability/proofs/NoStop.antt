@@ -5,17 +5,17 @@ use Rattle.std.proofs.Common.{◌≡◌, ◌∙◌, inl, inr, ℕ, suc, ◌+◌,
 use Rattle.std.proofs.lemmas.List.{length-map, take-append-drop}
 use Rattle.es6_lexer.specs.declared.token.Token.{Token}
 use Rattle.es6_ast.specs.declared.settings.Stop.{Stop}
-use Rattle.es6_ast.specs.declared.settings.Stop.TheVariants.{Endless, Lexical}
-use Rattle.es6_ast.specs.Dead.{StopsAt}
+use Rattle.es6_ast.specs.declared.settings.Stop.TheVariants.{Endless, Lexical, Syntax}
+use Rattle.es6_ast.specs.Dead.{IsOutside, StopsAt, for_in, large_number, marked_number, regular_expression, syntax_fault, with}
 use Rattle.es6_ast.specs.Semicolons.{SpellsModule}
-use Rattle.es6_ast.specs.Tokens.{Filled, begin_of, read}
+use Rattle.es6_ast.specs.Tokens.{Filled, Read, begin_of, read}
 use Rattle.es6_reading.specs.Laws.{IsFinal, Says}
 use Rattle.es6_reading.specs.Modules.{most_open, read_module, readers, whole_module}
 use Rattle.es6_reading.proofs.Completeness.{what-is-derived-is-read}
 use Rattle.es6_reading.proofs.PlacesOfModules.{places, says}
 use Rattle.es6_reading.proofs.Spelled.{spelled}
 use Rattle.es6_viability.specs.Spelled.{FaultsAreDead}
-use Rattle.es6_viability.specs.TooDeep.{FaultsStandAtStops, LexicalFaultsAreStops, NoStopIsPassed, Passes, ReadModulesHaveNoStop}
+use Rattle.es6_viability.specs.TooDeep.{FaultsStandAtStops, LexicalFaultsAreStops, NoStopIsPassed, Passes, ReadModulesHaveNoStop, SyntaxFaultsAreStops, TellsOutside, in_, marked, slash, slash_assign, too_large, with_}
 use Rattle.es6_viability.proofs.Passed.{faults-dead, lexical-reported, no-dead, seam, split}
 use Rattle.es6_viability.proofs.ReadInserted.{ended-true, none-past}
 use Rattle.es6_viability.proofs.Readers.{tokens-alive}
@@ -94,3 +94,27 @@ lexical-stops fuel tokens kind rest e =
     by : (front behind : List Token) → tokens ≡ front ++ behind → map read behind ≡ rest → StopsAt tokens (begin_of rest) (Lexical kind)
     by front [] w r = absurd (subst (λ us. Says (Lexical kind) us) (sym r) (says fuel (map read tokens) (Lexical kind) rest e))
     by front (t ∷ ts) w r = at-token front ts t r w
+
+-- only some tokens tell of what is outside the profile
+none-outside : {tokens : List Token} {p : ℕ} {t : Token} {rule : ℕ} → (TellsOutside t.kind → ⊥) → IsOutside tokens p t rule → ⊥
+none-outside h (for_in e w n) = h (subst TellsOutside (sym e) in_)
+none-outside h (regular_expression (inl e) w) = h (subst TellsOutside (sym e) slash)
+none-outside h (regular_expression (inr e) w) = h (subst TellsOutside (sym e) slash_assign)
+none-outside h (marked_number e w) = h (subst TellsOutside (sym e) marked)
+none-outside h (large_number e w) = h (subst TellsOutside (sym e) too_large)
+none-outside h (with e w) = h (subst TellsOutside (sym e) with_)
+
+pub syntax-stops : SyntaxFaultsAreStops
+syntax-stops fuel front behind t e h =
+    let tokens : List Token = front ++ t ∷ behind in
+    let rest : List Filled = map read (t ∷ behind) in
+    let l : length front + length rest ≡ length tokens = lengths front (t ∷ behind) rest refl in
+    let here = first-stops fuel tokens Syntax rest e tt (length front) l (shorter front behind t) in
+    record {
+      index = length front;
+      token = t;
+      there = seam front t behind;
+      stops = here;
+      reported = syntax_fault (dead-there fuel tokens Syntax rest e tt (length front) l (shorter front behind t)) (λ kind k. says fuel (map read tokens) Syntax rest e kind (ap Read k)) (λ rule o. none-outside h o);
+      place = refl;
+    }

@@ -1,15 +1,18 @@
 -- What a fault for depth means: more constructs are open at its token than may be.
-use Rattle.std.specs.Prelude.{◌≡◌, ℕ, suc, ◌+◌, ◌<◌, ◌≤◌, ◌⊎◌, true, List, [], ◌∷◌, ◌++◌, length, map, count_by}
+use Rattle.std.specs.Prelude.{◌≡◌, ℕ, suc, ◌+◌, ◌<◌, ◌≤◌, ◌⊎◌, true, List, [], ◌∷◌, ◌++◌, length, map, codes, count_by}
 use Rattle.es_text.specs.declared.Span.{Span}
 use Rattle.es6_lexer.specs.declared.token.LexicalKind.{LexicalKind}
 use Rattle.es6_lexer.specs.declared.token.Token.{Token}
-use Rattle.es6_lexer.specs.declared.token.TokenKind.TheVariants.{End}
+use Rattle.es6_lexer.specs.declared.token.TokenKind.{TokenKind}
+use Rattle.es6_lexer.specs.declared.token.TokenKind.TheVariants.{Word, Punctuator, Number, End}
+use Rattle.es6_lexer.specs.declared.token.NumberToken.TheVariants.{TooLarge, Marked}
+use Rattle.es6_lexer.specs.declared.token.Punctuator.TheVariants.{Slash, SlashAssign}
 use Rattle.es6_ast.specs.declared.module.Module.{Module}
 use Rattle.es6_ast.specs.declared.settings.Flags.{Flags}
 use Rattle.es6_ast.specs.declared.settings.Stand.{Stand}
 use Rattle.es6_ast.specs.declared.settings.Stand.TheVariants.{Listed}
 use Rattle.es6_ast.specs.declared.settings.Stop.{Stop}
-use Rattle.es6_ast.specs.declared.settings.Stop.TheVariants.{Depth, Endless, Lexical}
+use Rattle.es6_ast.specs.declared.settings.Stop.TheVariants.{Depth, Endless, Lexical, Syntax}
 use Rattle.es6_ast.specs.declared.tree.Expression.{Expression}
 use Rattle.es6_ast.specs.declared.tree.Statement.{Statement}
 use Rattle.es6_ast.specs.Dead.{AreInOrder, IsDead, IsStop, IsTooDeep, StopsAt}
@@ -121,3 +124,16 @@ DepthFaultsAreStops = (fuel : ℕ) (front behind : List Token) (t : Token) → r
 
 abbrev pub DepthFaultsStandBeforeTheEnd : Type 0
 DepthFaultsStandBeforeTheEnd = (fuel : ℕ) (front behind : List Token) (t : Token) → read_module fuel (map read (front ++ t ∷ behind)) ≡ Fault Depth (map read (t ∷ behind)) → t.kind ≡ End → ⊥
+
+-- the kinds of tokens of which a construct outside the profile is reported (6th edition, 11.8.3, 11.8.5, 13.7.5, 13.11)
+pub data TellsOutside : TokenKind → Type 0 where
+  in_ : TellsOutside (Word (codes "in"))
+  slash : TellsOutside (Punctuator Slash)
+  slash_assign : TellsOutside (Punctuator SlashAssign)
+  marked : TellsOutside (Number Marked)
+  too_large : TellsOutside (Number TooLarge)
+  with_ : TellsOutside (Word (codes "with"))
+
+-- And so does a syntax fault at any other token.
+abbrev pub SyntaxFaultsAreStops : Type 0
+SyntaxFaultsAreStops = (fuel : ℕ) (front behind : List Token) (t : Token) → read_module fuel (map read (front ++ t ∷ behind)) ≡ Fault Syntax (map read (t ∷ behind)) → (TellsOutside t.kind → ⊥) → StopsAt (front ++ t ∷ behind) t.span.begin Syntax

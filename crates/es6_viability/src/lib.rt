@@ -9,8 +9,9 @@ ghost use Rattle.es6_viability.specs.Fronts.{NoExpressionGoesOn, NoStatementGoes
 ghost use Rattle.es6_viability.specs.Spelled.{FaultsAreDead, LexicalFaultsAreReported, NoneIsSpelledPastFaults, ReadModulesAreSpelled, SpelledModulesAreRead, SpelledModulesAreReadOrLimited};
 ghost use Rattle.es6_viability.specs.TooDeep.{ExpressionsAreShallow, ExpressionsAreTooDeep, ModulesAreTooDeep};
 ghost use Rattle.es6_viability.specs.TooDeep.{ExpressionsPassNoDeepToken, NoDeepTokenIsPassed, StatementsPassNoDeepToken};
-ghost use Rattle.es6_viability.specs.TooDeep.{DepthFaultsAreStops, DepthFaultsStandBeforeTheEnd, FaultsStandAtStops, LexicalFaultsAreStops, NoStopIsPassed, ReadModulesHaveNoStop};
-ghost use Rattle.es6_viability.specs.TooDeep.{StatementsAreShallow, StatementsAreTooDeep};
+ghost use Rattle.es6_viability.specs.TooDeep.{DepthFaultsAreStops, DepthFaultsStandBeforeTheEnd, FaultsStandAtStops};
+ghost use Rattle.es6_viability.specs.TooDeep.{LexicalFaultsAreStops, NoStopIsPassed, ReadModulesHaveNoStop};
+ghost use Rattle.es6_viability.specs.TooDeep.{StatementsAreShallow, StatementsAreTooDeep, SyntaxFaultsAreStops};
 
 /// Some module begins with the tokens that stand before a fault, unless that is for want of turns.
 pub fn tokens_before_faults_are_alive()
@@ -125,6 +126,11 @@ pub fn faults_stand_at_stops()
 /// A lexical fault stands where the definition has a reader stop, and is what it reports there.
 pub fn lexical_faults_are_stops()
     ensures { LexicalFaultsAreStops }
+{}
+
+/// So does a syntax fault at a token that tells of nothing outside the profile, and it is what the definition has a reader report there.
+pub fn syntax_faults_are_stops()
+    ensures { SyntaxFaultsAreStops }
 {}
 
 /// A fault for depth doesn't stand at the end of the text.
