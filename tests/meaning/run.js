@@ -29,14 +29,17 @@ function modulesOf(folder, under = '') {
 }
 const programs = path.join(engines, 'programs');
 const names = args.length > 0 ? args : fs.readdirSync(programs).sort();
-const told = { alike: 0, failed: 0, events: 0, steps: 0 };
+// whether two heaps have the same objects, but for the numbers of their functions
+const shape = (o) => JSON.stringify({ ...o, class: o.class.t });
+const sameHeap = (a, b) => a.length === b.length && a.every((o, i) => shape(o) === shape(b[i]));
+const told = { alike: 0, heaps: 0, failed: 0, events: 0, steps: 0 };
 for (const name of names) {
   const folder = path.join(programs, name);
   const text = (file, other) => fs.existsSync(path.join(folder, file)) ? fs.readFileSync(path.join(folder, file), 'utf8') : other;
   const expected = text('expected', '').split('\n').slice(0, -1), answers = JSON.parse(text('answers', '{}'));
   const faults = [];
   const files = modulesOf(folder);
-  let core, places;
+  let core, places, heap;
   try { if (levels !== 's') core = coreOf(files); } catch (error) { faults.push(`isn't lowered: ${error.message}`); }
   for (const level of levels) {
     try {
@@ -47,6 +50,8 @@ for (const name of names) {
       const lines = exit ? [...expected.slice(0, until), exit] : expected;
       const fault = difference(lines, run.lines);
       if (fault) faults.push(`level ${level}: ${fault}`);
+      if (level === 's') heap = run.state.heap;
+      if (level === '0' && heap && sameHeap(heap, run.state.heap)) told.heaps++;
       places = places || run.places;
       if (difference(places, run.places)) faults.push(`level ${level}: places: ${difference(places, run.places)}`);
     } catch (error) { faults.push(`level ${level}: ${error.message}${process.env.WHERE ? error.stack : ''}`); }
@@ -54,5 +59,5 @@ for (const name of names) {
   told.events += expected.length - 1;
   if (faults.length > 0) { told.failed++; console.log(`${name}: ${faults.join('; ')}`); } else told.alike++;
 }
-console.log(`meaning: ${names.length} programs, ${told.events} events, levels ${levels}: ${told.alike} alike, ${told.failed} failed, ${told.steps} steps`);
+console.log(`meaning: ${names.length} programs, ${told.events} events, levels ${levels}: ${told.alike} alike, ${told.failed} failed, ${told.heaps} heaps of modules and cores the same, ${told.steps} steps`);
 process.exitCode = told.failed === 0 ? 0 : 1;

@@ -18,11 +18,12 @@ use Rattle.es_operators.specs.Primitives.{of_prim, to_prims}
 use Rattle.es_operators.specs.declared.functions.Constructor.{Constructor}
 use Rattle.es_operators.specs.declared.functions.Constructor.TheVariants as constructor
 use Rattle.es_calls.specs.Calls.{begun}
+use Rattle.es_calls.specs.Making.{list_heap}
 use Rattle.es_operations.specs.Numbers as number
 use Rattle.es6_ast.specs.declared.tree.Parameter.{Parameter, out-Parameter}
 use Rattle.source_meaning.specs.Environments.{record_at, with_record}
 use Rattle.source_meaning.specs.Functions.{body_instantiated, first_bindings, is_arrow, is_class, is_derived, is_generator, one_parameter, parameters_of, run_code, statements_of, with_arguments}
-use Rattle.source_meaning.specs.State.{Call, Closure, Code, Completion, Context, ConstructorCode, Derived, Done, EnvironmentRecord, GeneratorPrototype, Gives, Hand, Made, Making, Own, ParametersBound, State, SuperMade, Throws, Turn}
+use Rattle.source_meaning.specs.State.{Call, Closure, Code, Completion, ConstructorCode, Context, Derived, Done, EnvironmentRecord, ForSuper, GeneratorPrototype, Gives, Hand, Listing, Made, Making, OfArguments, Own, ParametersBound, SpreadIterator, State, SuperMade, Throws, Turn}
 use Rattle.source_meaning.specs.Steps.{Next, calls, controls, due, gives, hands, impossible, leaves, operates, pushed, raises, with_heap, with_some}
 use Rattle.source_meaning.specs.Trees.{are_simple}
 
@@ -168,9 +169,14 @@ construct_parent args st =
 
 -- ---- what is called
 
--- a class without a constructor hands all arguments to its parent, if it has one (14.5.14, step 10)
+-- a derived class without a constructor has `constructor(...args) { super(...args); }` (14.5.14, step 10)
+abbrev pub passes_all : Listing
+passes_all = record { collected = OfArguments ForSuper []; rest = [] }
+
 abbrev pub begin_code : Code → List Value → State → Next
-begin_code (ConstructorCode true None) args st = construct_parent args st
+begin_code (ConstructorCode true None) args st =
+    operates (SpreadIterator passes_all) number.get_iterator_number (value.Object (next_id st.heap)) []
+    (with_heap (list_heap st.heap args) st)
 begin_code code args st = bind_parameters code args st
 
 -- a class isn't called (9.2.1, step 2)
