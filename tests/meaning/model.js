@@ -204,8 +204,9 @@ function func(cx, e, kind, o = {}) {
     for (const s of ss) if (s.type === "FunctionDeclaration") inits.push([s, bs.map.get(s.id.name).v]);
     const ls = Scope(bs), lex = lexicals({ ...bcx, scope: ls }, ls, ss, true);
     const lcx = { ...bcx, scope: ls }, fin = inits.map(([s, v]) => Do(init(v, func(lcx, s, "plain"))));
-    const body = fin.concat(...ss.map(s => stat(lcx, s)));
-    f.setup = pre; f.body = lex.length ? [{ t: "Scoped", names: lex, body }] : body;
+    // all that a body declares are names of the call, and its functions are there before a generator is made
+    f.locals.push(...lex);
+    f.setup = pre.concat(lex.map(v => Do(init(v, E({ h: "empty" })))), fin); f.body = [].concat(...ss.map(s => stat(lcx, s)));
   }
   return E({ h: "fn", f });
 }
