@@ -11,7 +11,7 @@ use Rattle.es6_reading.specs.Parser.{Input, Outcome, Took, Fault, Parser}
 use Rattle.es6_reading.specs.Laws.{Says}
 use Rattle.es6_reading.proofs.Places.{Rest, all, less, Leaves, fault_rest}
 use Rattle.es6_reading_laws.specs.Fronts.{Settles, reads}
-use Rattle.es6_viability.specs.TooDeep.{IsShallowIn}
+use Rattle.es6_viability.specs.TooDeep.{IsShallowIn, Passes}
 use Rattle.es6_viability.proofs.Passed.{split}
 use Rattle.es6_viability.proofs.SpelledAlone.{Spelled}
 use Rattle.es6_expr.specs.declared.fault.ParseFault.{ParseFault}
@@ -90,10 +90,17 @@ parts-of (less {t = t} h) = let f = parts-of h in (t ∷ f.0, ap (λ vs. t ∷ v
 of-fault : {A : Type 0} {ts us : List Filled} {stop : Stop} → Leaves {A = A} ts (Fault stop us) → Says stop us × Rest ts us
 of-fault (fault_rest k r) = (k, r)
 
-module _ {A B : Type 0} (made : A → B) (Begins : List Token → Type 0) (Stops : Stop → List Token → List Token → Type 0) (p : Parser A) (leaves : (s : Input) → Leaves s.tokens (p s))
+module _ {A B : Type 0} (made : A → B) (Begins : List Token → Type 0) (Few : List Token → Token → Type 0) (Stops : Stop → List Token → List Token → Type 0) (p : Parser A) (leaves : (s : Input) → Leaves s.tokens (p s))
     (begins : (front behind : List Token) (stop : Stop) → p (record { tokens = map read (front ++ behind); last = 0 }) ≡ Fault stop (map read behind) → (stop ≡ stops.Endless → ⊥) → Begins front)
+    (few_so : (front behind : List Token) (t : Token) → Passes (length behind) (p (record { tokens = map read (front ++ t ∷ behind); last = 0 })) → Few front t)
     (stops_so : (front rest : List Token) (stop : Stop) → p (record { tokens = map read (front ++ rest); last = 0 }) ≡ Fault stop (map read rest) → Stops stop front rest) (tokens : List Token) (from : ℕ) where
-  stands : (stop : Stop) (ts : List Filled) → p (input_at tokens from) ≡ Fault stop ts → (stop ≡ stops.Endless → ⊥) → Stands Begins Stops tokens from stop (place_of (map read tokens) ts)
+  few-before : (front rest before behind : List Token) (t : Token) (stop : Stop) → front ≡ before ++ t ∷ behind → p (record { tokens = map read (front ++ rest); last = 0 }) ≡ Fault stop (map read rest) → (stop ≡ stops.Endless → ⊥) → Few before t
+  few-before front rest before behind t stop e h final =
+      let whole : front ++ rest ≡ before ++ t ∷ (behind ++ rest) = ap (λ ts. ts ++ rest) e ∙ append_assoc before (t ∷ behind) rest in
+      let there : p (record { tokens = map read (before ++ t ∷ (behind ++ rest)); last = 0 }) ≡ Fault stop (map read rest) = ap (λ ts. p (record { tokens = map read ts; last = 0 })) (sym whole) ∙ h in
+      few_so before (behind ++ rest) t (subst (λ o. Passes (length (behind ++ rest)) o) (sym there) (final, omega (arith, length-map rest read, length-append behind rest)))
+
+  stands : (stop : Stop) (ts : List Filled) → p (input_at tokens from) ≡ Fault stop ts → (stop ≡ stops.Endless → ⊥) → Stands Begins Few Stops tokens from stop (place_of (map read tokens) ts)
   stands stop ts e final =
       let g = of-fault {A = A} {stop = stop} (subst (λ q. Leaves (map read (drop from tokens)) q) e (leaves (input_at tokens from))) in
       let r = parts-of g.1 in
@@ -106,21 +113,22 @@ module _ {A B : Type 0} (made : A → B) (Begins : List Token → Type 0) (Stops
         parts = s.whole;
         place = ap (place_of (map read tokens)) (sym s.left_);
         begins = begins s.front s.behind stop there final;
+        few = λ before behind t w. few-before s.front s.behind before behind t stop w there final;
         stops = stops_so s.front s.behind stop there;
         says = subst (λ us. Says stop us) (sym s.left_) g.0;
       }
 
-  fault-in : (stop : Stop) (at : ℕ) → ((stop ≡ stops.Endless → ⊥) → Stands Begins Stops tokens from stop at) → IsFaultIn Begins Stops tokens from (fault_of stop at)
+  fault-in : (stop : Stop) (at : ℕ) → ((stop ≡ stops.Endless → ⊥) → Stands Begins Few Stops tokens from stop at) → IsFaultIn Begins Few Stops tokens from (fault_of stop at)
   fault-in stops.Syntax at h = h (λ e. absurd (cc))
   fault-in (stops.Lexical kind) at h = h (λ e. absurd (cc))
   fault-in (stops.Outside rule) at h = h (λ e. absurd (cc))
   fault-in stops.Depth at h = h (λ e. absurd (cc))
   fault-in stops.Endless at h = tt
 
-  fault-of : (fault : ParseFault) → Refuses tokens (p (input_at tokens from)) fault → IsFaultIn Begins Stops tokens from fault
-  fault-of fault (out_of_memory e) = subst (IsFaultIn Begins Stops tokens from) (sym e) tt
-  fault-of fault (stopped stop ts e f) = subst (IsFaultIn Begins Stops tokens from) (sym f) (fault-in stop (place_of (map read tokens) ts) (λ final. stands stop ts e final))
+  fault-of : (fault : ParseFault) → Refuses tokens (p (input_at tokens from)) fault → IsFaultIn Begins Few Stops tokens from fault
+  fault-of fault (out_of_memory e) = subst (IsFaultIn Begins Few Stops tokens from) (sym e) tt
+  fault-of fault (stopped stop ts e f) = subst (IsFaultIn Begins Few Stops tokens from) (sym f) (fault-in stop (place_of (map read tokens) ts) (λ final. stands stop ts e final))
 
-  pub faults-in : (r : Result (B × ℕ) ParseFault) → Answers made tokens (p (input_at tokens from)) r → IfErr r (IsFaultIn Begins Stops tokens from)
+  pub faults-in : (r : Result (B × ℕ) ParseFault) → Answers made tokens (p (input_at tokens from)) r → IfErr r (IsFaultIn Begins Few Stops tokens from)
   faults-in (Ok r) h = tt
   faults-in (Err fault) h = fault-of fault h

@@ -1,5 +1,5 @@
 -- What the laws of the model say of the expression, or the statement or declaration, that is answered.
-use Rattle.std.proofs.Common.{◌≡◌, ℕ, suc, true, List, ◌++◌, drop, map}
+use Rattle.std.proofs.Common.{◌≡◌, ℕ, suc, true, List, [], ◌∷◌, ◌++◌, drop, map}
 use Rattle.std.specs.Prelude.{Result, IfOk, IfErr}
 use Rattle.es6_lexer.specs.declared.token.Token.{Token}
 use Rattle.es6_ast.specs.declared.tree.Expression.{Expression}
@@ -19,10 +19,10 @@ use Rattle.es6_reading.proofs.Places.{Leaves}
 use Rattle.es6_reading.proofs.PlacesOfModules.{placed}
 use Rattle.es6_viability.specs.Alive.{BeginsExpression, BeginsStatement}
 use Rattle.es6_viability.specs.Fronts.{BeginWithExpression, BeginWithStatement, IsExpressionBefore, IsStatementBefore}
-use Rattle.es6_viability.specs.TooDeep.{open_in_expression, open_in_statement}
-use Rattle.es6_viability.proofs.AliveAlone.{expressions-begin, statements-begin}
+use Rattle.es6_viability.specs.TooDeep.{FewAreOpen, open_in_expression, open_in_statement}
+use Rattle.es6_viability.proofs.AliveAlone.{depth-begins-expressions, depth-begins-statements, expressions-begin, statements-begin}
 use Rattle.es6_viability.proofs.DeadAlone.{no-expression-goes-on, no-statement-goes-on}
-use Rattle.es6_viability.proofs.TooDeep.{expressions-are-too-deep, statements-are-too-deep}
+use Rattle.es6_viability.proofs.TooDeep.{expressions-are-too-deep, expressions-pass-none, statements-are-too-deep, statements-pass-none}
 use Rattle.es6_viability.proofs.Fronts.{spelled-expressions, spelled-statements}
 use Rattle.es6_viability.proofs.ShallowLaws.{expressions-are-shallow, statements-are-shallow}
 use Rattle.es6_viability.proofs.SpelledAlone.{expression-spelled as expression-spelled-by, statement-spelled as statement-spelled-by}
@@ -49,16 +49,17 @@ sequence-leaves : (room : ℕ) (f : Flags) (s : Input) → Leaves s.tokens (sequ
 unfolding readers
 sequence-leaves room f s = (placed true turns (suc room)).sequence f s
 
-expression-stops : (room : ℕ) (f : Flags) (front rest : List Token) (stop : Stop) → sequence (inner room) f (record { tokens = map read (front ++ rest); last = 0 }) ≡ Fault stop (map read rest) → IsStopAt room open_in_expression (BeginWithExpression f) stop front rest
+expression-stops : (room : ℕ) (f : Flags) (front rest : List Token) (stop : Stop) → sequence (inner room) f (record { tokens = map read (front ++ rest); last = 0 }) ≡ Fault stop (map read rest) → IsStopAt room open_in_expression (BeginsExpression f) (BeginWithExpression f) stop front rest
 expression-stops room f front rest stops.Endless e = tt
-expression-stops room f front rest stops.Depth e = expressions-are-too-deep turns room f front rest e
+expression-stops room f front [] stops.Depth e = expressions-are-too-deep turns room f front [] e
+expression-stops room f front (t ∷ ts) stops.Depth e = (depth-begins-expressions turns room f front ts t e, expressions-are-too-deep turns room f front (t ∷ ts) e)
 expression-stops room f front rest stops.Syntax e = no-expression-goes-on turns room f front rest stops.Syntax e tt
 expression-stops room f front rest (stops.Lexical kind) e = no-expression-goes-on turns room f front rest (stops.Lexical kind) e tt
 expression-stops room f front rest (stops.Outside rule) e = no-expression-goes-on turns room f front rest (stops.Outside rule) e tt
 
 pub expression-faults : (room : ℕ) (f : Flags) (tokens : List Token) (from : ℕ) (r : Result (Expression × ℕ) ParseFault) → ExpressionAnswer room f tokens from r → IfErr r (IsExpressionFault room f tokens from)
-expression-faults room f tokens from = faults-in (λ (r : Reading). r.value) (BeginsExpression f) (IsStopAt room open_in_expression (BeginWithExpression f)) (sequence (inner room) f) (sequence-leaves room f)
-    (expressions-begin turns room f) (expression-stops room f) tokens from
+expression-faults room f tokens from = faults-in (λ (r : Reading). r.value) (BeginsExpression f) (FewAreOpen room open_in_expression (BeginWithExpression f)) (IsStopAt room open_in_expression (BeginsExpression f) (BeginWithExpression f)) (sequence (inner room) f) (sequence-leaves room f)
+    (expressions-begin turns room f) (expressions-pass-none turns room f) (expression-stops room f) tokens from
 
 -- ## Statements
 
@@ -78,13 +79,14 @@ statement-leaves : (room : ℕ) (f : Flags) (s : Input) → Leaves s.tokens (sta
 unfolding readers
 statement-leaves room f s = (placed true turns (suc room)).statement f Listed s
 
-statement-stops : (room : ℕ) (f : Flags) (front rest : List Token) (stop : Stop) → statement (inner room) f Listed (record { tokens = map read (front ++ rest); last = 0 }) ≡ Fault stop (map read rest) → IsStopAt room open_in_statement (BeginWithStatement f) stop front rest
+statement-stops : (room : ℕ) (f : Flags) (front rest : List Token) (stop : Stop) → statement (inner room) f Listed (record { tokens = map read (front ++ rest); last = 0 }) ≡ Fault stop (map read rest) → IsStopAt room open_in_statement (BeginsStatement f) (BeginWithStatement f) stop front rest
 statement-stops room f front rest stops.Endless e = tt
-statement-stops room f front rest stops.Depth e = statements-are-too-deep turns room f front rest e
+statement-stops room f front [] stops.Depth e = statements-are-too-deep turns room f front [] e
+statement-stops room f front (t ∷ ts) stops.Depth e = (depth-begins-statements turns room f front ts t e, statements-are-too-deep turns room f front (t ∷ ts) e)
 statement-stops room f front rest stops.Syntax e = no-statement-goes-on turns room f front rest stops.Syntax e tt
 statement-stops room f front rest (stops.Lexical kind) e = no-statement-goes-on turns room f front rest (stops.Lexical kind) e tt
 statement-stops room f front rest (stops.Outside rule) e = no-statement-goes-on turns room f front rest (stops.Outside rule) e tt
 
 pub statement-faults : (room : ℕ) (f : Flags) (tokens : List Token) (from : ℕ) (r : Result (Statement × ℕ) ParseFault) → StatementAnswer room f tokens from r → IfErr r (IsStatementFault room f tokens from)
-statement-faults room f tokens from = faults-in (λ (s : Statement). s) (BeginsStatement f) (IsStopAt room open_in_statement (BeginWithStatement f)) (statement (inner room) f Listed) (statement-leaves room f)
-    (statements-begin turns room f) (statement-stops room f) tokens from
+statement-faults room f tokens from = faults-in (λ (s : Statement). s) (BeginsStatement f) (FewAreOpen room open_in_statement (BeginWithStatement f)) (IsStopAt room open_in_statement (BeginsStatement f) (BeginWithStatement f)) (statement (inner room) f Listed) (statement-leaves room f)
+    (statements-begin turns room f) (statements-pass-none turns room f) (statement-stops room f) tokens from

@@ -13,7 +13,7 @@ use Rattle.es6_reading.specs.Parser.{Input, Outcome, Took, Fault}
 use Rattle.es6_reading.specs.Laws.{Says}
 use Rattle.es6_viability.specs.Alive.{BeginsExpression, BeginsStatement}
 use Rattle.es6_viability.specs.Fronts.{BeginWithExpression, BeginWithStatement, NoneGoesOn}
-use Rattle.es6_viability.specs.TooDeep.{AreOfText, TooManyOpen, open_in_expression, open_in_statement}
+use Rattle.es6_viability.specs.TooDeep.{AreOfText, FewAreOpen, TooManyOpen, open_in_expression, open_in_statement}
 use Rattle.es6_expr.specs.declared.fault.ParseFault.{ParseFault}
 use Rattle.es6_expr.specs.declared.fault.ParseFault.TheVariants.{Syntax, Lexical, Outside, Depth, OutOfMemory}
 use Rattle.es6_expr.specs.declared.parse.Context.{Context}
@@ -54,35 +54,38 @@ IsShallow room count tokens from r = AreOfText (drop from tokens) → (front beh
 abbrev pub IsTheOnly : {A : Type 0} → (A → List Token → Type 0) → List Token → A × ℕ → Type 0
 IsTheOnly {A = A} Begins tokens r = (x : A) (rest : List Token) → Begins x rest → (r.0 ≡ x) × (r.1 ≡ length tokens - length rest)
 
--- What the stop says of the first of the other tokens: for the depth that more than `room` constructs are open there, in whatever
--- tokens of a text begin with that begin so, and otherwise that nothing goes on with it.
-abbrev pub IsStopAt : {A : Type 0} → ℕ → (A → List Token → ℕ) → (List Token → A → Type 0) → Stop → List Token → List Token → Type 0
-IsStopAt room count Spell stops.Endless front rest = Unit {0}
-IsStopAt room count Spell stops.Depth front rest = TooManyOpen room count Spell front rest
-IsStopAt room count Spell stop front rest = NoneGoesOn Spell front rest
+-- What the stop says of the first of the other tokens: for the depth that something begins with those up to it, and that more than
+-- `room` constructs are open there in whatever tokens of a text begin with that begin so; otherwise that nothing goes on with it.
+abbrev pub IsStopAt : {A : Type 0} → ℕ → (A → List Token → ℕ) → (List Token → Type 0) → (List Token → A → Type 0) → Stop → List Token → List Token → Type 0
+IsStopAt room count Begins Spell stops.Endless front rest = Unit {0}
+IsStopAt room count Begins Spell stops.Depth front [] = TooManyOpen room count Spell front []
+IsStopAt room count Begins Spell stops.Depth front (t ∷ ts) = Begins (front ++ t ∷ []) × TooManyOpen room count Spell front (t ∷ ts)
+IsStopAt room count Begins Spell stop front rest = NoneGoesOn Spell front rest
 
--- The place is the begin of a token from the number on, or the end of all. Something begins with the tokens up to there, and what is
--- said of those from there on is so.
-pub record Stands (Begins : List Token → Type 0) (Stops : Stop → List Token → List Token → Type 0) (tokens : List Token) (from : ℕ) (stop : Stop) (at : ℕ) : Type 0 where
+-- The place is the begin of a token from the number on, or the end of all. Something begins with the tokens up to there, at each of
+-- which few constructs are open, and what is said of those from there on is so.
+pub record Stands (Begins : List Token → Type 0) (Few : List Token → Token → Type 0) (Stops : Stop → List Token → List Token → Type 0) (tokens : List Token) (from : ℕ) (stop : Stop) (at : ℕ) : Type 0 where
   pub front : List Token
   pub rest : List Token
   pub parts : drop from tokens ≡ front ++ rest
   pub place : at ≡ place_of (map read tokens) (map read rest)
   pub begins : Begins front
+  pub few : (before behind : List Token) (t : Token) → front ≡ before ++ t ∷ behind → Few before t
   pub stops : Stops stop front rest
   pub says : Says stop (map read rest)
 
 -- Memory that runs out says nothing.
-abbrev pub IsFaultIn : (List Token → Type 0) → (Stop → List Token → List Token → Type 0) → List Token → ℕ → ParseFault → Type 0
-IsFaultIn Begins Stops tokens from (Syntax at) = Stands Begins Stops tokens from stops.Syntax at
-IsFaultIn Begins Stops tokens from (Lexical at kind) = Stands Begins Stops tokens from (stops.Lexical kind) at
-IsFaultIn Begins Stops tokens from (Outside rule at) = Stands Begins Stops tokens from (stops.Outside rule) at
-IsFaultIn Begins Stops tokens from (Depth at) = Stands Begins Stops tokens from stops.Depth at
-IsFaultIn Begins Stops tokens from OutOfMemory = Unit {0}
+abbrev pub IsFaultIn : (List Token → Type 0) → (List Token → Token → Type 0) → (Stop → List Token → List Token → Type 0) → List Token → ℕ → ParseFault → Type 0
+IsFaultIn Begins Few Stops tokens from (Syntax at) = Stands Begins Few Stops tokens from stops.Syntax at
+IsFaultIn Begins Few Stops tokens from (Lexical at kind) = Stands Begins Few Stops tokens from (stops.Lexical kind) at
+IsFaultIn Begins Few Stops tokens from (Outside rule at) = Stands Begins Few Stops tokens from (stops.Outside rule) at
+IsFaultIn Begins Few Stops tokens from (Depth at) = Stands Begins Few Stops tokens from stops.Depth at
+IsFaultIn Begins Few Stops tokens from OutOfMemory = Unit {0}
 
--- a fault of an expression, of which `room` more constructs may be open, and of a statement or declaration
+-- a fault of an expression, of which `room` more constructs may be open, and of a statement or declaration: no more are open at a
+-- token before it, in whatever tokens of a text begin with that begin so
 abbrev pub IsExpressionFault : ℕ → Flags → List Token → ℕ → ParseFault → Type 0
-IsExpressionFault room f = IsFaultIn (BeginsExpression f) (IsStopAt room open_in_expression (BeginWithExpression f))
+IsExpressionFault room f = IsFaultIn (BeginsExpression f) (FewAreOpen room open_in_expression (BeginWithExpression f)) (IsStopAt room open_in_expression (BeginsExpression f) (BeginWithExpression f))
 
 abbrev pub IsStatementFault : ℕ → Flags → List Token → ℕ → ParseFault → Type 0
-IsStatementFault room f = IsFaultIn (BeginsStatement f) (IsStopAt room open_in_statement (BeginWithStatement f))
+IsStatementFault room f = IsFaultIn (BeginsStatement f) (FewAreOpen room open_in_statement (BeginWithStatement f)) (IsStopAt room open_in_statement (BeginsStatement f) (BeginWithStatement f))
