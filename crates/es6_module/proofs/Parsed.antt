@@ -6,25 +6,27 @@ use Rattle.es6_lexer.specs.declared.token.Token.{Token}
 use Rattle.es6_ast.specs.declared.module.Module.{Module}
 use Rattle.es6_ast.specs.declared.settings.Stop.{Stop}
 use Rattle.es6_ast.specs.declared.settings.Stop.TheVariants as stops
-use Rattle.es6_ast.specs.Dead.{IsDead}
+use Rattle.es6_ast.specs.Dead.{IsStop}
 use Rattle.es6_ast.specs.Depth.{open_constructs}
 use Rattle.es6_ast.specs.Semicolons.{SpellsModule}
 use Rattle.es6_ast.specs.Tokens.{Filled, read}
 use Rattle.es6_reading.specs.Laws.{BeginAlike, IsFinal, Says}
 use Rattle.es6_reading.specs.Modules.{most_open, read_module, readers, whole_module}
-use Rattle.es6_reading.specs.Parser.{Input, Outcome, Took, Fault}
+use Rattle.es6_reading.specs.Parser.{Input, Took, Fault}
 use Rattle.es6_reading.proofs.Completeness.{what-is-derived-is-read}
 use Rattle.es6_reading.proofs.LocalReaders.{local-faults}
 use Rattle.es6_reading.proofs.OneModule.{one-module}
 use Rattle.es6_reading.proofs.PlacesOfModules.{places, says}
 use Rattle.es6_reading.proofs.ShallowModules.{depth}
 use Rattle.es6_reading.proofs.Spelled.{spelled}
-use Rattle.es6_viability.specs.Alive.{NoDeadTokenIsPassed, TokensBeforeFaultsAreAlive}
-use Rattle.es6_viability.specs.Spelled.{FaultsAreDead, IsReadAs, LexicalFaultsAreReported, NoneIsSpelledPastFaults, SpelledModulesAreReadOrLimited}
+use Rattle.es6_viability.specs.Alive.{TokensBeforeFaultsAreAlive}
+use Rattle.es6_viability.specs.Spelled.{IsReadAs, NoneIsSpelledPastFaults, SpelledModulesAreReadOrLimited}
 use Rattle.es6_viability.specs.TooDeep.{AreOfText, TooManyOpen, open_in_module}
 use Rattle.es6_viability.proofs.TooDeep.{modules-are-too-deep}
-use Rattle.es6_viability.proofs.Passed.{faults-dead, lexical-reported, no-dead, read-or-limited, seam, take-next}
-use Rattle.es6_viability.proofs.Readers.{tokens-alive}
+use Rattle.es6_viability.proofs.NoStop.{first-stops, lexical-stops, no-stop-in-read, no-stop-passed, syntax-stops}
+use Rattle.es6_viability.proofs.Passed.{read-or-limited, take-next}
+use Rattle.es6_viability.proofs.Placed.{depth-before-end, depth-stops}
+use Rattle.es6_viability.proofs.Readers.{depth-alive, tokens-alive}
 use Rattle.es6_viability.proofs.ReadInserted.{none-past}
 use Rattle.es6_cursor.specs.Readers.{turns}
 use Rattle.es6_expr.specs.declared.fault.ParseFault.{ParseFault}
@@ -36,17 +38,8 @@ use Rattle.es6_module.specs.Parsed.{Accepts, Answers, IsDeep, IsFault, IsParsed,
 alive : TokensBeforeFaultsAreAlive
 alive = tokens-alive what-is-derived-is-read
 
-passed : NoDeadTokenIsPassed
-passed = no-dead places alive
-
 none_past : NoneIsSpelledPastFaults
 none_past = none-past what-is-derived-is-read
-
-dead : FaultsAreDead
-dead = faults-dead places none_past
-
-reported : LexicalFaultsAreReported
-reported = lexical-reported places says dead
 
 limited : SpelledModulesAreReadOrLimited
 limited = read-or-limited places (one-module what-is-derived-is-read) (spelled what-is-derived-is-read) none_past
@@ -56,6 +49,7 @@ limited = read-or-limited places (one-module what-is-derived-is-read) (spelled w
 pub is_parsed : (tokens : List Token) (tree : Module) (after : Input) → read_module turns (map read tokens) ≡ Took tree after → IsParsed tokens tree
 is_parsed tokens tree after e = record {
   spelled = spelled what-is-derived-is-read turns tokens tree after e;
+  no_stop = no-stop-in-read turns tokens tree after e;
   shallow = λ order. depth turns tokens tree after order e;
 }
 
@@ -109,21 +103,22 @@ at-end front stop e final tree spells = none_past turns (front ++ []) stop [] e 
 inside : (front rest : List Token) (t : Token) → length front < length (front ++ t ∷ rest)
 inside front rest t = omega (arith, length-append front (t ∷ rest))
 
-dead-there : (front ts : List Token) (t : Token) (stop : Stop) → Stops front (t ∷ ts) stop → IsFinal stop → IsDead (front ++ t ∷ ts) (length front)
-dead-there front ts t stop e final = dead turns (front ++ t ∷ ts) stop (map read (t ∷ ts)) e final (length front) (lengths front (t ∷ ts)) (inside front ts t)
+stop-there : (front ts : List Token) (t : Token) (stop : Stop) → Stops front (t ∷ ts) stop → IsFinal stop → IsStop (front ++ t ∷ ts) (length front)
+stop-there front ts t stop e final = first-stops turns (front ++ t ∷ ts) stop (map read (t ∷ ts)) e final (length front) (lengths front (t ∷ ts)) (inside front ts t)
 
 deep-there : (front rest : List Token) → Stops front rest stops.Depth → TooManyOpen most_open open_in_module SpellsModule front rest
 deep-there front rest e = modules-are-too-deep turns most_open front rest (sym (module-read (map read (front ++ rest))) ∙ e)
 
 stop-at : (front rest : List Token) (stop : Stop) → Stops front rest stop → IsStopAt front rest stop
 stop-at front rest stops.Endless e = tt
-stop-at front rest stops.Depth e = deep-there front rest e
+stop-at front [] stops.Depth e = deep-there front [] e
+stop-at front (t ∷ ts) stops.Depth e = record { inner = depth-before-end turns front ts t e; begun = depth-alive what-is-derived-is-read turns front ts t e; open_ = deep-there front (t ∷ ts) e; stop = depth-stops turns front ts t e }
 stop-at front [] (stops.Lexical kind) e = at-end front (stops.Lexical kind) e tt
 stop-at front [] stops.Syntax e = at-end front stops.Syntax e tt
 stop-at front [] (stops.Outside rule) e = at-end front (stops.Outside rule) e tt
-stop-at front (t ∷ ts) (stops.Lexical kind) e = reported turns (front ++ t ∷ ts) kind (map read (t ∷ ts)) e (length front) t (lengths front (t ∷ ts)) (seam front t ts)
-stop-at front (t ∷ ts) stops.Syntax e = dead-there front ts t stops.Syntax e tt
-stop-at front (t ∷ ts) (stops.Outside rule) e = dead-there front ts t (stops.Outside rule) e tt
+stop-at front (t ∷ ts) (stops.Lexical kind) e = lexical-stops turns (front ++ t ∷ ts) kind (map read (t ∷ ts)) e
+stop-at front (t ∷ ts) stops.Syntax e = (stop-there front ts t stops.Syntax e tt, syntax-stops turns front ts t e)
+stop-at front (t ∷ ts) (stops.Outside rule) e = stop-there front ts t (stops.Outside rule) e tt
 
 -- what is before the tokens that are left
 before-rest : (p a b n : ℕ) → p < a → a + b ≡ n → p + b < n
@@ -144,7 +139,7 @@ stands tokens stop rest ended e =
       parts = q.whole;
       place = ap (place_of (map read tokens)) (sym q.rest_is);
       alive = alive turns q.before q.behind stop split ended;
-      first = λ p h. passed turns tokens stop (map read q.behind) there ended p (before-rest p (length q.before) (length (map read q.behind)) (length tokens) h (lengths q.before q.behind ∙ ap length (sym q.whole)));
+      first = λ p h. no-stop-passed turns tokens stop (map read q.behind) there ended p (before-rest p (length q.before) (length (map read q.behind)) (length tokens) h (lengths q.before q.behind ∙ ap length (sym q.whole)));
       stops = stop-at q.before q.behind stop split;
       says = subst (λ r. Says stop r) (sym q.rest_is) (says turns (map read tokens) stop rest e);
       stays = λ others alike. ap (read_module turns) (joined q.before others l.0 q.front_is) ∙ module-read (l.0 ++ map read others) ∙ l.2 (map read others) (subst (λ r. BeginAlike r (map read others)) q.rest_is alike);
@@ -170,6 +165,10 @@ faults tokens (Err fault) h = refused tokens fault h
 one-more : (n : ℕ) → n + 1 ≡ suc n
 one-more n = omega arith
 
+many-open : (front rest : List Token) → IsStopAt front rest stops.Depth → TooManyOpen most_open open_in_module SpellsModule front rest
+many-open front [] d = d
+many-open front (t ∷ ts) d = d.open_
+
 -- a module of which too many constructs are open at the first token of the rest
 deep-at : (front rest : List Token) → TooManyOpen most_open open_in_module SpellsModule front rest → AreOfText (front ++ rest) → (tree : Module) → SpellsModule (front ++ rest) tree → IsDeep (front ++ rest) tree
 deep-at front [] deep text tree spells = absurd (deep (subst AreOfText (append-nil front) text) tree (subst (λ ts. SpellsModule ts tree) (append-nil front) spells))
@@ -185,7 +184,7 @@ refusing tokens (stops.Lexical kind) at h s = h tt
 refusing tokens (stops.Outside rule) at h s = h tt
 refusing tokens stops.Depth at h s = λ text tree spells.
     let r = s (λ e. absurd (cc)) in
-    subst (λ ts. IsDeep ts tree) (sym r.parts) (deep-at r.front r.rest r.stops (subst AreOfText r.parts text) tree (subst (λ ts. SpellsModule ts tree) r.parts spells))
+    subst (λ ts. IsDeep ts tree) (sym r.parts) (deep-at r.front r.rest (many-open r.front r.rest r.stops) (subst AreOfText r.parts text) tree (subst (λ ts. SpellsModule ts tree) r.parts spells))
 refusing tokens stops.Endless at h s = tt
 
 refusals : (tokens : List Token) (fault : ParseFault) → Refuses tokens (read_module turns (map read tokens)) fault → Accepts tokens (Err fault)

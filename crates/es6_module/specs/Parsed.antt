@@ -1,47 +1,60 @@
 -- What is answered for the tokens of a text.
-use Rattle.std.specs.Prelude.{◌≡◌, ℕ, ◌+◌, ◌<◌, ◌≤◌, List, [], ◌∷◌, ◌++◌, length, map, take, Result, Ok, Err}
+use Rattle.std.specs.Prelude.{◌≡◌, ℕ, ◌+◌, ◌<◌, ◌≤◌, ◌⊎◌, List, [], ◌∷◌, ◌++◌, length, map, take, Result, Ok, Err}
 use Rattle.es6_lexer.specs.declared.token.Token.{Token}
+use Rattle.es6_lexer.specs.declared.token.TokenKind.TheVariants.{End}
 use Rattle.es6_ast.specs.declared.module.Module.{Module}
 use Rattle.es6_ast.specs.declared.settings.Stop.{Stop}
 use Rattle.es6_ast.specs.declared.settings.Stop.TheVariants as stops
-use Rattle.es6_ast.specs.Dead.{AreInOrder, IsAlive, IsDead, IsReported}
+use Rattle.es6_ast.specs.Dead.{AreInOrder, IsAlive, IsDead, IsStop, IsTooDeep, StopsAt}
 use Rattle.es6_ast.specs.Depth.{open_constructs}
 use Rattle.es6_ast.specs.Semicolons.{SpellsModule}
 use Rattle.es6_ast.specs.Tokens.{Filled, read}
 use Rattle.es6_reading.specs.Laws.{BeginAlike, Says}
 use Rattle.es6_reading.specs.Modules.{most_open, read_module}
 use Rattle.es6_reading.specs.Parser.{Input, Outcome, Took, Fault}
-use Rattle.es6_viability.specs.TooDeep.{AreOfText, TooManyOpen, open_in_module}
+use Rattle.es6_viability.specs.TooDeep.{AreOfText, TellsOutside, TooManyOpen, open_in_module}
 use Rattle.es6_cursor.specs.Readers.{turns}
 use Rattle.es6_expr.specs.declared.fault.ParseFault.{ParseFault}
 use Rattle.es6_expr.specs.declared.fault.ParseFault.TheVariants.{OutOfMemory, Syntax, Lexical, Outside, Depth}
 use Rattle.es6_expr.specs.Faults.{fault_of, place_of}
 
--- The tokens spell the module, with the semicolons that are inserted. Where they stand one behind another, at most 256 of its
--- constructs are open at each of them.
+-- The tokens spell the module, with the semicolons that are inserted. None of them is dead or too deep, whatever else begins so, and
+-- where they stand one behind another, at most 256 of its constructs are open at each of them.
 pub record IsParsed (tokens : List Token) (tree : Module) : Type 0 where
   pub spelled : SpellsModule tokens tree
+  pub no_stop : (p : ℕ) → p < length tokens → (IsDead tokens p ⊎ IsTooDeep tokens p) → ⊥
   pub shallow : AreInOrder tokens → (p : ℕ) → p < length tokens → open_constructs (take (p + 1) tokens) tree ≤ 256
 
--- What the stop says of the token at which it stands: for the depth that more than 256 constructs are open there, in whatever module
--- tokens of a text spell that begin so, and otherwise that no module begins with the tokens up to it. A lexical fault is the one that
--- stands there. At the end no module is spelled.
+-- a token at which the reader stops for depth
+pub record IsDeepAt (front : List Token) (t : Token) (ts : List Token) : Type 0 where
+  pub inner : t.kind ≡ End → ⊥
+  pub begun : IsAlive (front ++ t ∷ [])
+  pub open_ : TooManyOpen most_open open_in_module SpellsModule front (t ∷ ts)
+  pub stop : AreInOrder (front ++ t ∷ ts) → t.span.begin < t.span.end → StopsAt (front ++ t ∷ ts) t.span.begin stops.Depth
+
+-- What the stop says of the token at which it stands. For the depth it isn't the end of the text, some module begins with the tokens up
+-- to it, and more than 256 constructs are open there in whatever module tokens of a text spell that begin so; and it is what the definition
+-- has a reader report, if the tokens are in order and that one isn't empty. A lexical fault is what the definition has it report, and a
+-- syntax fault too, if its token tells of nothing outside the profile. Any but one for the depth stands where the definition has it stop. At
+-- the end no module is spelled.
 abbrev pub IsStopAt : List Token → List Token → Stop → Type 0
 IsStopAt front rest stops.Endless = Unit {0}
-IsStopAt front rest stops.Depth = TooManyOpen most_open open_in_module SpellsModule front rest
+IsStopAt front [] stops.Depth = TooManyOpen most_open open_in_module SpellsModule front []
+IsStopAt front (t ∷ ts) stops.Depth = IsDeepAt front t ts
 IsStopAt front [] stop = (tree : Module) → SpellsModule front tree → ⊥
-IsStopAt front (t ∷ ts) (stops.Lexical kind) = IsReported (front ++ t ∷ ts) (length front) t (stops.Lexical kind)
-IsStopAt front (t ∷ ts) stop = IsDead (front ++ t ∷ ts) (length front)
+IsStopAt front (t ∷ ts) (stops.Lexical kind) = StopsAt (front ++ t ∷ ts) t.span.begin (stops.Lexical kind)
+IsStopAt front (t ∷ ts) stops.Syntax = IsStop (front ++ t ∷ ts) (length front) × ((TellsOutside t.kind → ⊥) → StopsAt (front ++ t ∷ ts) t.span.begin stops.Syntax)
+IsStopAt front (t ∷ ts) stop = IsStop (front ++ t ∷ ts) (length front)
 
 -- The reader stops at the first token of the rest, or at the end of the text. Some module begins with the tokens before it, none of
--- which is dead. What it reports is what stands there, and rests on no later token: it stops there whatever follows.
+-- which is dead or too deep. What it reports is what stands there, and rests on no later token: it stops there whatever follows.
 pub record IsStopped (tokens : List Token) (stop : Stop) (at : ℕ) : Type 0 where
   pub front : List Token
   pub rest : List Token
   pub parts : tokens ≡ front ++ rest
   pub place : at ≡ place_of (map read tokens) (map read rest)
   pub alive : IsAlive front
-  pub first : (p : ℕ) → p < length front → IsDead tokens p → ⊥
+  pub first : (p : ℕ) → p < length front → (IsDead tokens p ⊎ IsTooDeep tokens p) → ⊥
   pub stops : IsStopAt front rest stop
   pub says : Says stop (map read rest)
   pub stays : (others : List Token) → BeginAlike (map read rest) (map read others) → read_module turns (map read (front ++ others)) ≡ Fault stop (map read others)

@@ -23,11 +23,11 @@ const MOST_OPEN: u16 = 256;
 ///
 /// The recursion is as deep as 256 constructs.
 pub fn parse_module(alloc: Global, tokens: &[Token]) -> Result<Module, ParseFault>
-    // The tokens spell the module.
+    // The tokens spell the module, and none of them is dead or too deep.
     ensures parsed { IfOk result (λ tree. IsParsed tokens.now tree) }
     // It is the only one that they spell, and none is refused but for its depth or for want of memory.
     ensures accepted { Accepts tokens.now result }
-    // A fault stands at the first token with which no module goes on, or where too many constructs are open.
+    // A fault stands at the first token that is dead or too deep, or behind all of them.
     ensures fault { IfErr result (λ fault. IsFault tokens.now fault) }
     // What is read, and which fault it is, is what the laws of `es6_reading` speak of.
     ensures read { Answers tokens.now (read_module turns (map read tokens.now)) result }
