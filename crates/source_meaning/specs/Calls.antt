@@ -87,7 +87,7 @@ abbrev pub code_bound : Code → State → Next
 code_bound code st =
     if is_generator code
     then operates (GeneratorPrototype (statements_of code)) number.prototype_of_number st.context.own.callee
-        (value.Object generator_prototype ∷ []) st
+    (value.Object generator_prototype ∷ []) st
     else run_code code st
 
 abbrev pub parameters_bound : Code → State → Next

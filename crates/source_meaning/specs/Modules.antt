@@ -194,7 +194,7 @@ endings_within zero g seen p = []
 endings_within (suc depth) g seen p =
     if list_any (is_pair p) seen then []
     else joined (λ e. source_ends p.home e.source) (entries_named g p)
-        ++ joined (endings_within depth g (p ∷ seen)) (pairs_by g p (entries_named g p))
+    ++ joined (endings_within depth g (p ∷ seen)) (pairs_by g p (entries_named g p))
 
 -- no path without a return is longer than there are modules and names
 abbrev pub path_limit : Graph → ℕ
@@ -216,7 +216,7 @@ names_within zero g seen n = []
 names_within (suc depth) g seen n =
     if is_number n seen then []
     else map (λ e. e.name) (exports_of g n)
-        ++ filter (λ x. not (is_default x)) (joined (names_within depth g (n ∷ seen)) (stars_of g n))
+    ++ filter (λ x. not (is_default x)) (joined (names_within depth g (n ∷ seen)) (stars_of g n))
 
 abbrev pub exported_at : Graph → ℕ → List ℕ → Option Exported
 exported_at g n name = by_end (ends_alone g n name)
@@ -254,7 +254,7 @@ abbrev pub with_namespace : Graph → ℕ → State → State
 with_namespace g n st =
     if list_any (imports_namespace n) g.modules
     then initialized namespace_name (value.Object (next_id st.heap))
-        (record (with_heap (made_namespace st.heap (length st.namespaces)) st) { namespaces = st.namespaces ++ namespace_of g n ∷ [] })
+    (record (with_heap (made_namespace st.heap (length st.namespaces)) st) { namespaces = st.namespaces ++ namespace_of g n ∷ [] })
     else st
 
 abbrev pub instantiated : Graph → ℕ → List LoadedModule → State → State
