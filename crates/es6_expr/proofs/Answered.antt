@@ -11,9 +11,9 @@ use Rattle.es6_reading.specs.Parser.{Input, Outcome, Took, Fault, Parser}
 use Rattle.es6_reading.specs.Laws.{Says}
 use Rattle.es6_reading.proofs.Places.{Rest, all, less, Leaves, fault_rest}
 use Rattle.es6_reading_laws.specs.Fronts.{Settles, reads}
-use Rattle.es6_viability.specs.TooDeep.{IsShallowIn, Passes}
-use Rattle.es6_viability.proofs.Passed.{split}
-use Rattle.es6_viability.proofs.SpelledAlone.{Spelled}
+use Rattle.es6_reading_laws.specs.es6_viability.TooDeep.{IsShallowIn, Passes}
+use Rattle.es6_reading_laws.proofs.es6_viability.Passed.{split}
+use Rattle.es6_reading_laws.proofs.es6_viability.SpelledAlone.{Spelled}
 use Rattle.es6_expr.specs.declared.fault.ParseFault.{ParseFault}
 use Rattle.es6_expr.specs.Faults.{fault_of, place_of}
 use Rattle.es6_expr.specs.Parsed.{Answers, Gives, Refuses, IsFaultIn, IsShallow, IsTheOnly, Stands, input_at, took, out_of_memory, stopped}

@@ -17,15 +17,16 @@ use Rattle.es6_reading.specs.Statements.{statement}
 use Rattle.es6_reading.specs.Modules.{readers}
 use Rattle.es6_reading.proofs.Places.{Leaves}
 use Rattle.es6_reading.proofs.PlacesOfModules.{placed}
-use Rattle.es6_viability.specs.Alive.{BeginsExpression, BeginsStatement}
-use Rattle.es6_viability.specs.Fronts.{BeginWithExpression, BeginWithStatement, IsExpressionBefore, IsStatementBefore}
-use Rattle.es6_viability.specs.TooDeep.{FewAreOpen, open_in_expression, open_in_statement}
-use Rattle.es6_viability.proofs.AliveAlone.{depth-begins-expressions, depth-begins-statements, expressions-begin, statements-begin}
-use Rattle.es6_viability.proofs.DeadAlone.{no-expression-goes-on, no-statement-goes-on}
-use Rattle.es6_viability.proofs.TooDeep.{expressions-are-too-deep, expressions-pass-none, statements-are-too-deep, statements-pass-none}
-use Rattle.es6_viability.proofs.Fronts.{spelled-expressions, spelled-statements}
-use Rattle.es6_viability.proofs.ShallowLaws.{expressions-are-shallow, statements-are-shallow}
-use Rattle.es6_viability.proofs.SpelledAlone.{expression-spelled as expression-spelled-by, statement-spelled as statement-spelled-by}
+use Rattle.es6_reading_laws.specs.es6_viability.Alive.{BeginsExpression, BeginsStatement}
+use Rattle.es6_reading_laws.specs.es6_viability.Fronts.{BeginWithExpression, BeginWithStatement, IsExpressionBefore, IsStatementBefore}
+use Rattle.es6_reading_laws.specs.es6_viability.TooDeep.{FewAreOpen, open_in_expression, open_in_statement}
+use Rattle.es6_reading_laws.proofs.es6_viability.AliveAlone.{depth-begins-expressions, depth-begins-statements, expressions-begin, statements-begin}
+use Rattle.es6_reading_laws.proofs.es6_viability.DeadAlone.{no-expression-goes-on, no-statement-goes-on}
+use Rattle.es6_reading_laws.proofs.es6_viability.TooDeep.{expressions-are-too-deep, expressions-pass-none, statements-are-too-deep, statements-pass-none}
+use Rattle.es6_reading_laws.proofs.es6_viability.Fronts.{spelled-expressions, spelled-statements}
+use Rattle.es6_reading_laws.proofs.es6_viability.ShallowLaws.{expressions-are-shallow, statements-are-shallow}
+use Rattle.es6_reading_laws.proofs.es6_viability.SpelledAlone.{expression-spelled as expression-spelled-by, statement-spelled as statement-spelled-by}
+use Rattle.es6_reading_laws.proofs.es6_outside_laws.Reported.{expressions-reported, statements-reported}
 use Rattle.es6_cursor.specs.Readers.{inner, turns}
 use Rattle.es6_expr.specs.declared.fault.ParseFault.{ParseFault}
 use Rattle.es6_expr.specs.Parsed.{Answers, IsExpressionFault, IsExpressionIn, IsShallow, IsStatementFault, IsStatementIn, IsStopAt, IsTheOnly, input_at}
@@ -53,9 +54,12 @@ expression-stops : (room : ℕ) (f : Flags) (front rest : List Token) (stop : St
 expression-stops room f front rest stops.Endless e = tt
 expression-stops room f front [] stops.Depth e = expressions-are-too-deep turns room f front [] e
 expression-stops room f front (t ∷ ts) stops.Depth e = (depth-begins-expressions turns room f front ts t e, expressions-are-too-deep turns room f front (t ∷ ts) e)
-expression-stops room f front rest stops.Syntax e = no-expression-goes-on turns room f front rest stops.Syntax e tt
-expression-stops room f front rest (stops.Lexical kind) e = no-expression-goes-on turns room f front rest (stops.Lexical kind) e tt
-expression-stops room f front rest (stops.Outside rule) e = no-expression-goes-on turns room f front rest (stops.Outside rule) e tt
+expression-stops room f front [] stops.Syntax e = no-expression-goes-on turns room f front [] stops.Syntax e tt
+expression-stops room f front (t ∷ ts) stops.Syntax e = (no-expression-goes-on turns room f front (t ∷ ts) stops.Syntax e tt, expressions-reported turns room f front ts t stops.Syntax e)
+expression-stops room f front [] (stops.Lexical kind) e = no-expression-goes-on turns room f front [] (stops.Lexical kind) e tt
+expression-stops room f front (t ∷ ts) (stops.Lexical kind) e = (no-expression-goes-on turns room f front (t ∷ ts) (stops.Lexical kind) e tt, expressions-reported turns room f front ts t (stops.Lexical kind) e)
+expression-stops room f front [] (stops.Outside rule) e = no-expression-goes-on turns room f front [] (stops.Outside rule) e tt
+expression-stops room f front (t ∷ ts) (stops.Outside rule) e = (no-expression-goes-on turns room f front (t ∷ ts) (stops.Outside rule) e tt, expressions-reported turns room f front ts t (stops.Outside rule) e)
 
 pub expression-faults : (room : ℕ) (f : Flags) (tokens : List Token) (from : ℕ) (r : Result (Expression × ℕ) ParseFault) → ExpressionAnswer room f tokens from r → IfErr r (IsExpressionFault room f tokens from)
 expression-faults room f tokens from = faults-in (λ (r : Reading). r.value) (BeginsExpression f) (FewAreOpen room open_in_expression (BeginWithExpression f)) (IsStopAt room open_in_expression (BeginsExpression f) (BeginWithExpression f)) (sequence (inner room) f) (sequence-leaves room f)
@@ -83,9 +87,12 @@ statement-stops : (room : ℕ) (f : Flags) (front rest : List Token) (stop : Sto
 statement-stops room f front rest stops.Endless e = tt
 statement-stops room f front [] stops.Depth e = statements-are-too-deep turns room f front [] e
 statement-stops room f front (t ∷ ts) stops.Depth e = (depth-begins-statements turns room f front ts t e, statements-are-too-deep turns room f front (t ∷ ts) e)
-statement-stops room f front rest stops.Syntax e = no-statement-goes-on turns room f front rest stops.Syntax e tt
-statement-stops room f front rest (stops.Lexical kind) e = no-statement-goes-on turns room f front rest (stops.Lexical kind) e tt
-statement-stops room f front rest (stops.Outside rule) e = no-statement-goes-on turns room f front rest (stops.Outside rule) e tt
+statement-stops room f front [] stops.Syntax e = no-statement-goes-on turns room f front [] stops.Syntax e tt
+statement-stops room f front (t ∷ ts) stops.Syntax e = (no-statement-goes-on turns room f front (t ∷ ts) stops.Syntax e tt, statements-reported turns room f front ts t stops.Syntax e)
+statement-stops room f front [] (stops.Lexical kind) e = no-statement-goes-on turns room f front [] (stops.Lexical kind) e tt
+statement-stops room f front (t ∷ ts) (stops.Lexical kind) e = (no-statement-goes-on turns room f front (t ∷ ts) (stops.Lexical kind) e tt, statements-reported turns room f front ts t (stops.Lexical kind) e)
+statement-stops room f front [] (stops.Outside rule) e = no-statement-goes-on turns room f front [] (stops.Outside rule) e tt
+statement-stops room f front (t ∷ ts) (stops.Outside rule) e = (no-statement-goes-on turns room f front (t ∷ ts) (stops.Outside rule) e tt, statements-reported turns room f front ts t (stops.Outside rule) e)
 
 pub statement-faults : (room : ℕ) (f : Flags) (tokens : List Token) (from : ℕ) (r : Result (Statement × ℕ) ParseFault) → StatementAnswer room f tokens from r → IfErr r (IsStatementFault room f tokens from)
 statement-faults room f tokens from = faults-in (λ (s : Statement). s) (BeginsStatement f) (FewAreOpen room open_in_statement (BeginWithStatement f)) (IsStopAt room open_in_statement (BeginsStatement f) (BeginWithStatement f)) (statement (inner room) f Listed) (statement-leaves room f)

@@ -1,3 +1,4 @@
+pub mod es6_module
 pub mod Faults
 pub mod Limits
 pub mod Parsed

@@ -11,9 +11,10 @@ use Rattle.es6_ast.specs.Grammar.{level_sequence}
 use Rattle.es6_ast.specs.Semicolons.{SpellsExpression, SpellsStatement}
 use Rattle.es6_reading.specs.Parser.{Input, Outcome, Took, Fault}
 use Rattle.es6_reading.specs.Laws.{Says}
-use Rattle.es6_viability.specs.Alive.{BeginsExpression, BeginsStatement}
-use Rattle.es6_viability.specs.Fronts.{BeginWithExpression, BeginWithStatement, NoneGoesOn}
-use Rattle.es6_viability.specs.TooDeep.{AreOfText, FewAreOpen, TooManyOpen, open_in_expression, open_in_statement}
+use Rattle.es6_reading_laws.specs.es6_viability.Alive.{BeginsExpression, BeginsStatement}
+use Rattle.es6_reading_laws.specs.es6_viability.Fronts.{BeginWithExpression, BeginWithStatement, NoneGoesOn}
+use Rattle.es6_reading_laws.specs.es6_viability.TooDeep.{AreOfText, FewAreOpen, TooManyOpen, open_in_expression, open_in_statement}
+use Rattle.es6_reading_laws.specs.es6_outside_laws.Reported.{ReportsIn}
 use Rattle.es6_expr.specs.declared.fault.ParseFault.{ParseFault}
 use Rattle.es6_expr.specs.declared.fault.ParseFault.TheVariants.{Syntax, Lexical, Outside, Depth, OutOfMemory}
 use Rattle.es6_expr.specs.declared.parse.Context.{Context}
@@ -55,12 +56,14 @@ abbrev pub IsTheOnly : {A : Type 0} → (A → List Token → Type 0) → List T
 IsTheOnly {A = A} Begins tokens r = (x : A) (rest : List Token) → Begins x rest → (r.0 ≡ x) × (r.1 ≡ length tokens - length rest)
 
 -- What the stop says of the first of the other tokens: for the depth that something begins with those up to it, and that more than
--- `room` constructs are open there in whatever tokens of a text begin with that begin so; otherwise that nothing goes on with it.
+-- `room` constructs are open there in whatever tokens of a text begin with that begin so; otherwise that nothing goes on with it, and
+-- that it is what is reported there, a construct outside the profile or, where there is none, a syntax fault.
 abbrev pub IsStopAt : {A : Type 0} → ℕ → (A → List Token → ℕ) → (List Token → Type 0) → (List Token → A → Type 0) → Stop → List Token → List Token → Type 0
 IsStopAt room count Begins Spell stops.Endless front rest = Unit {0}
 IsStopAt room count Begins Spell stops.Depth front [] = TooManyOpen room count Spell front []
 IsStopAt room count Begins Spell stops.Depth front (t ∷ ts) = Begins (front ++ t ∷ []) × TooManyOpen room count Spell front (t ∷ ts)
-IsStopAt room count Begins Spell stop front rest = NoneGoesOn Spell front rest
+IsStopAt room count Begins Spell stop front [] = NoneGoesOn Spell front []
+IsStopAt room count Begins Spell stop front (t ∷ ts) = NoneGoesOn Spell front (t ∷ ts) × ReportsIn Begins front t stop
 
 -- The place is the begin of a token from the number on, or the end of all. Something begins with the tokens up to there, at each of
 -- which few constructs are open, and what is said of those from there on is so.

@@ -2,6 +2,7 @@
 //! refines expressions to patterns and to parameters (12.14.5, 14.2).
 #![tactic(auto)]
 
+pub mod es6_module;
 mod fault;
 mod inner;
 mod limits;

@@ -1,6 +1,9 @@
 //! Laws of the model that reads modules, beyond those of `es6_reading`. Each is the contract of a function that does nothing.
 #![tactic(auto)]
 
+pub mod es6_outside_laws;
+pub mod es6_viability;
+
 ghost use Rattle.es6_reading_laws.specs.Breaks.{AreReadAtBreaks, BreaksAreInsertions, FaultsAreDeadAtBreaks};
 ghost use Rattle.es6_reading_laws.specs.Fronts.{ExpressionsAreRead, IsOneExpression, MisfitsAreNoParameters, MisfitsAreNoPatterns, StatementsAreRead};
 

@@ -1,0 +1,6 @@
+use Rattle.es6_reading.proofs.Completeness.{what-is-derived-is-read}
+use Rattle.es6_reading_laws.proofs.es6_viability.Readers.{depth-alive}
+use Rattle.es6_reading_laws.proofs.es6_viability.depth_faults_are_alive.Goals as goal
+
+pub returns : goal.returns
+returns c = depth-alive what-is-derived-is-read

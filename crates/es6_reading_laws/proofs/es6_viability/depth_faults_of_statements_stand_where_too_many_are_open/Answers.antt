@@ -1,0 +1,5 @@
+use Rattle.es6_reading_laws.proofs.es6_viability.TooDeep.{statements-are-too-deep}
+use Rattle.es6_reading_laws.proofs.es6_viability.depth_faults_of_statements_stand_where_too_many_are_open.Goals as goal
+
+pub returns : goal.returns
+returns c = statements-are-too-deep

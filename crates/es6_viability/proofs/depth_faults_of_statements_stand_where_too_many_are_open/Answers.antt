@@ -1,5 +1,0 @@
-use Rattle.es6_viability.proofs.TooDeep.{statements-are-too-deep}
-use Rattle.es6_viability.proofs.depth_faults_of_statements_stand_where_too_many_are_open.Goals as goal
-
-pub returns : goal.returns
-returns c = statements-are-too-deep

@@ -1,8 +1,0 @@
-use Rattle.es6_reading.proofs.Completeness.{what-is-derived-is-read}
-use Rattle.es6_reading.proofs.PlacesOfModules.{places}
-use Rattle.es6_viability.proofs.Passed.{faults-dead}
-use Rattle.es6_viability.proofs.ReadInserted.{none-past}
-use Rattle.es6_viability.proofs.faults_are_dead.Goals as goal
-
-pub returns : goal.returns
-returns c = faults-dead places (none-past what-is-derived-is-read)
