@@ -31,7 +31,7 @@ use Rattle.core_meaning.specs.State.{After, Binding, Call, Closure, Completion, 
 
 -- ---- hosts: an object among the arguments is a TypeError, and no event
 
-abbrev pub reply_of : {s : Sorts} → Reply → Completion s
+abbrev pub reply_of : {M : Type 0} → Reply → Completion M
 reply_of (reply.Give p) = Gives (User (of_prim p))
 reply_of (reply.Throw p) = Throws (of_prim p)
 
@@ -45,29 +45,29 @@ call_host n args site st = asks_host n (or_else site (place_of st)) st (to_prims
 
 -- ---- what a call begins with: a record with all names of the function
 
-abbrev pub binding : {s : Sorts} → Var → CoreValue s → Binding s
+abbrev pub binding : {M : Type 0} → Var → CoreValue M → Binding M
 binding x v = record { var = x; value = v; mutable = true }
 
-abbrev pub undefined_binding : {s : Sorts} → Var → Binding s
+abbrev pub undefined_binding : {M : Type 0} → Var → Binding M
 undefined_binding x = binding x (User value.Undefined)
 
 -- a parameter without an argument is undefined, and further arguments have no name
-abbrev pub passed : {s : Sorts} → List Var → List Value → List (Binding s)
+abbrev pub passed : {M : Type 0} → List Var → List Value → List (Binding M)
 passed [] vs = []
 passed (x ∷ xs) [] = undefined_binding x ∷ passed xs []
 passed (x ∷ xs) (v ∷ vs) = binding x (User v) ∷ passed xs vs
 
-abbrev pub name_bound : {s : Sorts} → Option Var → List (Binding s)
+abbrev pub name_bound : {M : Type 0} → Option Var → List (Binding M)
 name_bound None = []
 name_bound (Some x) = undefined_binding x ∷ []
 
 -- the function's own name can't be written
-abbrev pub own_name : {s : Sorts} → Option Var → Value → List (Binding s)
+abbrev pub own_name : {M : Type 0} → Option Var → Value → List (Binding M)
 own_name None f = []
 own_name (Some x) f = record { var = x; value = User f; mutable = false } ∷ []
 
 -- of equal names the first counts
-abbrev pub names_of_call : {s : Sorts} → CoreFunction → List (Binding s) → Call → List (Binding s)
+abbrev pub names_of_call : {M : Type 0} → CoreFunction → List (Binding M) → Call → List (Binding M)
 names_of_call f besides c =
     passed f.parameters c.args ++ map (λ d. undefined_binding d.var) f.declared ++ name_bound f.arguments
     ++ map (λ x. undefined_binding x) f.locals ++ besides ++ own_name f.own c.function
@@ -106,11 +106,11 @@ begin_call rows core f e c entered =
     let inside = with_record (names_of_call f entered.names c) (with_context e c entered) in
     with_arguments rows.edition f.arguments c.args (fold (declare_one rows core) inside f.declared)
 
-abbrev pub within_call : {s : Sorts} {S : Type 0} → Rows s S → Core → CoreFunction → Closure s → Call → State s S → State s S
+abbrev pub within_call : {s : Sorts} {S : Type 0} → Rows s S → Core → CoreFunction → Closure s.Own → Call → State s S → State s S
 within_call rows core f closure c st = begin_call rows core f closure.environment c (rows.entered closure f c st)
 
 -- [[Call]] of a function of the program (9.2.1; 5.1 edition, 13.2.1)
-abbrev pub enter : {s : Sorts} {S : Type 0} → Rows s S → Core → Closure s → Call → State s S → Next s S
+abbrev pub enter : {s : Sorts} {S : Type 0} → Rows s S → Core → Closure s.Own → Call → State s S → Next s S
 enter rows core closure c st =
     with_option (function_at core closure.function) st (λ f. rows.body f (within_call rows core f closure c st))
 
@@ -129,17 +129,17 @@ call_value rows core c st v = raises TypeError st
 abbrev pub due : Value → Value → List Value → Option Site → Call
 due f receiver args site = record { function = f; receiver = receiver; args = args; target = None; site = site }
 
-abbrev pub call_current : {s : Sorts} {S : Type 0} → Strict s → State s S → List Value → Current s → Next s S
+abbrev pub call_current : {s : Sorts} {S : Type 0} → Strict s.Mark → State s S → List Value → Current s.Mark → Next s S
 call_current p st args (Has (User f)) = calls (After p.links) (due f value.Undefined args p.site) st
 call_current p st args (Method f receiver) = calls (After p.links) (due f receiver args p.site) st
 call_current p st args (Hosted n) = call_host n args p.site (pushed (After p.links) st)
 call_current p st args c = unlawful st
 
-abbrev pub call : {s : Sorts} {S : Type 0} → Strict s → State s S → Next s S
+abbrev pub call : {s : Sorts} {S : Type 0} → Strict s.Mark → State s S → Next s S
 call p st = with_all p st (λ args. call_current p st args p.current)
 
 -- the first part is the receiver
-abbrev pub call_with : {s : Sorts} {S : Type 0} → Strict s → State s S → List Value → Next s S
+abbrev pub call_with : {s : Sorts} {S : Type 0} → Strict s.Mark → State s S → List Value → Next s S
 call_with p st [] = unlawful st
 call_with p st (receiver ∷ args) =
     with_current p.current st (λ f. calls (After p.links) (due f receiver args p.site) st)
@@ -169,6 +169,6 @@ construct_by f args site st (constructor.MakesError n) = controls (Turn site (be
 construct_by f args site st (constructor.Leaves x) = leaves x st
 construct_by f args site st constructor.Fails = raises TypeError st
 
-abbrev pub construct : {s : Sorts} {S : Type 0} → Rows s S → Strict s → State s S → Next s S
+abbrev pub construct : {s : Sorts} {S : Type 0} → Rows s S → Strict s.Mark → State s S → Next s S
 construct rows p st = with_current p.current st (λ f. with_all p st (λ args.
     construct_by f args p.site (pushed (After p.links) st) (constructor_of rows.edition st.heap f)))

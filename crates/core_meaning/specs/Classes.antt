@@ -1,7 +1,7 @@
 -- Classes, `super`, `new.target` and members (ECMA-262, 6th edition, 9.2.2, 12.2.6, 12.3.3, 12.3.5 and 14.5).
 use Rattle.std.specs.Cmp.Lexicographic.{pointwise}
 use Rattle.std.specs.List.{filter_map}
-use Rattle.std.specs.Prelude.{Bool, List, None, Option, Some, [], codes, false, if◌then◌else◌, is_some, length, map, nat_eq, slice_get, slice_index_or, slice_set, true, ℕ, ◌&&◌, ◌++◌, ◌∷◌}
+use Rattle.std.specs.Prelude.{Bool, List, None, Option, Some, [], codes, false, if◌then◌else◌, is_some, length, nat_eq, slice_get, slice_index_or, slice_set, true, ℕ, ◌&&◌, ◌++◌, ◌∷◌}
 use Rattle.es_value.specs.declared.value.ObjId.{ObjId}
 use Rattle.es_value.specs.declared.value.Value.{Value}
 use Rattle.es_value.specs.declared.value.Value.TheVariants as value
@@ -22,7 +22,6 @@ use Rattle.es_operators.specs.declared.functions.Constructor.{Constructor}
 use Rattle.es_operators.specs.declared.functions.Constructor.TheVariants as constructor
 use Rattle.es_calls.specs.Calls.{is_undefined}
 use Rattle.es_calls.specs.Calls.{begun}
-use Rattle.es_operations.specs.Functions as function
 use Rattle.es_operations.specs.Making.{class_function, class_prototype, with_half, with_recorded}
 use Rattle.es_operations.specs.Numbers as number
 use Rattle.es_operations.specs.Turning.{key_operand}
@@ -35,7 +34,7 @@ use Rattle.core_ast.specs.declared.whole.CoreKind.TheVariants as kind
 use Rattle.core_meaning.specs.Calls.{constructs}
 use Rattle.core_meaning.specs.Expressions.{function_at, has_given, with_current, with_two}
 use Rattle.core_meaning.specs.Functions.{kept_cells, no_own, with_arguments_in, with_closure}
-use Rattle.core_meaning.specs.Marks.{CoreNext, CoreState, CoreStore, CoreStrict, Derived, Heritage, Static, Unmade, sorts, with_store}
+use Rattle.core_meaning.specs.Marks.{CoreNext, CoreState, CoreStore, CoreStrict, Derived, Heritage, Static, Unmade, sorts, with_store, Mark, Own}
 use Rattle.core_meaning.specs.Properties.{defined, with_object}
 use Rattle.core_meaning.specs.Rows.{Given, calls, controls, hands, has, leaves, operates, pushed, raises, unlawful, with_heap, with_option}
 use Rattle.core_meaning.specs.State.{After, Closure, CoreValue, Current, Extra, Gives, Has, Reference, Turn, User, Work}
@@ -53,21 +52,21 @@ with_key (value.Text units) st f = f (key_of_units units)
 with_key v st f = unlawful st
 
 -- the name @@base is that of no property: behind the check of the base it gives undefined
-abbrev pub named : Value → List ℕ → Current sorts
+abbrev pub named : Value → List ℕ → Current Mark
 named v units =
     if pointwise nat_eq units (codes "@@base") then Has (User value.Undefined) else Reference v (key_of_units units)
 
 -- ---- constructions (9.2.2, 12.3.3.1.1)
 
-abbrev pub closure_in : CoreState → Class → Option (Closure sorts)
+abbrev pub closure_in : CoreState → Class → Option (Closure Own)
 closure_in st (class.Function n) = slice_get st.closures n
 closure_in st k = None
 
-abbrev pub closure_at : CoreState → Value → Option (Closure sorts)
+abbrev pub closure_at : CoreState → Value → Option (Closure Own)
 closure_at st (value.Object id) = closure_in st (object_at st.heap id).class
 closure_at st v = None
 
-abbrev pub function_of : Core → Option (Closure sorts) → Option CoreFunction
+abbrev pub function_of : Core → Option (Closure Own) → Option CoreFunction
 function_of core None = None
 function_of core (Some c) = function_at core c.function
 
@@ -120,7 +119,7 @@ abbrev pub parent_of : Heap → Value → Value
 parent_of heap (value.Object id) = object_or_null (object_at heap id).proto
 parent_of heap v = value.Undefined
 
-abbrev pub has_value : Current sorts → List (CoreValue sorts)
+abbrev pub has_value : Current Mark → List (CoreValue Mark)
 has_value (Has v) = v ∷ []
 has_value c = []
 
@@ -156,7 +155,7 @@ class_guard links st = if is_undefined st.context.own.target then raises TypeErr
 
 -- ---- members (12.2.6.8, 14.3.9). A method has its object as home object, and a static one is noted for the class
 
-abbrev pub with_home : Value → ℕ → CoreState → Option (Closure sorts) → CoreState
+abbrev pub with_home : Value → ℕ → CoreState → Option (Closure Own) → CoreState
 with_home home n st None = st
 with_home home n st (Some c) =
     record st { closures = slice_set st.closures n (record c { own = record c.own { home = home } }) }
@@ -184,7 +183,7 @@ put_member id k v is_method p st =
     let w = define_key Sixth st.heap id k (Plain v true true) in
     defined p.current p.links (method_noted is_method id k v (with_heap w.after st)) w.answer
 
-abbrev pub method_put : CoreStrict → CoreState → List (CoreValue sorts) → CoreNext
+abbrev pub method_put : CoreStrict → CoreState → List (CoreValue Mark) → CoreNext
 method_put p st (User key ∷ User v ∷ User (value.Bool is_method) ∷ []) =
     with_object p.current st (λ id. with_key key st (λ k. put_member id k v is_method p st))
 method_put p st vs = unlawful st
@@ -194,7 +193,7 @@ put_accessor id k f is_setter p st =
     let w = define_key Sixth st.heap id k (with_half st.heap id k f is_setter) in
     defined p.current p.links (method_noted true id k (value.Object f) (with_heap w.after st)) w.answer
 
-abbrev pub accessor_put : CoreStrict → CoreState → List (CoreValue sorts) → CoreNext
+abbrev pub accessor_put : CoreStrict → CoreState → List (CoreValue Mark) → CoreNext
 accessor_put p st (User key ∷ User (value.Object f) ∷ User (value.Bool is_setter) ∷ []) =
     with_object p.current st (λ id. with_key key st (λ k. put_accessor id k f is_setter p st))
 accessor_put p st vs = unlawful st
@@ -212,7 +211,7 @@ recorded_for st (value.Object parent) =
     filter_map (still_there st.heap parent) st.store.statics ++ (object_at st.heap parent).recorded
 recorded_for st v = []
 
-abbrev pub class_closure : FunctionId → CoreFunction → Value → CoreState → Closure sorts
+abbrev pub class_closure : FunctionId → CoreFunction → Value → CoreState → Closure Own
 class_closure f function home st = record {
   function = f;
   environment = st.context.environment;
@@ -247,7 +246,7 @@ class_by core true heritage f p st =
 class_by core false heritage f p st =
     make_class core f value.Undefined function_prototype (Some object_prototype) p.links st
 
-abbrev pub class_make : Core → CoreStrict → CoreState → Current sorts → List (CoreValue sorts) → CoreNext
+abbrev pub class_make : Core → CoreStrict → CoreState → Current Mark → List (CoreValue Mark) → CoreNext
 class_make core p st (Has (User (value.Bool has_heritage))) (User heritage ∷ Extra (Unmade f) ∷ []) =
     class_by core has_heritage heritage f p st
 class_make core p st c vs = unlawful st

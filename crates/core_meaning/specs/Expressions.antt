@@ -1,5 +1,5 @@
 -- Expressions: a head, and then link by link (ECMA-262, 6th edition, 12; 5.1 edition, 11).
-use Rattle.std.specs.Prelude.{Err, List, Ok, Option, Result, Some, [], not, pos, slice_get, ℕ, ℤ, ◌∷◌}
+use Rattle.std.specs.Prelude.{Err, List, None, Ok, Option, Result, Some, [], if◌then◌else◌, nat_le, not, pos, slice_get, ℕ, ℤ, ◌∷◌}
 use Rattle.es_value.specs.Arithmetic.{difference, exit_number, sum}
 use Rattle.es_value.specs.Equality.{same_value}
 use Rattle.es_value.specs.declared.arithmetic.Exit.{Exit}
@@ -31,17 +31,21 @@ use Rattle.core_ast.specs.declared.tree.CoreLink.{CoreLink}
 use Rattle.core_ast.specs.declared.whole.Core.{Core}
 use Rattle.core_ast.specs.declared.whole.CoreFunction.{CoreFunction}
 use Rattle.core_meaning.specs.Names.{initialized, read, type_of, write}
-use Rattle.core_meaning.specs.Rows.{Given, Next, Rows, goes, hands, has, leaves, operates, pushed, unlawful, users, with_heap, with_option, with_user}
-use Rattle.core_meaning.specs.State.{After, CoreValue, Current, Frame, Gives, Has, Hosted, Sorts, State, StepName, Strict, User}
+use Rattle.core_meaning.specs.Rows.{Given, Next, Rows, goes, hands, has, leaves, operates, pushed, unlawful, users, with_heap, with_option}
+use Rattle.core_meaning.specs.State.{After, CoreValue, Current, Extra, Frame, Gives, Has, Hosted, Sorts, State, StepName, Strict, User}
 
 -- ---- heads
 
-abbrev pub constant_value : Constant → Value
-constant_value constant.Undefined = value.Undefined
-constant_value constant.Null = value.Null
-constant_value (constant.Truth b) = value.Bool b
-constant_value (constant.Integer n) = value.Number (pos n)
-constant_value (constant.Text units) = value.Text units
+-- a lawful integer is safe
+abbrev pub integer_value : ℕ → Option Value
+integer_value n = if nat_le n 9007199254740991 then Some (value.Number (pos n)) else None
+
+abbrev pub constant_value : Constant → Option Value
+constant_value constant.Undefined = Some value.Undefined
+constant_value constant.Null = Some value.Null
+constant_value (constant.Truth b) = Some (value.Bool b)
+constant_value (constant.Integer n) = integer_value n
+constant_value (constant.Text units) = Some (value.Text units)
 
 abbrev pub global_object : Global → ObjId
 global_object global.ObjectGlobal = name.object
@@ -69,7 +73,7 @@ closed rows core f links st =
     with_option (function_at core f) st (λ function. has_given links (rows.closure f function st))
 
 unfoldable pub begin_head : {s : Sorts} {S : Type 0} → Rows s S → Core → CoreHead → List CoreLink → State s S → Next s S
-begin_head rows core (head.Constant c) links st = has (constant_value c) links st
+begin_head rows core (head.Constant c) links st = with_option (constant_value c) st (λ v. has v links st)
 begin_head rows core (head.Variable x) links st = read rows x links st
 begin_head rows core (head.TypeOf x) links st = type_of rows x links st
 begin_head rows core (head.Global g) links st = has (value.Object (global_object g)) links st
@@ -107,7 +111,7 @@ binary_number binary.Remainder = number.remainder_number
 binary_number b = number.add_number
 
 -- `===` and `!==` (12.10) convert nothing; what the others give goes to the frame
-unfoldable pub operate : {s : Sorts} {S : Type 0} → Frame s → Binary → Value → Value → State s S → Next s S
+unfoldable pub operate : {s : Sorts} {S : Type 0} → Frame s.Mark s.Work → Binary → Value → Value → State s S → Next s S
 operate frame binary.Same v w st = hands (Gives (User (value.Bool (same_value v w)))) (pushed frame st)
 operate frame binary.NotSame v w st = hands (Gives (User (value.Bool (not (same_value v w))))) (pushed frame st)
 operate frame b v w st = operates frame (binary_number b) v (w ∷ []) st
@@ -144,41 +148,55 @@ with_step u v st f = unlawful st
 
 -- ---- the operands of a strict link
 
-abbrev pub with_current : {s : Sorts} {S : Type 0} → Current s → State s S → (Value → Next s S) → Next s S
-with_current (Has v) st f = with_user v st f
-with_current c st f = unlawful st
+abbrev pub user_in : {M : Type 0} → CoreValue M → Option Value
+user_in (User v) = Some v
+user_in (Extra m) = None
 
-abbrev pub with_single : {s : Sorts} {S : Type 0} → List (CoreValue s) → State s S → (Value → Next s S) → Next s S
-with_single (v ∷ []) st f = with_user v st f
-with_single vs st f = unlawful st
+abbrev pub user_at : {M : Type 0} → Current M → Option Value
+user_at (Has v) = user_in v
+user_at c = None
 
-abbrev pub with_part : {s : Sorts} {S : Type 0} → Strict s → State s S → (Value → Next s S) → Next s S
-with_part p st f = with_single p.values st f
+-- the value of a list of one
+abbrev pub single : {A : Type 0} → List A → Option A
+single (v ∷ []) = Some v
+single vs = None
+
+abbrev pub user_of : {M : Type 0} → Option (CoreValue M) → Option Value
+user_of None = None
+user_of (Some v) = user_in v
+
+abbrev pub single_user : {M : Type 0} → List (CoreValue M) → Option Value
+single_user vs = user_of (single vs)
+
+abbrev pub with_current : {s : Sorts} {S : Type 0} → Current s.Mark → State s S → (Value → Next s S) → Next s S
+with_current c st f = with_option (user_at c) st f
+
+abbrev pub with_part : {s : Sorts} {S : Type 0} → Strict s.Mark → State s S → (Value → Next s S) → Next s S
+with_part p st f = with_option (single_user p.values) st f
 
 -- the current value and the part
-abbrev pub with_two : {s : Sorts} {S : Type 0} → Strict s → State s S → (Value → Value → Next s S) → Next s S
+abbrev pub with_two : {s : Sorts} {S : Type 0} → Strict s.Mark → State s S → (Value → Value → Next s S) → Next s S
 with_two p st f = with_current p.current st (λ v. with_part p st (f v))
 
-abbrev pub with_all : {s : Sorts} {S : Type 0} → Strict s → State s S → (List Value → Next s S) → Next s S
+abbrev pub with_all : {s : Sorts} {S : Type 0} → Strict s.Mark → State s S → (List Value → Next s S) → Next s S
 with_all p st f = with_option (users p.values) st f
 
 -- ---- operations on values and names
 
-abbrev pub operator : {s : Sorts} {S : Type 0} → Binary → Strict s → State s S → Next s S
+abbrev pub operator : {s : Sorts} {S : Type 0} → Binary → Strict s.Mark → State s S → Next s S
 operator b p st = with_two p st (λ v w. operate (After p.links) b v w st)
 
 -- `,` (12.15)
-abbrev pub sequence : {s : Sorts} {S : Type 0} → Strict s → State s S → List (CoreValue s) → Next s S
-sequence p st (v ∷ []) = goes (Has v) p.links st
-sequence p st vs = unlawful st
+abbrev pub sequence : {s : Sorts} {S : Type 0} → Strict s.Mark → State s S → Next s S
+sequence p st = with_option (single p.values) st (λ v. goes (Has v) p.links st)
 
-abbrev pub set : {s : Sorts} {S : Type 0} → Rows s S → Var → Strict s → State s S → Current s → Next s S
+abbrev pub set : {s : Sorts} {S : Type 0} → Rows s S → Var → Strict s.Mark → State s S → Current s.Mark → Next s S
 set rows x p st (Has v) = write rows x v v p.links st
 set rows x p st c = unlawful st
 
-abbrev pub initialize : {s : Sorts} {S : Type 0} → Var → Strict s → State s S → Current s → Next s S
+abbrev pub initialize : {s : Sorts} {S : Type 0} → Var → Strict s.Mark → State s S → Current s.Mark → Next s S
 initialize x p st (Has v) = goes (Has v) p.links (initialized x v st)
 initialize x p st c = unlawful st
 
-abbrev pub step_name : {s : Sorts} {S : Type 0} → Update → Var → Strict s → State s S → Next s S
+abbrev pub step_name : {s : Sorts} {S : Type 0} → Update → Var → Strict s.Mark → State s S → Next s S
 step_name u x p st = with_current p.current st (λ v. operates (StepName u x p.links) number.to_number_number v [] st)

@@ -7,7 +7,6 @@ use Rattle.es_heap.specs.Heaps.{Heap, next_id}
 use Rattle.es_realm.specs.declared.edition.Edition.TheVariants.{Sixth}
 use Rattle.es_calls.specs.Calls.{number_in}
 use Rattle.es_calls.specs.Making.{arguments_heap, list_heap}
-use Rattle.es_operations.specs.Functions as function
 use Rattle.es_operations.specs.Making.{generator_function, method_function, plain_function}
 use Rattle.core_ast.specs.declared.parts.FunctionId.{FunctionId}
 use Rattle.core_ast.specs.declared.parts.Var.{Var}
@@ -17,7 +16,7 @@ use Rattle.core_ast.specs.declared.whole.CoreKind.{CoreKind}
 use Rattle.core_ast.specs.declared.whole.CoreKind.TheVariants as kind
 use Rattle.core_meaning.specs.Calls.{binding, call_current, due}
 use Rattle.core_meaning.specs.Expressions.{with_current}
-use Rattle.core_meaning.specs.Marks.{Cell, KeptCell, Arguments, CoreList, CoreNext, CoreState, CoreStore, CoreStrict, OfArguments, OfArray, Own, Unmade, sorts, value_or_empty, with_store}
+use Rattle.core_meaning.specs.Marks.{Cell, KeptCell, Arguments, CoreList, CoreNext, CoreState, CoreStore, CoreStrict, OfArguments, OfArray, Own, Unmade, sorts, value_or_empty, with_store, Mark}
 use Rattle.core_meaning.specs.Names.{Resolved, resolve}
 use Rattle.core_meaning.specs.Properties.{add_element, add_hole}
 use Rattle.core_meaning.specs.Rows.{Entered, Given, calls, goes, has, unlawful, with_heap}
@@ -41,25 +40,25 @@ kept_by kind.Arrow own = own
 kept_by k own = no_own
 
 -- the names that are kept apart hold the cells of now
-abbrev pub cell_in : Var → CoreValue sorts → List KeptCell
+abbrev pub cell_in : Var → CoreValue Mark → List KeptCell
 cell_in x (Extra (Cell n)) = record { var = x; cell = n } ∷ []
 cell_in x v = []
 
-abbrev pub cell_found : Var → Option (Resolved sorts) → List KeptCell
+abbrev pub cell_found : Var → Option (Resolved Mark) → List KeptCell
 cell_found x None = []
 cell_found x (Some r) = cell_in x r.binding.value
 
 abbrev pub kept_cells : CoreFunction → CoreState → List KeptCell
 kept_cells function st = flat_map (λ x. cell_found x (resolve st x)) function.cells
 
-abbrev pub closure_of : FunctionId → CoreFunction → CoreState → Closure sorts
+abbrev pub closure_of : FunctionId → CoreFunction → CoreState → Closure Own
 closure_of f function st = record {
   function = f;
   environment = st.context.environment;
   own = record (kept_by function.kind st.context.own) { cells = kept_cells function st };
 }
 
-abbrev pub with_closure : Closure sorts → CoreState → CoreState
+abbrev pub with_closure : Closure Own → CoreState → CoreState
 with_closure closure st = record st { closures = st.closures ++ closure ∷ [] }
 
 -- the object of a closure with this number (9.2.3 to 9.2.8, 14.4.11)
@@ -97,7 +96,7 @@ target_of (Some f) = f
 abbrev pub with_this : Option Value → CoreState → CoreState
 with_this v st = with_store (record st.store { this_values = st.store.this_values ++ v ∷ [] }) st
 
-abbrev pub own_of : Closure sorts → Call → CoreState → Own
+abbrev pub own_of : Closure Own → Call → CoreState → Own
 own_of c now st = record {
   this_record = length st.store.this_values;
   callee = now.function;
@@ -107,37 +106,37 @@ own_of c now st = record {
   cells = [];
 }
 
-abbrev pub cell_names : Own → List (Binding sorts)
+abbrev pub cell_names : Own → List (Binding Mark)
 cell_names own = map (λ k. binding k.var (Extra (Cell k.cell))) own.cells
 
-abbrev pub entered_by : Closure sorts → Call → CoreState → CoreKind → Entered sorts CoreStore
+abbrev pub entered_by : Closure Own → Call → CoreState → CoreKind → Entered sorts CoreStore
 entered_by c now st kind.Arrow =
     record { own = record c.own { passed = now.args }; names = cell_names c.own; state = st }
 entered_by c now st k =
     record { own = own_of c now st; names = cell_names c.own; state = with_this (this_begun k now.receiver) st }
 
-abbrev pub entered : Closure sorts → CoreFunction → Call → CoreState → Entered sorts CoreStore
+abbrev pub entered : Closure Own → CoreFunction → Call → CoreState → Entered sorts CoreStore
 entered c f now st = entered_by c now st f.kind
 
 -- the `this` of the context (8.1.1.3.4)
-abbrev pub this_at : List (Option Value) → ℕ → CoreValue sorts
+abbrev pub this_at : List (Option Value) → ℕ → CoreValue Mark
 this_at values n = value_or_empty (slice_index_or values n None)
 
-abbrev pub this : CoreState → CoreValue sorts
+abbrev pub this : CoreState → CoreValue Mark
 this st = this_at st.store.this_values st.context.own.this_record
 
 -- ---- lists of arguments (12.3.6), and arrays to which they are added
 
-abbrev pub with_arguments_in : List (CoreValue sorts) → CoreState → (List Value → CoreNext) → CoreNext
+abbrev pub with_arguments_in : List (CoreValue Mark) → CoreState → (List Value → CoreNext) → CoreNext
 with_arguments_in (Extra (Arguments vs) ∷ []) st f = f vs
 with_arguments_in vs st f = unlawful st
 
-abbrev pub list_in : CoreValue sorts → Option CoreList
+abbrev pub list_in : CoreValue Mark → Option CoreList
 list_in (User (value.Object id)) = Some (OfArray id)
 list_in (Extra (Arguments vs)) = Some (OfArguments vs)
 list_in v = None
 
-abbrev pub list_current : Current sorts → Option CoreList
+abbrev pub list_current : Current Mark → Option CoreList
 list_current (Has v) = list_in v
 list_current c = None
 
@@ -159,7 +158,7 @@ whole (OfArguments vs) links st = goes (Has (Extra (Arguments vs))) links st
 abbrev pub call_list : CoreStrict → CoreState → CoreNext
 call_list p st = with_arguments_in p.values st (λ args. call_current p st args p.current)
 
-abbrev pub call_list_with : CoreStrict → CoreState → List (CoreValue sorts) → CoreNext
+abbrev pub call_list_with : CoreStrict → CoreState → List (CoreValue Mark) → CoreNext
 call_list_with p st (User receiver ∷ Extra (Arguments args) ∷ []) =
     with_current p.current st (λ f. calls (After p.links) (due f receiver args p.site) st)
 call_list_with p st vs = unlawful st

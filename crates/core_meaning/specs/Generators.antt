@@ -13,7 +13,6 @@ use Rattle.es_operators.specs.Primitives.{truth_of}
 use Rattle.es_calls.specs.Making.{result_heap}
 use Rattle.es_calls.specs.declared.call.Resumption.{Resumption}
 use Rattle.es_calls.specs.declared.call.Resumption.TheVariants as resumption
-use Rattle.es_operations.specs.Functions as function
 use Rattle.es_operations.specs.Making.{made_generator}
 use Rattle.es_operations.specs.Numbers as number
 use Rattle.core_ast.specs.Lawful.{is_generator}
@@ -28,7 +27,7 @@ use Rattle.core_ast.specs.declared.whole.Resumption.{Resumption as Names}
 use Rattle.core_meaning.specs.Calls.{binding}
 use Rattle.core_meaning.specs.Classes.{closure_at}
 use Rattle.core_meaning.specs.Expressions.{function_at, with_current}
-use Rattle.core_meaning.specs.Marks.{Arguments, AtStart, AtYield, Completed, CoreNext, CoreState, CoreStrict, CoreWork, DelegateDone, DelegateStart, DelegateTurn, DelegateValue, Delegates, Executing, Generator, Instantiates, Resumed, Resumes, Starts, Stepping, Steps, YieldValue, YieldsAt, YieldsIn, sorts, with_store}
+use Rattle.core_meaning.specs.Marks.{Arguments, AtStart, AtYield, Completed, CoreNext, CoreState, CoreStrict, CoreWork, DelegateDone, DelegateStart, DelegateTurn, DelegateValue, Delegates, Executing, Generator, Instantiates, Resumed, Resumes, Starts, Stepping, Steps, YieldValue, YieldsAt, YieldsIn, with_store, Mark, Own}
 use Rattle.core_meaning.specs.Names.{initialized}
 use Rattle.core_meaning.specs.Rows.{begins, controls, hands, has, operates, pushed, raises, runs, unlawful, with_heap, with_option, with_record, within}
 use Rattle.core_meaning.specs.State.{After, Binding, Closure, Completion, Context, CoreValue, Done, Environment, Extra, Frame, Gives, Returns, Run, Throws, User, Work}
@@ -55,12 +54,12 @@ reads_prototype w st =
     operates (Work w) number.prototype_of_number st.context.own.callee (value.Object generator_prototype ∷ []) st
 
 -- the object of the next generator
-abbrev pub new_generator : ObjId → Context sorts → CoreState → CoreState
+abbrev pub new_generator : ObjId → Context Mark Own CoreWork → CoreState → CoreState
 new_generator proto saved st =
     with_generators (st.store.generators ++ AtStart saved ∷ [])
     (with_heap (made_generator st.heap proto (length st.store.generators)) st)
 
-abbrev pub saved_with : List (Frame sorts) → CoreState → Context sorts
+abbrev pub saved_with : List (Frame Mark CoreWork) → CoreState → Context Mark Own CoreWork
 saved_with frames st = record st.context { frames = frames }
 
 abbrev pub generator_made : List CoreStat → CoreState → Value → CoreNext
@@ -69,7 +68,7 @@ generator_made stats st (value.Object proto) =
 generator_made stats st v = unlawful st
 
 -- the same as an expression of the body: its step is what is saved
-abbrev pub waiting : Closure sorts → CoreState → Context sorts
+abbrev pub waiting : Closure Own → CoreState → Context Mark Own CoreWork
 waiting c st = saved_with (Work (Steps c.function st.context.environment) ∷ []) st
 
 abbrev pub step_made : List CoreLink → CoreState → Value → CoreNext
@@ -88,13 +87,13 @@ completed resumption.Next v st = results value.Undefined true st
 completed resumption.Return v st = results v true st
 completed resumption.Throw v st = hands (Throws v) st
 
-abbrev pub continues : ℕ → Context sorts → Resumption → Value → CoreState → CoreNext
+abbrev pub continues : ℕ → Context Mark Own CoreWork → Resumption → Value → CoreState → CoreNext
 continues n saved kind v st = hands (Gives (Extra (Resumed kind v))) (record (with_generator n Executing (pushed (Work (Resumes n)) st)) {
   callers = (pushed (Work (Resumes n)) st).context ∷ st.callers;
   context = saved;
 })
 
-abbrev pub from_start : ℕ → Context sorts → Resumption → Value → CoreState → CoreNext
+abbrev pub from_start : ℕ → Context Mark Own CoreWork → Resumption → Value → CoreState → CoreNext
 from_start n saved resumption.Next v st = continues n saved resumption.Next v st
 from_start n saved kind v st = completed kind v (with_generator n Completed st)
 
@@ -113,13 +112,13 @@ resume kind (value.Object id) v st = resume_class kind v st (object_at st.heap i
 resume kind receiver v st = raises TypeError st
 
 -- the caller of a generator gets what this one ends with
-abbrev pub resumed : ℕ → CoreState → Completion sorts → CoreNext
+abbrev pub resumed : ℕ → CoreState → Completion Mark → CoreNext
 resumed n st (Gives (User v)) = results v true (with_generator n Completed st)
 resumed n st completion = hands completion (with_generator n Completed st)
 
 -- ---- yielding (25.3.3.5): the context is saved with this frame on top, and its caller goes on
 
-abbrev pub yield_to : Frame sorts → Bool → Value → CoreState → Context sorts → List (Context sorts) → List (Frame sorts) → CoreNext
+abbrev pub yield_to : Frame Mark CoreWork → Bool → Value → CoreState → Context Mark Own CoreWork → List (Context Mark Own CoreWork) → List (Frame Mark CoreWork) → CoreNext
 yield_to frame wraps v st k ks (Work (Resumes n) ∷ fs) =
     let out = record (with_generator n (AtYield (saved_with (frame ∷ st.context.frames) st)) st) {
       context = record k { frames = fs };
@@ -128,11 +127,11 @@ yield_to frame wraps v st k ks (Work (Resumes n) ∷ fs) =
     if wraps then results v false out else hands (Gives (User v)) out
 yield_to frame wraps v st k ks fs = unlawful st
 
-abbrev pub yield_from : Frame sorts → Bool → Value → CoreState → List (Context sorts) → CoreNext
+abbrev pub yield_from : Frame Mark CoreWork → Bool → Value → CoreState → List (Context Mark Own CoreWork) → CoreNext
 yield_from frame wraps v st [] = unlawful st
 yield_from frame wraps v st (k ∷ ks) = yield_to frame wraps v st k ks k.frames
 
-abbrev pub yields : Frame sorts → Bool → Value → CoreState → CoreNext
+abbrev pub yields : Frame Mark CoreWork → Bool → Value → CoreState → CoreNext
 yields frame wraps v st = yield_from frame wraps v st st.callers
 
 -- what a resumption is at a yield (25.3.3.5, 14.4.14)
@@ -141,7 +140,7 @@ arrives links st resumption.Next v = has v links st
 arrives links st resumption.Return v = hands (Returns (User v)) st
 arrives links st resumption.Throw v = hands (Throws v) st
 
-abbrev pub with_resumed : CoreValue sorts → CoreState → (Resumption → Value → CoreNext) → CoreNext
+abbrev pub with_resumed : CoreValue Mark → CoreState → (Resumption → Value → CoreNext) → CoreNext
 with_resumed (Extra (Resumed kind v)) st f = f kind v
 with_resumed v st f = unlawful st
 
@@ -187,7 +186,7 @@ delegate_value kind links st v = has v links st
 abbrev pub kind_of : ℤ → Resumption
 kind_of n = if int_eq n (pos 0) then resumption.Next else if int_eq n (pos 1) then resumption.Throw else resumption.Return
 
-abbrev pub delegate_step : CoreStrict → CoreState → List (CoreValue sorts) → CoreNext
+abbrev pub delegate_step : CoreStrict → CoreState → List (CoreValue Mark) → CoreNext
 delegate_step p st (User (value.Number n) ∷ User v ∷ []) = with_current p.current st
     (λ iterator. operates (After p.links) (delegate_number (kind_of n)) iterator (v ∷ []) st)
 delegate_step p st vs = unlawful st
@@ -223,7 +222,7 @@ yield_resumed (Some x) result st kind v = hands Done (stores result v (stores x 
 
 -- ---- steps: each turn has a record with what it is resumed with, and gives how it ends, and a value
 
-abbrev pub names_of_turn : Option Names → Resumption → Value → List (Binding sorts)
+abbrev pub names_of_turn : Option Names → Resumption → Value → List (Binding Mark)
 names_of_turn None kind v = []
 names_of_turn (Some names) kind v = binding names.kind (User (kind_value kind)) ∷ binding names.value (User v) ∷ []
 
@@ -238,7 +237,7 @@ step_ended f e st (pos n) v =
     else yields (Work (Steps f e)) (nat_eq n 0) v (within e st)
 step_ended f e st n v = unlawful st
 
-abbrev pub stepped_out : FunctionId → Environment → CoreState → Completion sorts → CoreNext
+abbrev pub stepped_out : FunctionId → Environment → CoreState → Completion Mark → CoreNext
 stepped_out f e st (Returns (Extra (Arguments (value.Number n ∷ v ∷ [])))) = step_ended f e st n v
 stepped_out f e st (Throws v) = hands (Throws v) st
 stepped_out f e st completion = unlawful st

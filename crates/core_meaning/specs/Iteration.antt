@@ -8,7 +8,7 @@ use Rattle.es_operations.specs.Numbers as number
 use Rattle.core_ast.specs.declared.tree.CoreLink.{CoreLink}
 use Rattle.core_meaning.specs.Expressions.{with_current, with_two}
 use Rattle.core_meaning.specs.Functions.{grown, list_current, whole, with_hole}
-use Rattle.core_meaning.specs.Marks.{CoreList, CoreNext, CoreState, CoreStrict, OfArguments, OfArray, SpreadStart, SpreadStep, SpreadValue, sorts, truth_in}
+use Rattle.core_meaning.specs.Marks.{CoreList, CoreNext, CoreState, CoreStrict, OfArguments, OfArray, SpreadStart, SpreadStep, SpreadValue, truth_in, Mark}
 use Rattle.core_meaning.specs.Properties.{add_element}
 use Rattle.core_meaning.specs.Rows.{operates, unlawful, with_heap, with_option}
 use Rattle.core_meaning.specs.State.{After, CoreValue, User, Work}
@@ -39,7 +39,7 @@ spread_by list v (pos n) p st =
     else operates (Work (SpreadStart list p.links)) number.get_iterator_number v [] st
 spread_by list v n p st = unlawful st
 
-abbrev pub spread_of : CoreStrict → CoreState → List (CoreValue sorts) → CoreNext
+abbrev pub spread_of : CoreStrict → CoreState → List (CoreValue Mark) → CoreNext
 spread_of p st (User v ∷ User (value.Number n) ∷ []) =
     with_option (list_current p.current) st (λ list. spread_by list v n p st)
 spread_of p st vs = unlawful st

@@ -41,9 +41,9 @@ use Rattle.core_meaning.specs.Expressions.{with_part, with_two}
 use Rattle.core_meaning.specs.Functions.{arguments_put, call_list, call_list_with, closure, entered, grown, list_current, no_own, rest_list, this, with_arguments_in}
 use Rattle.core_meaning.specs.Generators.{arrives, delegate, delegate_done, delegate_step, delegate_turn, delegate_turned, delegate_value, generator_made, reads_prototype, resume, resumed, run_body, starts, step_made, step_turn, stepped_out, with_resumed, yield, yield_given, yield_resumed, yield_stat}
 use Rattle.core_meaning.specs.Iteration.{iter_close, iter_start, operate_on, spread_list, spread_step, spread_stepped, spread_value}
-use Rattle.core_meaning.specs.Marks.{Arguments, CoreNext, CoreState, CoreStore, CoreStrict, CoreWork, DelegateDone, DelegateStart, DelegateTurn, DelegateValue, Delegates, Derived, Exported, Heritage, Instantiates, Prototype, PrototypeFor, Resumes, SpreadStart, SpreadStep, SpreadValue, Starts, Stepping, Steps, Template, YieldValue, YieldsAt, YieldsIn, empty, sorts, with_store}
+use Rattle.core_meaning.specs.Marks.{Arguments, CoreNext, CoreState, CoreStore, CoreStrict, CoreWork, DelegateDone, DelegateStart, DelegateTurn, DelegateValue, Delegates, Derived, Exported, Heritage, Instantiates, Prototype, PrototypeFor, Resumes, SpreadStart, SpreadStep, SpreadValue, Starts, Stepping, Steps, Template, YieldValue, YieldsAt, YieldsIn, empty, sorts, with_store, Mark}
 use Rattle.core_meaning.specs.Rows.{Rows, controls, goes, hands, has, operates, raises, unlawful, with_heap, with_option, with_user}
-use Rattle.core_meaning.specs.State.{After, Calls, Completion, CoreValue, Done, EnvironmentRecord, Extra, Gives, Hand, Has, User}
+use Rattle.core_meaning.specs.State.{After, Calls, Completion, Configuration, CoreValue, Done, EnvironmentRecord, Extra, Gives, Hand, Has, User}
 use Rattle.core_meaning.specs.Step.{step}
 
 -- ---- namespace objects (9.4.6): names, each with the function that reads its binding
@@ -175,7 +175,7 @@ stat_row s st = stat_of st (out-CoreStat s)
 
 -- ---- pending work: what is given, the end of statements, and all else
 
-unfoldable pub work_given : Core → CoreState → CoreValue sorts → CoreWork → CoreNext
+unfoldable pub work_given : Core → CoreState → CoreValue Mark → CoreWork → CoreNext
 work_given core st v (SpreadStart list links) = with_user v st (λ it. spread_step list it links st)
 work_given core st v (SpreadStep list it links) = with_user v st (spread_stepped list it links st)
 work_given core st v (SpreadValue list it links) = with_user v st (spread_value list it links st)
@@ -200,12 +200,12 @@ abbrev pub work_done : CoreState → CoreWork → CoreNext
 work_done st (Instantiates stats) = reads_prototype (Prototype stats) st
 work_done st w = unlawful st
 
-abbrev pub work_abrupt : CoreState → Completion sorts → CoreWork → CoreNext
+abbrev pub work_abrupt : CoreState → Completion Mark → CoreWork → CoreNext
 work_abrupt st completion (Resumes n) = resumed n st completion
 work_abrupt st completion (Stepping f e) = stepped_out f e st completion
 work_abrupt st completion w = hands completion st
 
-abbrev pub work_row : Core → CoreWork → Completion sorts → CoreState → CoreNext
+abbrev pub work_row : Core → CoreWork → Completion Mark → CoreState → CoreNext
 work_row core w (Gives v) st = work_given core st v w
 work_row core w Done st = work_done st w
 work_row core w completion st = work_abrupt st completion w
@@ -232,7 +232,7 @@ rows core = record {
 
 -- all modules are instantiated, and then they are evaluated in their order (15.2.1.16.4, 15.2.1.16.5); each has a record with its
 -- names, and sees those of all, since imports are the names of the modules that export them
-abbrev pub part_record : CorePart → EnvironmentRecord sorts
+abbrev pub part_record : CorePart → EnvironmentRecord Mark
 part_record p = map (λ n. record { var = n.var; value = User value.Undefined; mutable = n.mutable }) p.names
 
 abbrev pub body_in : Option CorePart → List CoreStat
@@ -252,8 +252,8 @@ bodies_of core = map (λ p. p.instantiate) core.parts ++ map (part_body core) co
 abbrev pub nowhere : Site
 nowhere = record { «module» = 0; at = 0 }
 
-abbrev pub start : Core → CoreState
-start core = record {
+abbrev pub start_state : Core → CoreState
+start_state core = record {
   heap = fresh6;
   records = map part_record core.parts;
   closures = [];
@@ -265,7 +265,6 @@ start core = record {
     frames = [];
   };
   callers = [];
-  control = Hand Done;
   ahead = bodies_of core;
   store = record {
     this_values = Some value.Undefined ∷ [];
@@ -277,8 +276,11 @@ start core = record {
   };
 }
 
-abbrev pub core_step : Core → CoreState → CoreNext
-core_step core st = step (rows core) core st
+abbrev pub start : Core → Configuration sorts CoreStore
+start core = record { state = start_state core; control = Hand Done }
+
+abbrev pub core_step : Core → Configuration sorts CoreStore → CoreNext
+core_step core now = step (rows core) core now
 
 -- what a core does under the answers of hosts
 abbrev pub runc : Core → ProgramBehaviour

@@ -23,7 +23,6 @@ use Rattle.es_calls.specs.Making.{with_element}
 use Rattle.es_operations.specs.Making.{with_half}
 use Rattle.es_operations.specs.Numbers as number
 use Rattle.es_operations.specs.Turning.{key_operand}
-use Rattle.core_ast.specs.Lawful.{after}
 use Rattle.core_ast.specs.declared.parts.Binary.{Binary}
 use Rattle.core_ast.specs.declared.parts.Key.{Key}
 use Rattle.core_ast.specs.declared.parts.Key.TheVariants.{IntegerKey, TextKey, WordKey}
@@ -43,16 +42,16 @@ key_units (TextKey units) = units
 key_units (IntegerKey n) = decimal n
 
 -- `.k` (12.3.2.1): the base is checked, and a reference made
-abbrev pub member : {s : Sorts} {S : Type 0} → Rows s S → List ℕ → Strict s → State s S → Next s S
+abbrev pub member : {s : Sorts} {S : Type 0} → Rows s S → List ℕ → Strict s.Mark → State s S → Next s S
 member rows units p st = with_current p.current st
     (λ v. if is_nothing v then raises TypeError st else goes (rows.named v units) p.links st)
 
 -- `[k]`: the base is checked, the key is converted, and a reference made
-abbrev pub index : {s : Sorts} {S : Type 0} → Strict s → State s S → Next s S
+abbrev pub index : {s : Sorts} {S : Type 0} → Strict s.Mark → State s S → Next s S
 index p st = with_two p st (λ v k. operates (Keyed v p.links) number.to_key_number v (k ∷ []) st)
 
 -- a reference is read, and what is there goes to the frame (6.2.3.1)
-abbrev pub reads : {s : Sorts} {S : Type 0} → Frame s → Value → PropertyKey → State s S → Next s S
+abbrev pub reads : {s : Sorts} {S : Type 0} → Frame s.Mark s.Work → Value → PropertyKey → State s S → Next s S
 reads frame base k st = operates frame number.get_number base (key_operand k ∷ []) st
 
 -- a value is written to a reference (6.2.3.2), and another one goes on
@@ -60,30 +59,30 @@ abbrev pub puts : {s : Sorts} {S : Type 0} → Value → Value → PropertyKey �
 puts given base k v links st =
     operates (Behind (User given) links) number.put_number base (key_operand k ∷ v ∷ []) st
 
-abbrev pub put : {s : Sorts} {S : Type 0} → Strict s → State s S → Current s → Next s S
+abbrev pub put : {s : Sorts} {S : Type 0} → Strict s.Mark → State s S → Current s.Mark → Next s S
 put p st (Reference base k) = with_part p st (λ v. puts v base k v p.links st)
 put p st c = unlawful st
 
-abbrev pub delete : {s : Sorts} {S : Type 0} → Strict s → State s S → Current s → Next s S
+abbrev pub delete : {s : Sorts} {S : Type 0} → Strict s.Mark → State s S → Current s.Mark → Next s S
 delete p st (Reference base k) = operates (After p.links) number.delete_number base (key_operand k ∷ []) st
 delete p st c = unlawful st
 
 -- `o.k op= e` and `++o.k`: the old value was read before
-abbrev pub update : {s : Sorts} {S : Type 0} → Binary → Strict s → State s S → Current s → Next s S
+abbrev pub update : {s : Sorts} {S : Type 0} → Binary → Strict s.Mark → State s S → Current s.Mark → Next s S
 update b p st (Old base k v) = with_part p st (λ w. operate (Store base k p.links) b v w st)
 update b p st c = unlawful st
 
-abbrev pub step_at : {s : Sorts} {S : Type 0} → Update → Strict s → State s S → Current s → Next s S
+abbrev pub step_at : {s : Sorts} {S : Type 0} → Update → Strict s.Mark → State s S → Current s.Mark → Next s S
 step_at u p st (Old base k v) = operates (StepAt u base k p.links) number.to_number_number v [] st
 step_at u p st c = unlawful st
 
 -- ---- literals (12.2.5.2, 12.2.6.8): the current value is the array or the object
 
-abbrev pub with_object : {s : Sorts} {S : Type 0} → Current s → State s S → (ObjId → Next s S) → Next s S
+abbrev pub with_object : {s : Sorts} {S : Type 0} → Current s.Mark → State s S → (ObjId → Next s S) → Next s S
 with_object (Has (User (value.Object id))) st f = f id
 with_object c st f = unlawful st
 
-abbrev pub has_object : {s : Sorts} {S : Type 0} → Strict s → State s S → Heap → Next s S
+abbrev pub has_object : {s : Sorts} {S : Type 0} → Strict s.Mark → State s S → Heap → Next s S
 has_object p st heap = goes p.current p.links (with_heap heap st)
 
 abbrev pub length_at : Heap → ObjId → ℕ
@@ -95,44 +94,44 @@ add_element heap id v = with_element heap id (length_at heap id) v
 abbrev pub add_hole : Heap → ObjId → Heap
 add_hole heap id = (set_length heap id (pos (suc (length_at heap id)))).after
 
-abbrev pub element : {s : Sorts} {S : Type 0} → Rows s S → Strict s → State s S → Current s → Next s S
+abbrev pub element : {s : Sorts} {S : Type 0} → Rows s S → Strict s.Mark → State s S → Current s.Mark → Next s S
 element rows p st (Has (Extra m)) = rows.act p st
 element rows p st c = with_object c st (λ id. with_part p st (λ v. has_object p st (add_element st.heap id v)))
 
-abbrev pub hole : {s : Sorts} {S : Type 0} → Rows s S → Strict s → State s S → Current s → Next s S
+abbrev pub hole : {s : Sorts} {S : Type 0} → Rows s S → Strict s.Mark → State s S → Current s.Mark → Next s S
 hole rows p st (Has (Extra m)) = rows.act p st
 hole rows p st c = with_object c st (λ id. has_object p st (add_hole st.heap id))
 
 -- what a definition answers (7.3.7): a refusal is a TypeError
-abbrev pub defined : {s : Sorts} {S : Type 0} → Current s → List CoreLink → State s S → Write → Next s S
+abbrev pub defined : {s : Sorts} {S : Type 0} → Current s.Mark → List CoreLink → State s S → Write → Next s S
 defined current links st write.Done = goes current links st
 defined current links st (write.Leaves x) = leaves x st
 defined current links st write.OutOfRange = raises RangeError st
 defined current links st w = raises TypeError st
 
-abbrev pub defines : {s : Sorts} {S : Type 0} → Rows s S → ObjId → PropertyKey → Prop → Current s → List CoreLink → State s S → Next s S
+abbrev pub defines : {s : Sorts} {S : Type 0} → Rows s S → ObjId → PropertyKey → Prop → Current s.Mark → List CoreLink → State s S → Next s S
 defines rows id k property current links st =
     let w = define_key rows.edition st.heap id k property in
     defined current links (with_heap w.after st) w.answer
 
 -- the key that is written
-abbrev pub key_in : {s : Sorts} → List ℕ → Current s → PropertyKey
+abbrev pub key_in : {M : Type 0} → List ℕ → Current M → PropertyKey
 key_in units (Reference base k) = k
 key_in units c = Text units
 
 abbrev pub key_named : {s : Sorts} {S : Type 0} → Rows s S → ObjId → List ℕ → PropertyKey
 key_named rows id units = key_in units (rows.named (value.Object id) units)
 
-abbrev pub define : {s : Sorts} {S : Type 0} → Rows s S → List ℕ → Strict s → State s S → Next s S
+abbrev pub define : {s : Sorts} {S : Type 0} → Rows s S → List ℕ → Strict s.Mark → State s S → Next s S
 define rows units p st = with_object p.current st (λ id. with_part p st
     (λ v. defines rows id (key_named rows id units) (Plain v true true) p.current p.links st))
 
-abbrev pub accessor_defined : {s : Sorts} {S : Type 0} → Rows s S → ObjId → List ℕ → Bool → Strict s → State s S → Value → Next s S
+abbrev pub accessor_defined : {s : Sorts} {S : Type 0} → Rows s S → ObjId → List ℕ → Bool → Strict s.Mark → State s S → Value → Next s S
 accessor_defined rows id units is_setter p st (value.Object f) =
     let k = key_named rows id units in
     defines rows id k (with_half st.heap id k f is_setter) p.current p.links st
 accessor_defined rows id units is_setter p st v = unlawful st
 
-abbrev pub accessor : {s : Sorts} {S : Type 0} → Rows s S → List ℕ → Bool → Strict s → State s S → Next s S
+abbrev pub accessor : {s : Sorts} {S : Type 0} → Rows s S → List ℕ → Bool → Strict s.Mark → State s S → Next s S
 accessor rows units is_setter p st =
     with_object p.current st (λ id. with_part p st (accessor_defined rows id units is_setter p st))

@@ -1,5 +1,5 @@
 -- Statements (ECMA-262, 6th edition, 13; 5.1 edition, 12).
-use Rattle.std.specs.List.{flat_map, list_any}
+use Rattle.std.specs.List.{list_any}
 use Rattle.std.specs.Prelude.{Bool, List, None, Option, Some, [], false, if◌then◌else◌, is_none, nat_eq, not, true, ◌&&◌, ◌∷◌}
 use Rattle.es_value.specs.Equality.{same_value}
 use Rattle.es_value.specs.declared.value.Value.{Value}
@@ -13,6 +13,7 @@ use Rattle.core_ast.specs.declared.tree.CoreLink.{CoreLink}
 use Rattle.core_ast.specs.declared.tree.CoreLink.TheOpen as layer
 use Rattle.core_ast.specs.declared.tree.CoreLink.TheOpen.{CoreStat-F}
 use Rattle.core_ast.specs.declared.tree.CoreStat.{CoreStat, out-CoreStat}
+use Rattle.core_state.specs.Bodies.{bodies}
 use Rattle.core_meaning.specs.Calls.{binding}
 use Rattle.core_meaning.specs.Rows.{Next, Rows, begins, controls, hands, pushed, runs, unlawful, with_record}
 use Rattle.core_meaning.specs.State.{Begin, Catching, Choice, Completion, Done, Finishing, Jumps, Loop, LoopBody, LoopTest, LoopUpdate, Matching, Pending, Rest, Restore, Returning, Run, Sorts, State, Subject, Target, Throwing, User}
@@ -27,10 +28,7 @@ abbrev pub choose : {s : Sorts} {S : Type 0} → List CoreCase → State s S →
 choose [] st = hands Done st
 choose (c ∷ cs) st = choose_case (out-CoreCase c).test (out-CoreCase c).body cs st
 
--- the statements of these cases: one falls through to the next
-abbrev pub bodies : List CoreCase → List CoreStat
-bodies cs = flat_map (λ c. (out-CoreCase c).body) cs
-
+-- one case falls through to the next
 abbrev pub run_cases : {s : Sorts} {S : Type 0} → List CoreCase → State s S → Next s S
 run_cases cs st = runs (Target None) (bodies cs) st
 
@@ -106,7 +104,7 @@ catch rows x names handler st v =
     controls (Run handler)
     (with_record (binding x (User v) ∷ rows.scoped names) (pushed (Restore st.context.environment) st))
 
-abbrev pub finish : {s : Sorts} {S : Type 0} → List CoreStat → Completion s → State s S → Next s S
+abbrev pub finish : {s : Sorts} {S : Type 0} → List CoreStat → Completion s.Mark → State s S → Next s S
 finish last completion st = runs (Pending completion) last st
 
 -- ---- each statement

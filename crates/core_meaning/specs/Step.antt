@@ -32,12 +32,12 @@ use Rattle.core_meaning.specs.Expressions.{begin, initialize, operate_one, opera
 use Rattle.core_meaning.specs.Names.{write}
 use Rattle.core_meaning.specs.Properties.{accessor, define, delete, element, hole, index, key_units, member, put, puts, reads, step_at, update}
 use Rattle.core_meaning.specs.Rows.{Next, Rows, begins, calls, controls, goes, hands, has, leaves, pushed, raises, runs, unlawful, with_frames, with_heap, with_user, within}
-use Rattle.core_meaning.specs.State.{After, Begin, Behind, Calls, Catching, Choice, Completion, Context, Control, CoreValue, Current, Done, Fetch, Finishing, Frame, Gives, Go, Hand, Has, Jumps, Keyed, LoopBody, LoopTest, LoopUpdate, Made, Making, Matching, Method, Old, Operation, Part, Pending, Reference, Rest, Restore, Returning, Returns, Run, Sorts, State, StepAt, StepName, Store, Strict, Subject, Target, Throwing, Throws, Turn, User, Work}
+use Rattle.core_meaning.specs.State.{After, Begin, Behind, Calls, Catching, Choice, Completion, Configuration, Context, Control, CoreValue, Current, Done, Fetch, Finishing, Frame, Gives, Go, Hand, Has, Jumps, Keyed, LoopBody, LoopTest, LoopUpdate, Made, Making, Matching, Method, Old, Operation, Part, Pending, Reference, Rest, Restore, Returning, Returns, Run, Sorts, State, StepAt, StepName, Store, Strict, Subject, Target, Throwing, Throws, Turn, User, Work}
 use Rattle.core_meaning.specs.Statements.{catch, choose, finish, loop, loop_jumped, loop_on, loop_tested, match_next, matched, run_stats, target_jumped}
 
 -- ---- strict links
 
-unfoldable pub act_by : {s : Sorts} {S : Type 0} → Rows s S → Core → Strict s → State s S → CoreOp → Next s S
+unfoldable pub act_by : {s : Sorts} {S : Type 0} → Rows s S → Core → Strict s.Mark → State s S → CoreOp → Next s S
 act_by rows core p st (op.Member k) = member rows (key_units k) p st
 act_by rows core p st op.Index = index p st
 act_by rows core p st op.Call = call p st
@@ -49,7 +49,7 @@ act_by rows core p st (op.Update b) = update b p st p.current
 act_by rows core p st (op.Step u) = step_at u p st p.current
 act_by rows core p st (op.Operator b) = operator b p st
 act_by rows core p st (op.Unary u) = with_current p.current st (λ v. operate_one p.links u v st)
-act_by rows core p st op.Then = sequence p st p.values
+act_by rows core p st op.Then = sequence p st
 act_by rows core p st (op.Set x) = set rows x p st p.current
 act_by rows core p st (op.Init x) = initialize x p st p.current
 act_by rows core p st (op.StepVariable u x) = step_name u x p st
@@ -60,18 +60,18 @@ act_by rows core p st (op.Getter k) = accessor rows (key_units k) false p st
 act_by rows core p st (op.Setter k) = accessor rows (key_units k) true p st
 act_by rows core p st o = rows.act p st
 
-abbrev pub act : {s : Sorts} {S : Type 0} → Rows s S → Core → Strict s → State s S → Next s S
+abbrev pub act : {s : Sorts} {S : Type 0} → Rows s S → Core → Strict s.Mark → State s S → Next s S
 act rows core p st = act_by rows core p st p.op
 
 -- the parts that are left, from left to right, and then the operation
-abbrev pub parts_by : {s : Sorts} {S : Type 0} → Rows s S → Core → Strict s → State s S → List CoreExpr → Next s S
+abbrev pub parts_by : {s : Sorts} {S : Type 0} → Rows s S → Core → Strict s.Mark → State s S → List CoreExpr → Next s S
 parts_by rows core p st [] = act rows core p st
 parts_by rows core p st (x ∷ xs) = begins (Part (record p { parts = xs })) x st
 
-abbrev pub parts : {s : Sorts} {S : Type 0} → Rows s S → Core → Strict s → State s S → Next s S
+abbrev pub parts : {s : Sorts} {S : Type 0} → Rows s S → Core → Strict s.Mark → State s S → Next s S
 parts rows core p st = parts_by rows core p st p.parts
 
-abbrev pub part_given : {s : Sorts} {S : Type 0} → Rows s S → Core → Strict s → State s S → CoreValue s → Next s S
+abbrev pub part_given : {s : Sorts} {S : Type 0} → Rows s S → Core → Strict s.Mark → State s S → CoreValue s.Mark → Next s S
 part_given rows core p st v = parts rows core (record p { values = p.values ++ v ∷ [] }) st
 
 -- ---- a reference: a write or `delete` takes it as it is; a call, an update and a step read it before their parts are evaluated
@@ -91,17 +91,17 @@ taking (op.Step u) = WithValue
 taking o = AsValue
 
 -- what was read is the method of a call, or the old value
-abbrev pub fetched : {s : Sorts} → Value → Key → CoreOp → Value → Current s
+abbrev pub fetched : {M : Type 0} → Value → Key → CoreOp → Value → Current M
 fetched base k op.Call v = Method v base
 fetched base k o v = Old base k v
 
-abbrev pub fetch_given : {s : Sorts} {S : Type 0} → Rows s S → Core → Value → Key → Strict s → State s S → Value → Next s S
+abbrev pub fetch_given : {s : Sorts} {S : Type 0} → Rows s S → Core → Value → Key → Strict s.Mark → State s S → Value → Next s S
 fetch_given rows core base k p st v = parts rows core (record p { current = fetched base k p.op v }) st
 
-abbrev pub strict_of : {s : Sorts} → CoreOp → Option Site → Current s → List CoreExpr → List CoreLink → Strict s
+abbrev pub strict_of : {M : Type 0} → CoreOp → Option Site → Current M → List CoreExpr → List CoreLink → Strict M
 strict_of o site c xs links = record { op = o; site = site; current = c; values = []; parts = xs; links = links }
 
-abbrev pub take : {s : Sorts} {S : Type 0} → Rows s S → Core → Value → Key → Strict s → CoreLink → State s S → Taking → Next s S
+abbrev pub take : {s : Sorts} {S : Type 0} → Rows s S → Core → Value → Key → Strict s.Mark → CoreLink → State s S → Taking → Next s S
 take rows core base k p l st AsPlace = parts rows core p st
 take rows core base k p l st WithValue = reads (Fetch base k p) base k st
 take rows core base k p l st AsValue = reads (After (l ∷ p.links)) base k st
@@ -122,23 +122,23 @@ lazy taken other links st v when.Truthy = if truth_of v then begins (After links
 lazy taken other links st v when.Falsy = if truth_of v then has v links st else begins (After links) taken st
 lazy taken other links st v when.Choice = if truth_of v then begins (After links) taken st else otherwise other links st
 
-abbrev pub go_value : {s : Sorts} {S : Type 0} → Rows s S → Core → Current s → List CoreLink → State s S → CoreLink-F CoreLink CoreStat CoreCase CoreExpr → Next s S
+abbrev pub go_value : {s : Sorts} {S : Type 0} → Rows s S → Core → Current s.Mark → List CoreLink → State s S → CoreLink-F CoreLink CoreStat CoreCase CoreExpr → Next s S
 go_value rows core c ls st (layer.Strict o xs site) = parts rows core (strict_of o site c xs ls) st
 go_value rows core c ls st (layer.Lazy w taken other) = with_current c st (λ v. lazy taken other ls st v w)
 go_value rows core c ls st (layer.Run body) = runs (After ls) body st
 
 -- ---- one link further; at the end the value is handed on
 
-abbrev pub go_end : {s : Sorts} {S : Type 0} → State s S → Current s → Next s S
+abbrev pub go_end : {s : Sorts} {S : Type 0} → State s S → Current s.Mark → Next s S
 go_end st (Has v) = hands (Gives v) st
 go_end st (Reference base k) = controls (Turn None (operation get_number base (key_operand k ∷ []))) st
 go_end st c = unlawful st
 
-abbrev pub go_link : {s : Sorts} {S : Type 0} → Rows s S → Core → CoreLink → List CoreLink → State s S → Current s → Next s S
+abbrev pub go_link : {s : Sorts} {S : Type 0} → Rows s S → Core → CoreLink → List CoreLink → State s S → Current s.Mark → Next s S
 go_link rows core l ls st (Reference base k) = go_reference rows core base k l ls st (out-CoreLink l)
 go_link rows core l ls st c = go_value rows core c ls st (out-CoreLink l)
 
-unfoldable pub go : {s : Sorts} {S : Type 0} → Rows s S → Core → Current s → List CoreLink → State s S → Next s S
+unfoldable pub go : {s : Sorts} {S : Type 0} → Rows s S → Core → Current s.Mark → List CoreLink → State s S → Next s S
 go rows core c [] st = go_end st c
 go rows core c (l ∷ ls) st = go_link rows core l ls st c
 
@@ -168,7 +168,7 @@ abbrev pub keyed : {s : Sorts} {S : Type 0} → Value → List CoreLink → Stat
 keyed base links st (value.Text us) = goes (Reference base (Text us)) links st
 keyed base links st v = unlawful st
 
-unfoldable pub given : {s : Sorts} {S : Type 0} → Rows s S → Core → CoreValue s → State s S → Frame s → Next s S
+unfoldable pub given : {s : Sorts} {S : Type 0} → Rows s S → Core → CoreValue s.Mark → State s S → Frame s.Mark s.Work → Next s S
 given rows core v st (Part p) = part_given rows core p st v
 given rows core v st (Fetch base k p) = with_user v st (fetch_given rows core base k p st)
 given rows core v st (After links) = goes (Has v) links st
@@ -192,7 +192,7 @@ given rows core v st (Work w) = rows.work w (Gives v) st
 given rows core v st f = unlawful st
 
 -- the end of statements
-unfoldable pub done : {s : Sorts} {S : Type 0} → Rows s S → State s S → Frame s → Next s S
+unfoldable pub done : {s : Sorts} {S : Type 0} → Rows s S → State s S → Frame s.Mark s.Work → Next s S
 done rows st (After links) = has value.Undefined links st
 done rows st (Rest stats) = controls (Run stats) st
 done rows st (LoopBody l) = loop_on l st
@@ -209,7 +209,7 @@ abbrev pub thrown_out : {s : Sorts} {S : Type 0} → Option Site → BuiltinCall
 thrown_out site c v st =
     if drops_throw c then controls (Turn site (received c value.Undefined)) st else hands (Throws v) st
 
-unfoldable pub abrupt : {s : Sorts} {S : Type 0} → Rows s S → State s S → Frame s → Completion s → Next s S
+unfoldable pub abrupt : {s : Sorts} {S : Type 0} → Rows s S → State s S → Frame s.Mark s.Work → Completion s.Mark → Next s S
 abrupt rows st (Operation site c) (Throws v) = thrown_out site c v st
 abrupt rows st (LoopBody l) (Jumps goes_on label) = loop_jumped l st goes_on label
 abrupt rows st (Target target) (Jumps goes_on label) = target_jumped target st goes_on label
@@ -219,7 +219,7 @@ abrupt rows st (Restore e) completion = hands completion (within e st)
 abrupt rows st (Work w) completion = rows.work w completion st
 abrupt rows st f completion = hands completion st
 
-abbrev pub handed : {s : Sorts} {S : Type 0} → Rows s S → Core → Frame s → State s S → Completion s → Next s S
+abbrev pub handed : {s : Sorts} {S : Type 0} → Rows s S → Core → Frame s.Mark s.Work → State s S → Completion s.Mark → Next s S
 handed rows core f st (Gives v) = given rows core v st f
 handed rows core f st Done = done rows st f
 handed rows core f st completion = abrupt rows st f completion
@@ -227,7 +227,7 @@ handed rows core f st completion = abrupt rows st f completion
 -- ---- the end of a context: a call gives what was returned, or undefined (9.2.1, 6 to 9), and at the end of the outermost one
 -- the next body runs, if there is one
 
-abbrev pub result_of : {s : Sorts} {S : Type 0} → State s S → Completion s → Next s S
+abbrev pub result_of : {s : Sorts} {S : Type 0} → State s S → Completion s.Mark → Next s S
 result_of st (Returns v) = hands (Gives v) st
 result_of st (Throws v) = hands (Throws v) st
 result_of st (Jumps goes_on label) = unlawful st
@@ -237,22 +237,22 @@ abbrev pub next_body : {s : Sorts} {S : Type 0} → State s S → List (List Cor
 next_body st [] = Ends Ended
 next_body st (b ∷ bs) = controls (Run b) (record st { ahead = bs })
 
-abbrev pub outermost : {s : Sorts} {S : Type 0} → State s S → Completion s → Next s S
+abbrev pub outermost : {s : Sorts} {S : Type 0} → State s S → Completion s.Mark → Next s S
 outermost st (Throws v) = Ends (Threw (seen_of st.heap v))
 outermost st Done = next_body st st.ahead
 outermost st completion = unlawful st
 
-abbrev pub returned : {s : Sorts} {S : Type 0} → State s S → Completion s → List (Context s) → Next s S
+abbrev pub returned : {s : Sorts} {S : Type 0} → State s S → Completion s.Mark → List (Context s.Mark s.Own s.Work) → Next s S
 returned st completion [] = outermost st completion
 returned st completion (k ∷ ks) = result_of (record st { context = k; callers = ks }) completion
 
-unfoldable pub hand : {s : Sorts} {S : Type 0} → Rows s S → Core → State s S → Completion s → List (Frame s) → Next s S
+unfoldable pub hand : {s : Sorts} {S : Type 0} → Rows s S → Core → State s S → Completion s.Mark → List (Frame s.Mark s.Work) → Next s S
 hand rows core st completion [] = returned st completion st.callers
 hand rows core st completion (f ∷ fs) = handed rows core f (with_frames fs st) completion
 
 -- ---- a step
 
-abbrev pub step_by : {s : Sorts} {S : Type 0} → Rows s S → Core → State s S → Control s → Next s S
+abbrev pub step_by : {s : Sorts} {S : Type 0} → Rows s S → Core → State s S → Control s.Mark → Next s S
 step_by rows core st (Begin x) = begin rows core x st
 step_by rows core st (Go c links) = go rows core c links st
 step_by rows core st (Run stats) = run_stats rows stats st
@@ -260,5 +260,5 @@ step_by rows core st (Turn site c) = turn rows site c st
 step_by rows core st (Calls c) = call_value rows core c st c.function
 step_by rows core st (Hand completion) = hand rows core st completion st.context.frames
 
-unfoldable pub step : {s : Sorts} {S : Type 0} → Rows s S → Core → State s S → Next s S
-step rows core st = step_by rows core st st.control
+unfoldable pub step : {s : Sorts} {S : Type 0} → Rows s S → Core → Configuration s S → Next s S
+step rows core now = step_by rows core now.state now.control

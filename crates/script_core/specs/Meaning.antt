@@ -27,7 +27,7 @@ use Rattle.core_ast.specs.declared.whole.CoreFunction.{CoreFunction}
 use Rattle.core_ast.specs.declared.whole.CorePart.{CorePart}
 use Rattle.core_meaning.specs.Rows.{Entered, Given, Next, Rows, controls, unlawful}
 use Rattle.core_meaning.specs.State.{Run}
-use Rattle.core_meaning.specs.State.{Binding, Call, Closure, CoreValue, Current, Done, EnvironmentRecord, Hand, Reference, Sorts, State, User}
+use Rattle.core_meaning.specs.State.{Binding, Call, Closure, Configuration, CoreValue, Current, Done, EnvironmentRecord, Hand, Reference, Sorts, State, User}
 use Rattle.core_meaning.specs.Step.{step}
 
 pub data Nothing : Type 0 where
@@ -44,10 +44,10 @@ ScriptNext = Next script_sorts (Unit {0})
 -- ---- the rows
 
 -- 10.4.3: the receiver, as strict code has it
-abbrev pub this_value : ScriptState → CoreValue script_sorts
+abbrev pub this_value : ScriptState → CoreValue Nothing
 this_value st = User st.context.receiver
 
-abbrev pub property_named : Value → List ℕ → Current script_sorts
+abbrev pub property_named : Value → List ℕ → Current Nothing
 property_named v units = Reference v (Text units)
 
 -- 13.2
@@ -60,7 +60,7 @@ script_closure f function st = record {
   };
 }
 
-abbrev pub enters : Closure script_sorts → CoreFunction → Call → ScriptState → Entered script_sorts (Unit {0})
+abbrev pub enters : Closure (Unit {0}) → CoreFunction → Call → ScriptState → Entered script_sorts (Unit {0})
 enters closure f call st = record { own = tt; names = []; state = st }
 
 abbrev pub runs_body : CoreFunction → ScriptState → ScriptNext
@@ -95,35 +95,35 @@ script_rows core = record {
 
 -- ---- the start (10.2.3, 15.1): the global record has the names of the library and of the hosts, and the script's own are before it
 
-abbrev pub global_binding : Var → Global → List (Binding script_sorts)
+abbrev pub global_binding : Var → Global → List (Binding Nothing)
 global_binding x global.Undefined = record { var = x; value = User value.Undefined; mutable = false } ∷ []
 global_binding x (global.Object id) = record { var = x; value = User (value.Object id); mutable = true } ∷ []
 global_binding x g = []
 
-abbrev pub host_binding : Var → List ℕ → List (List ℕ) → List ObjId → List (Binding script_sorts)
+abbrev pub host_binding : Var → List ℕ → List (List ℕ) → List ObjId → List (Binding Nothing)
 host_binding x name [] ids = []
 host_binding x name (h ∷ hs) [] = []
 host_binding x name (h ∷ hs) (id ∷ ids) =
     if bytes_eq name h then record { var = x; value = User (value.Object id); mutable = true } ∷ [] else host_binding x name hs ids
 
-abbrev pub bound_at_start : List (List ℕ) → Var → Option (List ℕ) → List (Binding script_sorts)
+abbrev pub bound_at_start : List (List ℕ) → Var → Option (List ℕ) → List (Binding Nothing)
 bound_at_start hosts x None = []
 bound_at_start hosts x (Some name) =
     global_binding x (global_of name) ++ host_binding x name hosts (host_functions (length hosts))
 
-abbrev pub global_record : List (List ℕ) → ℕ → List (Option (List ℕ)) → EnvironmentRecord script_sorts
+abbrev pub global_record : List (List ℕ) → ℕ → List (Option (List ℕ)) → EnvironmentRecord Nothing
 global_record hosts n [] = []
 global_record hosts n (name ∷ names) =
     bound_at_start hosts (record { 0 = n }) name ++ global_record hosts (suc n) names
 
-abbrev pub own_record : CorePart → EnvironmentRecord script_sorts
+abbrev pub own_record : CorePart → EnvironmentRecord Nothing
 own_record p = map (λ n. record { var = n.var; value = User value.Undefined; mutable = n.mutable }) p.names
 
 abbrev pub instantiated : CorePart → List CoreStat
 instantiated p = p.instantiate ++ p.body
 
-abbrev pub script_start : List (List ℕ) → Core → ScriptState
-script_start hosts core = record {
+abbrev pub script_state : List (List ℕ) → Core → ScriptState
+script_state hosts core = record {
   heap = fresh5 (length hosts);
   records = global_record hosts 0 core.fresh.hints ∷ flat_map own_record core.parts ∷ [];
   closures = [];
@@ -135,13 +135,15 @@ script_start hosts core = record {
     frames = [];
   };
   callers = [];
-  control = Hand Done;
   ahead = map instantiated core.parts;
   store = tt;
 }
 
-abbrev pub script_step : Core → ScriptState → ScriptNext
-script_step core st = step (script_rows core) core st
+abbrev pub script_start : List (List ℕ) → Core → Configuration script_sorts (Unit {0})
+script_start hosts core = record { state = script_state hosts core; control = Hand Done }
+
+abbrev pub script_step : Core → Configuration script_sorts (Unit {0}) → ScriptNext
+script_step core now = step (script_rows core) core now
 
 -- what a script does, of hosts with these names, under their answers; the names that it declares are none of the library's and the
 -- hosts'
