@@ -3,7 +3,7 @@
 ghost use Rattle.std.specs.Prelude.{◌≡◌, map, Some, IfOk};
 ghost use Rattle.core_ast.specs.declared.tree.CoreLink.TheVariants as link;
 ghost use Rattle.core_ast.specs.declared.tree.CoreStat.TheVariants as stat;
-ghost use Rattle.state_rules.specs.States.{branch, expr_whole, link_whole, part, whole_cases, wholes};
+ghost use Rattle.pass_rules.specs.state_rules.States.{branch, expr_whole, link_whole, part, whole_cases, wholes};
 
 use core_ast::{CoreCase, CoreExpr, CoreLink, CoreStat, Label, ScopedName, Var, When};
 use sqlite_items::{Boxed, Items};

@@ -2,7 +2,7 @@
 
 ghost use Rattle.std.specs.Prelude.{◌≡◌, [], ◌∷◌, ◌++◌, map, IfOk, OnOk};
 ghost use Rattle.core_ast.specs.Lawful.{has_label};
-ghost use Rattle.state_rules.specs.States.{all_stay, branch, cases_stay, jump_stays, part};
+ghost use Rattle.pass_rules.specs.state_rules.States.{all_stay, branch, cases_stay, jump_stays, part};
 
 use core_ast::{CoreCase, CoreStat, Label};
 use sqlite_items::Items;

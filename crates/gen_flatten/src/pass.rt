@@ -1,13 +1,13 @@
 //! The pass: functions, parts and the core.
 
 ghost use Rattle.std.specs.Prelude.{◌≡◌, ◌+◌, ◌++◌, map, max, [], length, IfOk, OnOk};
-ghost use Rattle.yield_rules.specs.Yields.{all_functions, all_parts, begins, drawn, function_at, label_behind, name_behind, one_function, one_part, part_at, part_with_slots, slot_name, slots, with_slots, with_yields_flat};
+ghost use Rattle.pass_rules.specs.yield_rules.Yields.{all_functions, all_parts, begins, drawn, function_at, label_behind, name_behind, one_function, one_part, part_at, part_with_slots, slot_name, slots, with_slots, with_yields_flat};
 
 use crate::walk::block;
 use core_ast::{Core, CoreFunction, CorePart, Fresh, Label, Mentions, ScopedName, Var};
+use pass_rules::yield_rules::Place;
 use sqlite_items::Items;
 use std::alloc::{AllocError, Global};
-use yield_rules::Place;
 
 /// The core in which each yield is a statement, and no statement stands in an expression.
 pub fn flatten_yields(alloc: Global, core: Core) -> Result<Core, AllocError>

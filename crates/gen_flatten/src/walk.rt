@@ -2,7 +2,7 @@
 
 ghost use Rattle.std.specs.Prelude.{◌≡◌, ◌++◌, map, IfOk, OnOk};
 ghost use Rattle.core_ast.specs.declared.tree.CoreStat.TheVariants as stat;
-ghost use Rattle.yield_rules.specs.Yields.{all_at, begun, case_spilled, cases_at, deeper, expr_spilled, link_spilled, loop_place, looped, parts_settled, rest, stat_spilled, stats_spilled, two_branches, under, with_effects};
+ghost use Rattle.pass_rules.specs.yield_rules.Yields.{all_at, begun, case_spilled, cases_at, deeper, expr_spilled, link_spilled, loop_place, looped, parts_settled, rest, stat_spilled, stats_spilled, two_branches, under, with_effects};
 
 use core_ast::{
     CoreCase, CoreExpr, CoreHead, CoreLink, CoreOp, CoreStat, Label, ScopedName, Var, When,
@@ -13,9 +13,9 @@ use gen_spill::{
     cased, deeper, finished, going_on, loop_place, one_branch, push_effects, push_if, push_loop,
     push_switch, room, settled, strict, two_branches, under,
 };
+use pass_rules::yield_rules::{Chain, Place, Settled, Spilled, SpilledCase};
 use sqlite_items::Items;
 use std::alloc::{AllocError, Global};
-use yield_rules::{Chain, Place, Settled, Spilled, SpilledCase};
 
 /// Where the statements stand, the value is said.
 fn say(spilled: Spilled, out: &mut Items<CoreStat>) -> Result<CoreExpr, AllocError>

@@ -1,12 +1,12 @@
 //! What a machine begins with.
 
 ghost use Rattle.std.specs.Prelude.{◌≡◌, [], ◌∷◌, IfOk, OnOk};
-ghost use Rattle.state_rules.specs.States.{after_pair, after_registers, last_row, outermost, pair, registers, started};
+ghost use Rattle.pass_rules.specs.state_rules.States.{after_pair, after_registers, last_row, outermost, pair, registers, started};
 
 use crate::build::{alone, given, holds_number, number, when};
 use core_ast::{CoreCase, CoreStat, Fresh, Label, Var, variable};
+use pass_rules::state_rules::{Completion, Machine, Place, Registers};
 use sqlite_items::Items;
-use state_rules::{Completion, Machine, Place, Registers};
 use std::alloc::{AllocError, Global};
 
 /// Two new names.

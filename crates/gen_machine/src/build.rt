@@ -1,15 +1,15 @@
 //! Small expressions and statements.
 
 ghost use Rattle.std.specs.Prelude.{◌≡◌, [], ◌∷◌, IfOk};
-ghost use Rattle.yield_rules.specs.Yields.{is_same, number, two, when};
-ghost use Rattle.state_rules.specs.States.{given, holds_number, is_there, moved, set, set_number};
+ghost use Rattle.pass_rules.specs.yield_rules.Yields.{is_same, number, two, when};
+ghost use Rattle.pass_rules.specs.state_rules.States.{given, holds_number, is_there, moved, set, set_number};
 
 use core_ast::{
     Binary, Constant, CoreCase, CoreExpr, CoreHead, CoreOp, CoreStat, Var, act, acting, constant,
     linked, variable,
 };
+use pass_rules::state_rules::Completion;
 use sqlite_items::Items;
-use state_rules::Completion;
 use std::alloc::{AllocError, Global};
 
 pub(crate) fn two(

@@ -1,15 +1,15 @@
 //! Cases: each goes on with a state of its own.
 
 ghost use Rattle.std.specs.Prelude.{◌≡◌, [], ◌∷◌, ◌++◌, OnOk};
-ghost use Rattle.yield_rules.specs.Yields.{case_of};
-ghost use Rattle.state_rules.specs.States.{dispatching, ends, goes};
+ghost use Rattle.pass_rules.specs.yield_rules.Yields.{case_of};
+ghost use Rattle.pass_rules.specs.state_rules.States.{dispatching, ends, goes};
 
 use crate::build::alone;
 use crate::going::{goes, push_goes};
 use crate::growing::{draws, ends};
 use core_ast::{CoreCase, CoreExpr, CoreStat};
+use pass_rules::state_rules::{Machine, Place};
 use sqlite_items::Items;
-use state_rules::{Machine, Place};
 use std::alloc::{AllocError, Global};
 
 /// A case that goes on with the state.

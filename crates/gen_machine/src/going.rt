@@ -2,12 +2,12 @@
 
 ghost use Rattle.std.specs.Prelude.{◌≡◌, [], ◌∷◌, ◌++◌, true, Some, IfOk, OnOk};
 ghost use Rattle.core_ast.specs.declared.tree.CoreStat.TheVariants as stat;
-ghost use Rattle.state_rules.specs.States.{goes, goes_to, handed_on, moved, moves, set_number, unwinds};
+ghost use Rattle.pass_rules.specs.state_rules.States.{goes, goes_to, handed_on, moved, moves, set_number, unwinds};
 
 use crate::build::{alone, is_there, moved, set, set_number, when};
 use core_ast::{CoreExpr, CoreStat, Label, Var};
+use pass_rules::state_rules::{Completion, Place};
 use sqlite_items::Items;
-use state_rules::{Completion, Place};
 use std::alloc::{AllocError, Global};
 
 /// The next turn.

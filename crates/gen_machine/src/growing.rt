@@ -2,14 +2,14 @@
 
 ghost use Rattle.std.specs.Prelude.{◌≡◌, OnOk};
 ghost use Rattle.core_ast.specs.Made.{undefined};
-ghost use Rattle.state_rules.specs.States.{begins, draws, ends, goes_then, says, unwinds};
+ghost use Rattle.pass_rules.specs.state_rules.States.{begins, draws, ends, goes_then, says, unwinds};
 
 use crate::build::number;
 use crate::going::{goes, unwinds};
 use crate::numbers::sum;
 use core_ast::{CoreCase, CoreStat, undefined};
+use pass_rules::state_rules::{Machine, Place};
 use sqlite_items::Items;
-use state_rules::{Machine, Place};
 use std::alloc::{AllocError, Global};
 use std::mem;
 

@@ -1,14 +1,14 @@
 //! Yields, returns and jumps.
 
 ghost use Rattle.std.specs.Prelude.{◌≡◌, ◌++◌, map, IfOk, OnOk};
-ghost use Rattle.state_rules.specs.States.{ends, found, handing, hands_out, jumped, jumps_to, reaches, state_of, target, under, unwinds, yielded};
+ghost use Rattle.pass_rules.specs.state_rules.States.{ends, found, handing, hands_out, jumped, jumps_to, reaches, state_of, target, under, unwinds, yielded};
 
 use crate::build::{alone, given, moved, number};
 use crate::going::{goes_to, handed_on, push_number, unwinds};
 use crate::growing::{begins, draws, ends, says};
 use core_ast::{CoreExpr, CoreStat, Label, Var};
+use pass_rules::state_rules::{Machine, Place, Target};
 use sqlite_items::Items;
-use state_rules::{Machine, Place, Target};
 use std::alloc::{AllocError, Global};
 
 /// A return is a completion.

@@ -4,8 +4,8 @@ ghost use Rattle.std.specs.Prelude.{◌≡◌, ◌+◌, [], ◌∷◌, IfOk, OnO
 ghost use Rattle.core_ast.specs.Made.{act, linked};
 ghost use Rattle.core_ast.specs.declared.parts.CoreOp.TheVariants as op;
 ghost use Rattle.core_ast.specs.declared.parts.Unary.TheVariants.{Not};
-ghost use Rattle.yield_rules.specs.Yields.{when};
-ghost use Rattle.state_rules.specs.States.{draws, goes, headed, tested, turned, under, updated};
+ghost use Rattle.pass_rules.specs.yield_rules.Yields.{when};
+ghost use Rattle.pass_rules.specs.state_rules.States.{draws, goes, headed, tested, turned, under, updated};
 
 use crate::build::when;
 use crate::going::goes;
@@ -13,8 +13,8 @@ use crate::growing::{draws, goes_then, says};
 use crate::jumps::under;
 use crate::numbers::sum;
 use core_ast::{CoreExpr, CoreOp, CoreStat, Label, Unary, act, linked};
+use pass_rules::state_rules::{Machine, Place};
 use sqlite_items::Items;
-use state_rules::{Machine, Place};
 use std::alloc::{AllocError, Global};
 
 /// The place of the body of a loop whose first state is this one.

@@ -1,8 +1,8 @@
 //! Regions: blocks of a `try`.
 
 ghost use Rattle.std.specs.Prelude.{◌≡◌, ◌+◌, [], ◌∷◌, ◌++◌, Some, IfOk, OnOk};
-ghost use Rattle.yield_rules.specs.Yields.{case_of, number};
-ghost use Rattle.state_rules.specs.States.{begins, catching, ends, goes_then, guarded, handed_on, keeping, kept_region, moves, nothing_kept, pair, region_with, says, takes_throw, within};
+ghost use Rattle.pass_rules.specs.yield_rules.Yields.{case_of, number};
+ghost use Rattle.pass_rules.specs.state_rules.States.{begins, catching, ends, goes_then, guarded, handed_on, keeping, kept_region, moves, nothing_kept, pair, region_with, says, takes_throw, within};
 
 use crate::beginning::pair;
 use crate::build::{alone, holds_number, number, set_number, when};
@@ -10,8 +10,8 @@ use crate::going::{again, handed_on, moves, push_moved, push_moves, push_number}
 use crate::growing::{begins, draws, ends, goes_then, says};
 use crate::numbers::sum;
 use core_ast::{CoreCase, CoreStat, Var};
+use pass_rules::state_rules::{Completion, Machine, Place};
 use sqlite_items::Items;
-use state_rules::{Completion, Machine, Place};
 use std::alloc::{AllocError, Global};
 
 /// The place in a region with so many blocks with a finally round it.

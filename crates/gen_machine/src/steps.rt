@@ -1,7 +1,7 @@
 //! The step of a generator, and the body that makes it.
 
 ghost use Rattle.std.specs.Prelude.{◌≡◌, IfOk};
-ghost use Rattle.state_rules.specs.States.{arrival, caught_step, guarded_step, has_arrived, making, passed_on, step, unwinder, with_machine};
+ghost use Rattle.pass_rules.specs.state_rules.States.{arrival, caught_step, guarded_step, has_arrived, making, passed_on, step, unwinder, with_machine};
 
 use crate::build::{alone, holds_number, is_same, is_there, moved, number, set_number, two, when};
 use crate::going::{again, push_moved, push_number};
@@ -9,8 +9,8 @@ use core_ast::{
     Binary, CoreCase, CoreExpr, CoreFunction, CoreHead, CoreOp, CoreStat, Fresh, Primitive,
     Resumption, expression, variable,
 };
+use pass_rules::state_rules::{Machine, Registers};
 use sqlite_items::Items;
-use state_rules::{Machine, Registers};
 use std::alloc::{AllocError, Global};
 
 fn has_arrived(alloc: Global, registers: Registers) -> Result<CoreExpr, AllocError>

@@ -3,18 +3,18 @@
 ghost use Rattle.std.specs.Prelude.{◌≡◌, [], ◌∷◌, Some, IfOk};
 ghost use Rattle.core_ast.specs.Made.{linked};
 ghost use Rattle.core_ast.specs.declared.tree.CoreLink.TheVariants as link;
-ghost use Rattle.yield_rules.specs.Yields.{branch, branched, first_case, going_on, one_branch, rest, test_of, two_branches, two_cases};
+ghost use Rattle.pass_rules.specs.yield_rules.Yields.{branch, branched, first_case, going_on, one_branch, rest, test_of, two_branches, two_cases};
 
 use crate::build::{going_on, in_slot, keep};
 use crate::chains::finished;
 use crate::parts::has;
 use core_ast::{CoreCase, CoreExpr, CoreLink, CoreOp, CoreStat, Unary, When, act, linked};
+use pass_rules::yield_rules::{Chain, Place, Spilled};
 use sqlite_items::{Boxed, Items};
 use std::alloc::{AllocError, Global};
-use yield_rules::{Chain, Place, Spilled};
 
 /// Whether the branch is taken, by the value in the slot.
-#[tactic(auto, unfolding(yield_rules::specs::Yields::test_of))]
+#[tactic(auto, unfolding(pass_rules::specs::yield_rules::Yields::test_of))]
 fn test_of(alloc: Global, place: Place, when: When) -> Result<CoreExpr, AllocError>
     ensures { IfOk result (λ x. x ≡ test_of place when) }
 {

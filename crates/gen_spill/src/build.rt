@@ -1,17 +1,17 @@
 //! Small expressions and statements.
 
 ghost use Rattle.std.specs.Prelude.{◌≡◌, [], ◌∷◌, ◌++◌, IfOk, OnOk};
-ghost use Rattle.yield_rules.specs.Yields.{flag, going_on, in_slot, is_bare_constant, is_bare_host, is_constant, is_host, is_same, kept, leave, number, property, two, when, with_effects};
+ghost use Rattle.pass_rules.specs.yield_rules.Yields.{flag, going_on, in_slot, is_bare_constant, is_bare_host, is_constant, is_host, is_same, kept, leave, number, property, two, when, with_effects};
 
 use crate::places::{label, slot};
 use core_ast::{
     Binary, Constant, CoreCase, CoreExpr, CoreHead, CoreOp, CoreStat, Key, act, acting, constant,
     linked, variable,
 };
+use pass_rules::yield_rules::{Chain, Place};
 use shared_text::Name;
 use sqlite_items::Items;
 use std::alloc::{AllocError, Global};
-use yield_rules::{Chain, Place};
 
 /// The value of the slot.
 pub(crate) fn in_slot(alloc: Global, place: Place) -> CoreExpr
@@ -53,7 +53,7 @@ pub fn going_on(before: Items<CoreStat>, base: CoreExpr) -> Chain
     }
 }
 
-#[tactic(auto, unfolding(yield_rules::specs::Yields::is_constant))]
+#[tactic(auto, unfolding(pass_rules::specs::yield_rules::Yields::is_constant))]
 fn is_constant(head: &CoreHead) -> bool
     ensures { result ≡ is_constant head.now }
 {
@@ -63,7 +63,7 @@ fn is_constant(head: &CoreHead) -> bool
     }
 }
 
-#[tactic(auto, unfolding(yield_rules::specs::Yields::is_host))]
+#[tactic(auto, unfolding(pass_rules::specs::yield_rules::Yields::is_host))]
 fn is_host(head: &CoreHead) -> bool
     ensures { result ≡ is_host head.now }
 {

@@ -1,15 +1,15 @@
 //! Cases: an `if` and a `switch`, of which tests may have statements.
 
 ghost use Rattle.std.specs.Prelude.{◌≡◌, [], ◌∷◌, ◌++◌, Some, IfOk, OnOk};
-ghost use Rattle.yield_rules.specs.Yields.{all_matched, all_tested, any_case_has, case_has, case_of, cased, cases_before, cases_left, chosen, default_number, later_has, match_case, matched_test, no_match, number, switched, switched_late, tested};
+ghost use Rattle.pass_rules.specs.yield_rules.Yields.{all_matched, all_tested, any_case_has, case_has, case_of, cased, cases_before, cases_left, chosen, default_number, later_has, match_case, matched_test, no_match, number, switched, switched_late, tested};
 
 use crate::build::{in_slot, is_same, keep, leave, number, when};
 use crate::places::{deeper, label, next};
 use core_ast::{CoreCase, CoreExpr, CoreStat};
+use pass_rules::yield_rules::{Matching, Place, Spilled, SpilledCase};
 use sqlite_items::Items;
 use std::alloc::{AllocError, Global};
 use std::collections::VecDeque;
-use yield_rules::{Matching, Place, Spilled, SpilledCase};
 
 /// A case, whose test is done.
 pub fn cased(alloc: Global, test: Option<Spilled>, body: Items<CoreStat>) -> SpilledCase

@@ -4,7 +4,7 @@ ghost use Rattle.std.specs.Prelude.{◌≡◌, [], ◌∷◌, ◌++◌, Some, If
 ghost use Rattle.core_ast.specs.Made.{linked};
 ghost use Rattle.core_ast.specs.declared.parts.CoreOp.TheVariants as op;
 ghost use Rattle.core_ast.specs.declared.tree.CoreLink.TheVariants as link;
-ghost use Rattle.yield_rules.specs.Yields.{behind_slot, behind_statements, behind_value, called, called_function, called_host, called_method, changed, finished, going_on, indexed, kept, member, method_call, method_kept, old_kept, plain, put, reference_kept, refers, rest, room, strict, then_part, updated};
+ghost use Rattle.pass_rules.specs.yield_rules.Yields.{behind_slot, behind_statements, behind_value, called, called_function, called_host, called_method, changed, finished, going_on, indexed, kept, member, method_call, method_kept, old_kept, plain, put, reference_kept, refers, rest, room, strict, then_part, updated};
 
 use crate::build::{going_on, in_slot, is_bare_host, keep, push_effects};
 use crate::delegation::{delegated, yielded};
@@ -12,12 +12,12 @@ use crate::places::deeper;
 use crate::references::{fix, referring, target, whole};
 use core_ast::{Binary, CoreExpr, CoreLink, CoreOp, CoreStat, Key, linked, undefined};
 use es_outside::Site;
+use pass_rules::yield_rules::{Chain, Place, Reference, Settled, Spilled};
 use sqlite_items::Items;
 use std::alloc::{AllocError, Global};
-use yield_rules::{Chain, Place, Reference, Settled, Spilled};
 
 /// How many slots stand before those of the parts.
-#[tactic(auto, unfolding(yield_rules::specs::Yields::room))]
+#[tactic(auto, unfolding(pass_rules::specs::yield_rules::Yields::room))]
 pub fn room(op: &CoreOp) -> u32
     ensures { result ≡ room op.now }
 {
@@ -60,7 +60,7 @@ pub fn strict(
     behind_statements(alloc, place, op, t, site, chain)
 }
 
-#[tactic(auto, unfolding(yield_rules::specs::Yields::behind_value))]
+#[tactic(auto, unfolding(pass_rules::specs::yield_rules::Yields::behind_value))]
 fn behind_value(
     alloc: Global,
     place: Place,
@@ -121,7 +121,7 @@ fn member(
     plain(alloc, CoreOp::Member(key), parts, site, chain)
 }
 
-#[tactic(auto, unfolding(yield_rules::specs::Yields::behind_statements))]
+#[tactic(auto, unfolding(pass_rules::specs::yield_rules::Yields::behind_statements))]
 fn behind_statements(
     alloc: Global,
     place: Place,

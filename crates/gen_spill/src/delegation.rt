@@ -1,7 +1,7 @@
 //! `yield` and `yield*` (ECMA-262, 6th edition, 14.4.14).
 
 ghost use Rattle.std.specs.Prelude.{◌≡◌, IfOk, OnOk};
-ghost use Rattle.yield_rules.specs.Yields.{deeper, delegate_begin, delegate_body, delegate_loop, delegate_step, delegated, delegating, is_done, no_return, property, returned, value_name, yielded};
+ghost use Rattle.pass_rules.specs.yield_rules.Yields.{deeper, delegate_begin, delegate_body, delegate_loop, delegate_step, delegated, delegating, is_done, no_return, property, returned, value_name, yielded};
 
 use crate::build::{
     alone, going_on, in_slot, is_same, keep, kept, leave, number, property, two, when,
@@ -9,9 +9,9 @@ use crate::build::{
 use crate::chains::finished;
 use crate::places::{deeper, label, slot};
 use core_ast::{CoreExpr, CoreLink, CoreOp, CoreStat, Primitive, linked, undefined};
+use pass_rules::yield_rules::{Chain, Place, Spilled};
 use sqlite_items::Items;
 use std::alloc::{AllocError, Global};
-use yield_rules::{Chain, Place, Spilled};
 
 /// The statement hands the value out, and leaves what comes back in the slot.
 pub(crate) fn yielded(alloc: Global, place: Place, chain: Chain) -> Result<Chain, AllocError>

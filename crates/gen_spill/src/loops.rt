@@ -1,15 +1,15 @@
 //! Loops, whose test or update may have statements.
 
 ghost use Rattle.std.specs.Prelude.{◌≡◌, [], ◌∷◌, ◌++◌, IfOk, OnOk};
-ghost use Rattle.yield_rules.specs.Yields.{exit, has_maybe, headed, label, loop_place, looped, rest_maybe, turn, turned};
+ghost use Rattle.pass_rules.specs.yield_rules.Yields.{exit, has_maybe, headed, label, loop_place, looped, rest_maybe, turn, turned};
 
 use crate::build::{alone, flag, in_slot, keep, leave, when};
 use crate::parts::has;
 use crate::places::{deeper, label, under};
 use core_ast::{CoreExpr, CoreOp, CoreStat, Label, Unary, act, linked};
+use pass_rules::yield_rules::{Place, Spilled};
 use sqlite_items::Items;
 use std::alloc::{AllocError, Global};
-use yield_rules::{Place, Spilled};
 
 fn has_maybe(part: &Option<Spilled>) -> bool
     ensures { result ≡ has_maybe part.now }

@@ -1,14 +1,14 @@
 //! The parts of a link: up to the last that has statements, each goes into a slot.
 
 ghost use Rattle.std.specs.Prelude.{◌≡◌, IfOk};
-ghost use Rattle.yield_rules.specs.Yields.{behind_last, has, settle, settle_one, settled};
+ghost use Rattle.pass_rules.specs.yield_rules.Yields.{behind_last, has, settle, settle_one, settled};
 
 use crate::build::{in_slot, keep};
 use crate::places::{deeper, next};
+use pass_rules::yield_rules::{Place, Settled, Spilled};
 use sqlite_items::Items;
 use std::alloc::{AllocError, Global};
 use std::collections::VecDeque;
-use yield_rules::{Place, Settled, Spilled};
 
 /// Whether statements stand before it.
 pub(crate) fn has(part: &Spilled) -> bool

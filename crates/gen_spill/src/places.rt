@@ -1,11 +1,11 @@
 //! Slots and labels.
 
 ghost use Rattle.std.specs.Prelude.{◌≡◌, ◌+◌, IfOk};
-ghost use Rattle.yield_rules.specs.Yields.{deeper, label, slot, under};
+ghost use Rattle.pass_rules.specs.yield_rules.Yields.{deeper, label, slot, under};
 
 use core_ast::{Label, Var};
+use pass_rules::yield_rules::Place;
 use std::alloc::AllocError;
-use yield_rules::Place;
 
 /// The first slot that is free.
 pub(crate) fn slot(place: Place) -> Var

@@ -4,16 +4,16 @@ ghost use Rattle.std.specs.Prelude.{◌≡◌, [], ◌∷◌, IfOk, OnOk};
 ghost use Rattle.core_ast.specs.Made.{linked};
 ghost use Rattle.core_ast.specs.declared.parts.CoreOp.TheVariants as op;
 ghost use Rattle.core_ast.specs.declared.tree.CoreLink.TheVariants as link;
-ghost use Rattle.yield_rules.specs.Yields.{base_check, deeper, fixed, in_slot, key_kept, last_of, referring, target, whole};
+ghost use Rattle.pass_rules.specs.yield_rules.Yields.{base_check, deeper, fixed, in_slot, key_kept, last_of, referring, target, whole};
 
 use crate::build::{in_slot, keep};
 use crate::places::deeper;
 use core_ast::{CoreExpr, CoreLink, CoreOp, CoreStat, Key, Primitive, act, linked};
 use es_outside::Site;
+use pass_rules::yield_rules::{Place, Reference};
 use shared_text::Units;
 use sqlite_items::Items;
 use std::alloc::{AllocError, Global};
-use yield_rules::{Place, Reference};
 
 /// The reference as a link.
 pub(crate) fn referring(alloc: Global, reference: Reference) -> CoreLink
@@ -83,7 +83,7 @@ fn last_of(keys: Items<CoreExpr>) -> Option<CoreExpr>
 }
 
 /// A reference whose base stands in a slot is kept.
-#[tactic(auto, unfolding(yield_rules::specs::Yields::fixed))]
+#[tactic(auto, unfolding(pass_rules::specs::yield_rules::Yields::fixed))]
 pub(crate) fn fix(
     alloc: Global,
     place: Place,
@@ -124,7 +124,7 @@ fn keyed_target(alloc: Global, place: Place, site: Option<Site>) -> Result<CoreE
 }
 
 /// The reference that was kept.
-#[tactic(auto, unfolding(yield_rules::specs::Yields::target))]
+#[tactic(auto, unfolding(pass_rules::specs::yield_rules::Yields::target))]
 pub(crate) fn target(
     alloc: Global,
     place: Place,

@@ -11,10 +11,10 @@ use Rattle.core_ast.specs.declared.tree.CoreLink.TheFolds.{the_lemmas}
 use Rattle.core_ast.specs.declared.tree.CoreLink.TheOpen as layer
 use Rattle.core_ast.specs.declared.tree.CoreLink.TheOpen.{CoreLink-F, CoreStat-F, CoreCase-F, CoreExpr-F}
 use Rattle.core_ast.specs.declared.tree.CoreLink.{CoreLink}
-use Rattle.state_rules.specs.States.{Branch, Part, add_all, case_step, caught, ensured, expr_step, expr_whole, finished, guarded, handled, headed, kept_region, link_step, looped, pair, part, stat_step, turned, under, within}
-use Rattle.state_rules.specs.declared.states.Completion.{Completion}
-use Rattle.state_rules.specs.declared.states.Machine.{Machine}
-use Rattle.state_rules.specs.declared.states.Place.{Place}
+use Rattle.pass_rules.specs.state_rules.States.{Branch, Part, add_all, case_step, caught, ensured, expr_step, expr_whole, finished, guarded, handled, headed, kept_region, link_step, looped, pair, part, stat_step, turned, under, within}
+use Rattle.pass_rules.specs.declared.state_rules.states.Completion.{Completion}
+use Rattle.pass_rules.specs.declared.state_rules.states.Machine.{Machine}
+use Rattle.pass_rules.specs.declared.state_rules.states.Place.{Place}
 
 loop_part : (ls : List Label) (t u : Option CoreExpr) (b : List CoreStat) → stat_step (layer.Loop ls (option_map expr_whole t) (option_map expr_whole u) (map part b)) ≡ part (stat.Loop ls t u b)
 loop_part ls t u b = search (rules, the_lemmas)

@@ -6,8 +6,8 @@ use Rattle.core_ast.specs.declared.naming.Fresh.{Fresh}
 use Rattle.core_ast.specs.declared.whole.Core.{Core}
 use Rattle.core_ast.specs.declared.whole.CoreFunction.{CoreFunction}
 use Rattle.core_ast.specs.Lawful.{is_generator}
-use Rattle.yield_rules.specs.Yields.{Made}
-use Rattle.state_rules.specs.States.{all_functions, generator, one_function, with_machines}
+use Rattle.pass_rules.specs.yield_rules.Yields.{Made}
+use Rattle.pass_rules.specs.state_rules.States.{all_functions, generator, one_function, with_machines}
 use Rattle.gen_states.specs.Kept.{are_no_generators, has_no_generator}
 
 both : (a b : Bool) → (a && b) ≡ true → (a ≡ true) × (b ≡ true)

@@ -3,14 +3,14 @@
 ghost use Rattle.std.specs.Prelude.{◌≡◌, ◌+◌, [], max, true, IfOk};
 ghost use Rattle.core_ast.specs.Lawful.{is_generator};
 ghost use Rattle.gen_states.specs.Kept.{has_no_generator};
-ghost use Rattle.yield_rules.specs.Yields.{label_behind};
-ghost use Rattle.state_rules.specs.States.{all_functions, generator, machine, one_function, turn_label, with_machines};
+ghost use Rattle.pass_rules.specs.yield_rules.Yields.{label_behind};
+ghost use Rattle.pass_rules.specs.state_rules.States.{all_functions, generator, machine, one_function, turn_label, with_machines};
 
 use crate::walk::stats;
 use core_ast::{Core, CoreFunction, CoreKind, CoreStat, Fresh, Label, Mentions};
 use gen_machine::{close_body, next, outermost, registers, started, with_machine};
+use pass_rules::state_rules::{Machine, Registers};
 use sqlite_items::Items;
-use state_rules::{Machine, Registers};
 use std::alloc::{AllocError, Global};
 use std::collections::VecDeque;
 

@@ -2,7 +2,7 @@
 
 ghost use Rattle.std.specs.Prelude.{◌≡◌, ◌+◌, [], cond, length, map, option_map, IfOk, OnOk};
 ghost use Rattle.core_ast.specs.declared.tree.CoreStat.TheVariants as stat;
-ghost use Rattle.state_rules.specs.States.{add, add_all, add_case, add_cases, begins, branch, dispatched, dispatching, ends, expr_whole, finished, guarded, handled, headed, kept_region, pair, part, says, turned, under, unwinds, within, yielded};
+ghost use Rattle.pass_rules.specs.state_rules.States.{add, add_all, add_case, add_cases, begins, branch, dispatched, dispatching, ends, expr_whole, finished, guarded, handled, headed, kept_region, pair, part, says, turned, under, unwinds, within, yielded};
 
 use core_ast::{CoreCase, CoreExpr, CoreStat, Label, Var};
 use gen_copies::{copied_expr, copied_stat, stays_alone};
@@ -11,8 +11,8 @@ use gen_machine::{
     next, open_finally, open_handler, open_label, open_last, open_region, push_case, returned,
     says, sum, turned, yielded,
 };
+use pass_rules::state_rules::{Completion, Machine, Place};
 use sqlite_items::Items;
-use state_rules::{Completion, Machine, Place};
 use std::alloc::{AllocError, Global};
 
 /// A statement that stays as it is, if it does.

@@ -1,5 +1,5 @@
 use Rattle.std.proofs.Common.{◌≡◌, ◌++◌, drop, map}
-use Rattle.state_rules.specs.States.{branch, expr_whole, link_whole, part, whole_cases, wholes}
+use Rattle.pass_rules.specs.state_rules.States.{branch, expr_whole, link_whole, part, whole_cases, wholes}
 use Rattle.gen_copies.proofs.copies.+copies.Given as goal
 
 abbrev pub invariant-links-loop-one : goal.invariant-links-loop-one

@@ -1,5 +1,5 @@
 use Rattle.std.proofs.Common.{◌≡◌, drop, map}
-use Rattle.state_rules.specs.States.{all_stay, branch, cases_stay, part}
+use Rattle.pass_rules.specs.state_rules.States.{all_stay, branch, cases_stay, part}
 use Rattle.gen_copies.proofs.staying.+staying.Given as goal
 
 abbrev pub invariant-all_stay-loop-one : goal.invariant-all_stay-loop-one

@@ -1,5 +1,5 @@
 use Rattle.std.proofs.Common.{◌≡◌, [], drop}
-use Rattle.yield_rules.specs.Yields.{all_functions}
+use Rattle.pass_rules.specs.yield_rules.Yields.{all_functions}
 use Rattle.gen_flatten.proofs.pass.all_functions.Given as goal
 
 abbrev pub invariant-loop-function : goal.invariant-loop-function

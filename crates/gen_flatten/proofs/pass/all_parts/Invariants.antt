@@ -1,5 +1,5 @@
 use Rattle.std.proofs.Common.{◌≡◌, [], drop}
-use Rattle.yield_rules.specs.Yields.{all_parts}
+use Rattle.pass_rules.specs.yield_rules.Yields.{all_parts}
 use Rattle.gen_flatten.proofs.pass.all_parts.Given as goal
 
 abbrev pub invariant-loop-part : goal.invariant-loop-part

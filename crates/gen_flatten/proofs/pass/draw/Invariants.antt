@@ -1,5 +1,5 @@
 use Rattle.std.proofs.Common.{◌≡◌}
-use Rattle.yield_rules.specs.Yields.{drawn}
+use Rattle.pass_rules.specs.yield_rules.Yields.{drawn}
 use Rattle.gen_flatten.proofs.pass.draw.Given as goal
 
 abbrev pub invariant-loop-i : goal.invariant-loop-i

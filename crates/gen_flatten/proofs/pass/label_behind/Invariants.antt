@@ -1,5 +1,5 @@
 use Rattle.std.proofs.Common.{◌≡◌, drop}
-use Rattle.yield_rules.specs.Yields.{label_behind}
+use Rattle.pass_rules.specs.yield_rules.Yields.{label_behind}
 use Rattle.gen_flatten.proofs.pass.label_behind.Given as goal
 
 abbrev pub invariant-loop-label : goal.invariant-loop-label

@@ -1,5 +1,5 @@
 use Rattle.std.proofs.Common.{◌≡◌, drop}
-use Rattle.yield_rules.specs.Yields.{name_behind}
+use Rattle.pass_rules.specs.yield_rules.Yields.{name_behind}
 use Rattle.gen_flatten.proofs.pass.name_behind.Given as goal
 
 abbrev pub invariant-loop-var : goal.invariant-loop-var

@@ -1,5 +1,5 @@
 use Rattle.std.proofs.Common.{◌≡◌, ◌++◌, drop, map}
-use Rattle.yield_rules.specs.Yields.{slot_name}
+use Rattle.pass_rules.specs.yield_rules.Yields.{slot_name}
 use Rattle.gen_flatten.proofs.pass.push_slot_names.Given as goal
 
 abbrev pub invariant-loop-slot : goal.invariant-loop-slot

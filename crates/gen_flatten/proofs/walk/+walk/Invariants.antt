@@ -1,5 +1,5 @@
 use Rattle.std.proofs.Common.{◌≡◌, ◌++◌, drop, map}
-use Rattle.yield_rules.specs.Yields.{all_at, case_spilled, cases_at, each_at, expr_spilled, link_spilled, stat_spilled}
+use Rattle.pass_rules.specs.yield_rules.Yields.{all_at, case_spilled, cases_at, each_at, expr_spilled, link_spilled, stat_spilled}
 use Rattle.gen_flatten.proofs.walk.+walk.Given as goal
 
 abbrev pub invariant-links-loop-one : goal.invariant-links-loop-one

@@ -1,5 +1,5 @@
 use Rattle.std.proofs.Common.{◌≡◌, drop}
-use Rattle.state_rules.specs.States.{found}
+use Rattle.pass_rules.specs.state_rules.States.{found}
 use Rattle.gen_machine.proofs.jumps.found.Given as goal
 
 abbrev pub invariant-loop-target : goal.invariant-loop-target

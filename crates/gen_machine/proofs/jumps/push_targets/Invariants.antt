@@ -1,5 +1,5 @@
 use Rattle.std.proofs.Common.{◌≡◌, ◌++◌, drop, map}
-use Rattle.state_rules.specs.States.{target}
+use Rattle.pass_rules.specs.state_rules.States.{target}
 use Rattle.gen_machine.proofs.jumps.push_targets.Given as goal
 
 abbrev pub invariant-loop-label : goal.invariant-loop-label

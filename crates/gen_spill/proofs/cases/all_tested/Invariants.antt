@@ -1,5 +1,5 @@
 use Rattle.std.proofs.Common.{◌≡◌, [], length}
-use Rattle.yield_rules.specs.Yields.{all_tested}
+use Rattle.pass_rules.specs.yield_rules.Yields.{all_tested}
 use Rattle.gen_spill.proofs.cases.all_tested.Given as goal
 
 abbrev pub invariant-loop-case : goal.invariant-loop-case

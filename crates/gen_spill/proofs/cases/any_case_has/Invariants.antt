@@ -1,5 +1,5 @@
 use Rattle.std.proofs.Common.{◌≡◌, drop}
-use Rattle.yield_rules.specs.Yields.{any_case_has}
+use Rattle.pass_rules.specs.yield_rules.Yields.{any_case_has}
 use Rattle.gen_spill.proofs.cases.any_case_has.Given as goal
 
 abbrev pub invariant-loop-case : goal.invariant-loop-case

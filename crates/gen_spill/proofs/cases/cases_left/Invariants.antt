@@ -1,5 +1,5 @@
 use Rattle.std.proofs.Common.{◌≡◌, ◌++◌, length}
-use Rattle.yield_rules.specs.Yields.{cases_before, cases_left}
+use Rattle.pass_rules.specs.yield_rules.Yields.{cases_before, cases_left}
 use Rattle.gen_spill.proofs.cases.cases_left.Given as goal
 
 abbrev pub invariant-loop-case : goal.invariant-loop-case

@@ -1,5 +1,5 @@
 use Rattle.std.proofs.Common.{◌≡◌, drop}
-use Rattle.yield_rules.specs.Yields.{behind_last}
+use Rattle.pass_rules.specs.yield_rules.Yields.{behind_last}
 use Rattle.gen_spill.proofs.parts.behind_last.Given as goal
 
 abbrev pub invariant-loop-part : goal.invariant-loop-part

@@ -1,5 +1,5 @@
 use Rattle.std.proofs.Common.{◌≡◌, length}
-use Rattle.yield_rules.specs.Yields.{settle}
+use Rattle.pass_rules.specs.yield_rules.Yields.{settle}
 use Rattle.gen_spill.proofs.parts.settle.Given as goal
 
 abbrev pub invariant-loop-part : goal.invariant-loop-part

@@ -1,5 +1,5 @@
 use Rattle.std.proofs.Common.{◌≡◌, [], length}
-use Rattle.state_rules.specs.States.{all_functions}
+use Rattle.pass_rules.specs.state_rules.States.{all_functions}
 use Rattle.gen_states.proofs.pass.all_functions.Given as goal
 
 abbrev pub invariant-loop-function : goal.invariant-loop-function

@@ -1,5 +1,5 @@
 use Rattle.std.proofs.Common.{◌≡◌, drop, map}
-use Rattle.state_rules.specs.States.{add_all, add_cases, branch, part}
+use Rattle.pass_rules.specs.state_rules.States.{add_all, add_cases, branch, part}
 use Rattle.gen_states.proofs.walk.+walk.Given as goal
 
 abbrev pub invariant-stats-loop-one : goal.invariant-stats-loop-one

@@ -1,5 +1,5 @@
 use Rattle.std.proofs.Common.{◌≡◌, ◌++◌, drop, map}
-use Rattle.state_rules.specs.States.{branch, dispatched}
+use Rattle.pass_rules.specs.state_rules.States.{branch, dispatched}
 use Rattle.gen_states.proofs.walk.dispatched.Given as goal
 
 abbrev pub invariant-loop-one : goal.invariant-loop-one

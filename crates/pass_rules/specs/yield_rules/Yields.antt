@@ -37,14 +37,14 @@ use Rattle.core_ast.specs.Lawful.{is_empty}
 use Rattle.core_ast.specs.Mentions.{function_mentions, part_mentions}
 use Rattle.core_ast.specs.Made.{act, acting, constant, expression, linked, undefined, variable}
 use Rattle.core_ast.specs.Names.{next, with_hint}
-use Rattle.yield_rules.specs.declared.spilling.Chain.{Chain}
-use Rattle.yield_rules.specs.declared.spilling.Matching.{Matching}
-use Rattle.yield_rules.specs.declared.spilling.Place.{Place}
-use Rattle.yield_rules.specs.declared.spilling.Reference.{Reference}
-use Rattle.yield_rules.specs.declared.spilling.Reference.TheVariants.{Named, Keyed}
-use Rattle.yield_rules.specs.declared.spilling.Settled.{Settled}
-use Rattle.yield_rules.specs.declared.spilling.Spilled.{Spilled}
-use Rattle.yield_rules.specs.declared.spilling.SpilledCase.{SpilledCase}
+use Rattle.pass_rules.specs.declared.yield_rules.spilling.Chain.{Chain}
+use Rattle.pass_rules.specs.declared.yield_rules.spilling.Matching.{Matching}
+use Rattle.pass_rules.specs.declared.yield_rules.spilling.Place.{Place}
+use Rattle.pass_rules.specs.declared.yield_rules.spilling.Reference.{Reference}
+use Rattle.pass_rules.specs.declared.yield_rules.spilling.Reference.TheVariants.{Named, Keyed}
+use Rattle.pass_rules.specs.declared.yield_rules.spilling.Settled.{Settled}
+use Rattle.pass_rules.specs.declared.yield_rules.spilling.Spilled.{Spilled}
+use Rattle.pass_rules.specs.declared.yield_rules.spilling.SpilledCase.{SpilledCase}
 
 -- ---- slots
 

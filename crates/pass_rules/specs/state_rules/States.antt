@@ -25,12 +25,12 @@ use Rattle.core_ast.specs.Lawful.{has_label, is_generator}
 use Rattle.core_ast.specs.Mentions.{function_mentions}
 use Rattle.core_ast.specs.Made.{act, acting, expression, linked, undefined, variable}
 use Rattle.core_ast.specs.Names.{next, with_hint}
-use Rattle.yield_rules.specs.Yields.{Made, case_of, is_same, label_behind, number, two, when}
-use Rattle.state_rules.specs.declared.states.Completion.{Completion}
-use Rattle.state_rules.specs.declared.states.Machine.{Machine}
-use Rattle.state_rules.specs.declared.states.Place.{Place}
-use Rattle.state_rules.specs.declared.states.Registers.{Registers}
-use Rattle.state_rules.specs.declared.states.Target.{Target}
+use Rattle.pass_rules.specs.yield_rules.Yields.{Made, case_of, is_same, label_behind, number, two, when}
+use Rattle.pass_rules.specs.declared.state_rules.states.Completion.{Completion}
+use Rattle.pass_rules.specs.declared.state_rules.states.Machine.{Machine}
+use Rattle.pass_rules.specs.declared.state_rules.states.Place.{Place}
+use Rattle.pass_rules.specs.declared.state_rules.states.Registers.{Registers}
+use Rattle.pass_rules.specs.declared.state_rules.states.Target.{Target}
 
 -- ---- small statements
 

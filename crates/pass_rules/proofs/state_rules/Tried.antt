@@ -4,9 +4,9 @@ use Rattle.std.proofs.Common.{◌≡◌, List, [], ◌∷◌, false, None, Some,
 use Rattle.core_ast.specs.declared.naming.Fresh.{Fresh}
 use Rattle.core_ast.specs.declared.tree.CoreLink.TheOpen as layer
 use Rattle.core_ast.specs.Made.{undefined}
-use Rattle.yield_rules.specs.Yields.{case_of, number}
-use Rattle.state_rules.specs.declared.states.Registers.{Registers}
-use Rattle.state_rules.specs.States.{given, goes, handed_on, last_row, machine_of, moved, moves, outermost, pair, set_number, stat_step, unwinds, Part}
+use Rattle.pass_rules.specs.yield_rules.Yields.{case_of, number}
+use Rattle.pass_rules.specs.declared.state_rules.states.Registers.{Registers}
+use Rattle.pass_rules.specs.state_rules.States.{given, goes, handed_on, last_row, machine_of, moved, moves, outermost, pair, set_number, stat_step, unwinds, Part}
 
 abbrev pub yields : List Part
 yields = stat_step (layer.Yield (number 7) None (record { 0 = 5 })) ∷ []
