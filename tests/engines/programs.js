@@ -1,6 +1,7 @@
 // Builds whole programs and compares what the scripts do in each engine with what the modules mean: the folders of programs/, each with its modules,
-// the hosts' answers and the expected lines; or random programs, whose lines are those of node's own modules.
-// Usage: node --expose-internals --experimental-vm-modules programs.js ES5C folders [NAME ..] | random SEED COUNT
+// the hosts' answers and the expected lines; or random programs, whose lines are those of node's own modules. `split` makes a script for each
+// module, of the folders that have several.
+// Usage: node --expose-internals --experimental-vm-modules programs.js ES5C folders [NAME ..] | split [NAME ..] | random SEED COUNT
 //
 // Of a folder, `expected` is held to node's own modules too. Where these differ from the rules, the file `why` says so; `without` has a line
 // `ENGINE: reason` for each small engine that is at fault itself. That they do differ is seen in both cases.
@@ -9,7 +10,8 @@ const { spawnSync } = require('child_process');
 const fs = require('fs');
 const os = require('os');
 const path = require('path');
-const { runModules, runScript, runEngine, mappedPlaces, ownPlaces, hasPackage } = require('./programs_run.js');
+const { runModules, runScripts, runEngine, toldBy, mappedPlaces, ownPlaces, hasPackage } = require('./programs_run.js');
+const { scriptsOf, textFaults } = require('./split_texts.js');
 const { randomProgram } = require('./random_programs.js');
 
 const [command, kind, ...rest] = process.argv.slice(2);
@@ -25,29 +27,33 @@ function difference(wanted, got) {
   return null;
 }
 
-// What `build` answers: a script or a fault.
+// What `build` or `split` answers: scripts or a fault.
 function built(folder) {
-  const { status, stdout, stderr, error } = spawnSync(command, ['build', 'main.js'], { cwd: folder, encoding: 'utf8', maxBuffer: 1 << 28 });
+  const words = [kind === 'split' ? 'split' : 'build', 'main.js'];
+  const { status, stdout, stderr, error } = spawnSync(command, words, { cwd: folder, maxBuffer: 1 << 28 });
   if (error) return { fault: String(error) };
-  if (status === 0 && stderr === '') return { script: stdout };
-  return { fault: `status ${status}, ${stderr.trimEnd()}` };
+  if (status !== 0 || stderr.length > 0) return { fault: `status ${status}, ${stderr.toString().trimEnd()}` };
+  if (kind !== 'split') return { scripts: [{ name: 'the script', text: stdout.toString() }] };
+  const scripts = scriptsOf(stdout);
+  const faults = textFaults(scripts);
+  return faults.length > 0 ? { fault: faults.join('; ') } : { scripts };
 }
 
-// The faults of a script against the lines that it has to give and the modules' own run.
-async function scriptFaults(program, script, modules) {
+// The faults of scripts against the lines that they have to give and the modules' own run.
+async function scriptFaults(program, scripts, modules) {
   const faults = [];
   const fault = (engine, text) => { if (text) faults.push(`in ${engine} ${text}`); };
-  const run = runScript(script, program.answers);
+  const run = runScripts(scripts, program.answers);
   fault('node', difference(program.expected, run.lines));
-  if (run.left.length > 0) fault('node', `the script looks up or changes ${run.left[0]}`);
-  const mapped = await mappedPlaces(script, run);
+  if (run.left.length > 0) fault('node', `a script looks up or changes ${run.left[0]}`);
+  const mapped = await mappedPlaces(scripts, run);
   const own = ownPlaces(program.files, modules);
   if (program.why === undefined) fault('the map', difference(own.places, mapped));
   // the modules' own run is another one, so any call of the host will do
   else mapped.forEach((place, i) => { if (!own.hostCalls.get(run.lines[i].replace(/\(.*/, '')).includes(place)) fault('the map', `event ${i + 1} is at ${place}`); });
   for (const engine of engines) {
     if (kind === 'random' && program.without.includes(engine)) continue;
-    const differs = difference(program.expected, runEngine(engine, work, script, program.answers));
+    const differs = difference(toldBy(engine, scripts, program.expected), runEngine(engine, work, scripts, program.answers));
     fault(engine, program.without.includes(engine) ? differs ? null : 'nothing differs, so `without` is needless' : differs);
   }
   return faults;
@@ -105,9 +111,9 @@ function expectedFault(program, modules) {
       if (program.why !== undefined) told['by hand']++;
     }
     events += program.expected.length - 1;
-    const { script, fault } = built(program.folder);
+    const { scripts, fault } = built(program.folder);
     if (fault) { fail(program.name, fault); return; }
-    const faults = await scriptFaults(program, script, modules);
+    const faults = await scriptFaults(program, scripts, modules);
     if (faults.length > 0) fail(program.name, faults.join('; '));
     else told.alike++;
   };
@@ -117,12 +123,14 @@ function expectedFault(program, modules) {
     programs = count;
     for (let turn = 0; turn < count; turn++) await check(randomOf(seed + turn));
   } else {
-    const names = rest.length > 0 ? rest : fs.readdirSync(path.join(__dirname, 'programs')).sort();
-    programs = names.length;
-    for (const name of names) await check(programOf(name));
+    const all = fs.readdirSync(path.join(__dirname, 'programs')).sort().map(programOf);
+    const chosen = all.filter(({ name, files }) => rest.length > 0 ? rest.includes(name) : kind === 'folders' || Object.keys(files).length > 1);
+    programs = chosen.length;
+    for (const program of chosen) await check(program);
   }
   const out = `${told['refused by node']} refused by node, ${told['outside the profile']} outside the profile and ${told['still running']} still running left out`;
-  console.log(`programs: ${programs} ${kind === 'random' ? `random, ${out}` : `folders, ${told['by hand']} expected by hand`}, ${events} events; ` +
+  const shown = kind === 'random' ? `random, ${out}` : `folders${kind === 'split' ? ' split' : ''}, ${told['by hand']} expected by hand`;
+  console.log(`programs: ${programs} ${shown}, ${events} events; ` +
     `${told.alike} alike in ${['node', ...engines].join(', ')}, places ${hasPackage ? 'also by the package source-map' : 'by node alone'}, ${told.failed} failed`);
   process.exitCode = told.failed === 0 ? 0 : 1;
 })();

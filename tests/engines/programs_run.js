@@ -1,5 +1,6 @@
-// Runs a program's modules in node's own modules, and a built script in node, in a realm cut down to the library of the 5.1 edition, and in small
-// engines. A run gives lines, an event or the ending each, and what it did outside the profile; in node each event has the place of its call.
+// Runs a program's modules in node's own modules, and its scripts in node, in a realm cut down to the library of the 5.1 edition, and in small
+// engines. A script has a name and a text. A run gives lines, an event or the ending each, and what it did outside the profile; in node each event has
+// the place of its call.
 'use strict';
 const { spawnSync } = require('child_process');
 const fs = require('fs');
@@ -111,15 +112,18 @@ async function runModules(files, answers) {
   return run;
 }
 
-function runScript(text, answers) {
+// The scripts run in their order in one realm; where one throws, the rest isn't run.
+function runScripts(scripts, answers) {
   const context = vm.createContext({});
-  const run = runIn(context, answers, ['the script']);
+  const run = runIn(context, answers, scripts.map(({ name }) => name));
   const cutRealm = vm.runInContext(`(function () { ${own('programs_realm.js')} return cutRealm; })()`, context);
   const global = vm.runInContext('this', context);
   const check = cutRealm(global, (name) => run.left.push(name));
   Object.assign(context, run.hosts);
   const thrown = [];
-  try { vm.runInContext(text, context, { filename: 'the script', ...limit }); } catch (error) { thrown.push(error); }
+  try {
+    for (const { name, text } of scripts) vm.runInContext(text, context, { filename: name, ...limit });
+  } catch (error) { thrown.push(error); }
   end(run, thrown);
   check();
   return run;
@@ -141,16 +145,17 @@ async function packageTargets(map) {
   return targets;
 }
 
-// The places of the script's events in the modules, by its inline map, node's own reader of maps and the package source-map.
-async function mappedPlaces(text, run) {
+// What takes the place of a call of a script to its place in the modules, by the script's inline map, node's own reader of maps and the package
+// source-map.
+async function placesBy(text) {
   const line = text.trimEnd().split('\n').pop();
   const front = '//# sourceMappingURL=data:application/json;base64,';
-  if (!line.startsWith(front)) return run.places.map(() => 'no map');
+  if (!line.startsWith(front)) return () => 'no map';
   const read = JSON.parse(Buffer.from(line.slice(front.length), 'base64').toString('utf8'));
   const map = new SourceMap(read);
   const targets = await packageTargets(read);
   const { calls } = callsOf(text, 'script');
-  return run.places.map(([, place]) => {
+  return (place) => {
     if (!calls.has(place)) return `no call at ${place} of the script`;
     const start = calls.get(place).start;
     const [line, column] = start.split(':').map(Number);
@@ -159,7 +164,14 @@ async function mappedPlaces(text, run) {
     const target = `${entry.originalSource}:${entry.originalLine + 1}:${entry.originalColumn}`;
     if (targets && targets.get(start) !== target) return `${target} by node and ${targets.get(start)} by the package source-map`;
     return target;
-  });
+  };
+}
+
+// The places of the scripts' events in the modules, each by the map of the script in which it is.
+async function mappedPlaces(scripts, run) {
+  const places = new Map();
+  for (const { name, text } of scripts) places.set(name, await placesBy(text));
+  return run.places.map(([name, place]) => places.has(name) ? places.get(name)(place) : name);
 }
 
 // The places of the modules' own events, and those of all calls of a host by the host's name.
@@ -178,25 +190,37 @@ function ownPlaces(files, run) {
   return { places, hostCalls };
 }
 
-// The lines of a script in an engine whose one way to write a line is `print`. mujs loads a script by its path, duktape by its text.
-function runEngine(engine, folder, text, answers) {
-  const script = path.join(folder, 'script.js');
-  fs.writeFileSync(script, text);
-  const run = engine === 'mujs' ? `load(${JSON.stringify(script)})` : `(0, eval)(${JSON.stringify(text)})`;
-  const plain = path.join(folder, `${engine}.js`);
-  fs.writeFileSync(plain, `var say = print;
+// The lines of scripts in an engine whose one way to write a line is `print`. mujs loads each by its path. duktape is handed one by its text, and
+// several as files, since what they have at their top level must be global: then it tells what ends them itself, and the last line is `threw` alone.
+function runEngine(engine, folder, scripts, answers) {
+  const file = (name, text) => {
+    fs.writeFileSync(path.join(folder, name), text);
+    return path.join(folder, name);
+  };
+  const paths = scripts.map(({ text }, at) => file(`script${at}.js`, text));
+  const asFiles = engine !== 'mujs' && scripts.length > 1;
+  const run = engine === 'mujs' ? paths.map((path) => `load(${JSON.stringify(path)});`).join(' ') : `(0, eval)(${JSON.stringify(scripts[0].text)});`;
+  const hosts = `var say = print;
 ${hostsText}
 var kinds = { Error: Error, TypeError: TypeError, ReferenceError: ReferenceError, RangeError: RangeError };
 var program = programHosts(say, ${JSON.stringify(answers)}, ${JSON.stringify(hostNames)}, kinds), name, ending = 'ended';
 for (name in program.hosts) this[name] = program.hosts[name];
-try { ${run}; }
+`;
+  const caught = `try { ${run} }
 catch (error) { ending = program.ending(error); }
 say(ending);
-`);
-  const { stdout, stderr, signal } = spawnSync(engine, [plain], { encoding: 'utf8', timeout: 60000 });
+`;
+  const words = asFiles ? [file('hosts.js', hosts), ...paths, file('end.js', 'say(ending);\n')] : [file(`${engine}.js`, hosts + caught)];
+  const { status, stdout, stderr, signal } = spawnSync(engine, words, { encoding: 'utf8', timeout: 60000 });
   const lines = stdout.split('\n').slice(0, -1);
   if (signal) lines.push('still running');
+  else if (asFiles) return status === 0 ? lines : [...lines, 'threw'];
   return stderr ? [...lines, ...stderr.trimEnd().split('\n')] : lines;
 }
 
-module.exports = { runModules, runScript, runEngine, mappedPlaces, ownPlaces, hasPackage: library !== null };
+// What an engine can tell of a run with these lines, if it is handed so many scripts.
+function toldBy(engine, scripts, lines) {
+  return engine === 'mujs' || scripts.length === 1 ? lines : lines.map((line, at) => at === lines.length - 1 ? line.replace(/^threw .*/, 'threw') : line);
+}
+
+module.exports = { runModules, runScripts, runEngine, toldBy, mappedPlaces, ownPlaces, hasPackage: library !== null };

@@ -46,6 +46,9 @@ if (/^v20\./.test(process.version)) {
   hold('the places of node', lines.join('\n'), run(command.slice(2)));
 }
 
+const [split, ...names] = begun('$ ./es5c split').split('\n');
+hold('the scripts of `split`', names.join('\n'), run(split.slice(2)));
+
 // each command line and what stands below it
 for (const block of blocks.filter((text) => text.startsWith('$ printf'))) {
   for (const [, line, expected] of block.matchAll(/^\$ (.*)\n((?:(?!\$ ).*\n)*)/gm)) hold(line, expected, run(line));

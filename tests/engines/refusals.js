@@ -153,10 +153,42 @@ refused('one too many before it is missing', full, 'main.js:1024:27: too many mo
 
 // 6. Words.
 const usage = 'usage: es5c build ENTRY / split ENTRY / rebuild ENTRY LIST / run ENTRY [--steps N] / run5 SCRIPT [--steps N] / map SCRIPT / sample N';
-for (const wrong of [[], ['build'], ['build', ''], ['build', '/'], ['build', 'a/..'], ['build', 'main.js', 'main.js'], ['build', '--steps=1', 'main.js'], ['build', '-m.js'], ['build', '--help'], ['--version'], ['run'], ['run', '--steps=0', 'main.js'], ['run', '--steps'], ['sample', '1001'], ['link', 'main.js']]) {
+for (const wrong of [[], ['build'], ['build', ''], ['build', '/'], ['build', 'a/..'], ['build', 'main.js', 'main.js'], ['build', '--steps=1', 'main.js'], ['build', '-m.js'], ['build', '--help'], ['--version'], ['run'], ['run', '--steps=0', 'main.js'], ['run', '--steps'], ['run', '--steps', 'main.js'], ['run5', '--steps=1099511627777', 'main.js'], ['rebuild', 'main.js'], ['sample', '1001'], ['link', 'main.js']]) {
   compare('words: ' + JSON.stringify(wrong), { 'main.js': '' }, wrong, 2, usage);
+}
+for (const words of [['build', './a/..//main.js'], ['build', '--', 'main.js']]) compare(`words: ${words.join(' ')}`, { 'main.js': '' }, words, 0, '', '"use strict";\n');
+for (const words of [['rebuild', 'main.js', 'list.txt'], ['run', 'main.js', '--steps', '7'], ['run5', 'main.js'], ['sample', '1000']]) {
+  compare(`words: ${words.join(' ')}`, { 'main.js': '' }, words, 1, `${words[0]}: not built`);
+}
+
+// 7. What is written: scripts of the first forms, worked by hand from their rules, and the text of a map.
+for (const [text, script] of [
+  ['import {print} from "host";\nprint(1+2);', 'print(1 + 2);\n'],
+  ['import {print, count} from "host";\nconst a = count(); let b = a + "x"; print(b, 1 + 2);\n', 'var a$ = count();\nvar b$ = a$ + "x";\nprint(b$, 1 + 2);\n'],
+  ['let print = 9007199254740991;', 'var print$ = 9007199254740991;\n'],
+]) compare(`built: ${text}`, { 'main.js': text }, ['build', 'main.js'], 0, '', `"use strict";\n${script}`);
+const mapped = (mappings) => '"use strict";\n//# sourceMappingURL=data:application/json;base64,' +
+  Buffer.from(`{"version":3,"sources":["a.js"],"names":[],"mappings":"${mappings}"}`).toString('base64') + '\n';
+compare('a map', { 'main.js': mapped('AAAA') }, ['map', 'main.js'], 0, '', '{"version":3,"sources":["a.js"],"names":[],"mappings":"AAAA"}\n');
+compare('no map', { 'main.js': '1;' }, ['map', 'main.js'], 1, 'main.js: map fault NoMap');
+compare('a source that is none', { 'main.js': mapped('AAAA,AAAA') }, ['map', 'main.js'], 1, 'main.js: map fault BadIndex at 5');
+
+// 8. What can't be written: the output, or the line of a refusal.
+if (fs.existsSync('/dev/full')) {
+  const fullDisk = fs.openSync('/dev/full', 'w');
+  const folder = path.join(work, 'full');
+  fs.mkdirSync(folder);
+  for (const [text, stdio] of [['', ['ignore', fullDisk, 'pipe']], ['*', ['ignore', 'pipe', fullDisk]]]) {
+    fs.writeFileSync(path.join(folder, 'main.js'), text);
+    const run = spawnSync(program, ['build', 'main.js'], { cwd: folder, stdio });
+    compared++;
+    const rest = run.stdout || run.stderr;
+    if (run.status === 4 && rest.length === 0) continue;
+    failed++;
+    console.log(`refusals: a full disk: wanted 4, got ${run.status} and ${JSON.stringify(rest.toString().slice(0, 300))}`);
+  }
 }
 
 fs.rmSync(work, { recursive: true });
 console.log(`refusals: ${compared} compared, ${failed} differ`);
-process.exit(failed === 0 && compared >= 540 ? 0 : 1);
+process.exit(failed === 0 && compared >= 558 ? 0 : 1);

@@ -6,7 +6,8 @@ const { spawnSync } = require('child_process');
 const fs = require('fs');
 const os = require('os');
 const path = require('path');
-const { runScript, runEngine, mappedPlaces } = require('./programs_run.js');
+const { runScripts, runEngine, toldBy, mappedPlaces } = require('./programs_run.js');
+const { scriptsOf, textFaults } = require('./split_texts.js');
 const { rows, host } = require('./rows_data.js');
 
 const [command, ...only] = process.argv.slice(2);
@@ -24,8 +25,8 @@ function same(got, status, out, error) {
   return `status ${got.status}, ${JSON.stringify(got.stderr.slice(0, 300))}${out === undefined ? '' : ` and ${got.stdout.length} characters on the output`}, not ${status}, ${JSON.stringify(error)}`;
 }
 
-// What `map` says of a script, and where the events stand.
-async function mapFault(row, folder, script, events) {
+// What `map` says of a script.
+function mapFault(row, folder, script) {
   fs.writeFileSync(path.join(folder, 'script.js'), script);
   const mapped = run(folder, ['map', 'script.js']);
   if (row.unmapped) return same(mapped, 1, '', 'script.js: map fault NoMap\n');
@@ -36,7 +37,12 @@ async function mapFault(row, folder, script, events) {
   if (fault) return `map: ${fault}`;
   const { version, sources, names } = JSON.parse(text);
   if (version !== 3 || names.length > 0 || row.map && JSON.stringify(sources) !== JSON.stringify(row.map)) return `map: ${text.slice(0, 200)}`;
-  const wrong = (await mappedPlaces(script, events)).find((place) => {
+  return null;
+}
+
+// Where the events stand.
+async function placeFault(row, folder, scripts, events) {
+  const wrong = (await mappedPlaces(scripts, events)).find((place) => {
     const [name, at, column] = place.split(':');
     if (row.at && name !== row.at || !fs.existsSync(path.join(folder, name))) return true;
     return !/^(print|read|count)\b/.test(fs.readFileSync(path.join(folder, name), 'utf8').split('\n')[at - 1].slice(column));
@@ -44,10 +50,10 @@ async function mapFault(row, folder, script, events) {
   return wrong ? `an event is at ${wrong}` : null;
 }
 
-// How a run's lines differ from the row's.
-function difference(row, lines) {
-  const shown = row.leaves ? lines.slice(0, row.lines.length) : lines;
-  return shown.join('\n') === row.lines.join('\n') ? null : JSON.stringify(lines.slice(0, 12));
+// How a run's lines differ from these of the row.
+function difference(row, due, lines) {
+  const shown = row.leaves ? lines.slice(0, due.length) : lines;
+  return shown.join('\n') === due.join('\n') ? null : JSON.stringify(lines.slice(0, 12));
 }
 
 async function faultOf(row) {
@@ -63,20 +69,26 @@ async function faultOf(row) {
   if (row.refused) return same(built, row.status || 1, '', row.refused + '\n');
   const fault = same(built, 0, undefined, '');
   if (fault) return fault;
-  const script = built.stdout;
-  if (!script.startsWith('"use strict";\n')) return 'the script has no directive';
-  if (row.most && script.length > row.most) return `${script.length} characters`;
+  const isSplit = words[0] === 'split';
+  const scripts = isSplit ? scriptsOf(Buffer.from(built.stdout)) : [{ name: 'the script', text: built.stdout }];
+  if (isSplit && textFaults(scripts).length > 0) return textFaults(scripts).join('; ');
+  if (scripts.some(({ text }) => !text.startsWith('"use strict";\n'))) return 'a script has no directive';
+  if (row.most && built.stdout.length > row.most) return `${built.stdout.length} characters`;
   if (!row.lines) return null;
-  const events = runScript(script, row.answers || {});
-  const differs = difference(row, events.lines) || !row.leaves && events.left.length > 0 && `it leaves at ${events.left[0]}`;
+  const events = runScripts(scripts, row.answers || {});
+  const differs = difference(row, row.lines, events.lines) || !row.leaves && events.left.length > 0 && `it leaves at ${events.left[0]}`;
   if (differs) return `in node ${differs}`;
   for (const engine of engines) {
     const reason = (row.without || {})[engine];
-    const differs = difference(row, runEngine(engine, work, script, row.answers || {}));
+    const differs = difference(row, toldBy(engine, scripts, row.lines), runEngine(engine, work, scripts, row.answers || {}));
     if (differs && !reason) return `in ${engine} ${differs}`;
     if (!differs && reason) return `in ${engine} nothing differs, so \`without\` is needless`;
   }
-  return mapFault(row, folder, script, events);
+  for (const { text } of scripts) {
+    const fault = mapFault(row, folder, text);
+    if (fault) return fault;
+  }
+  return row.unmapped ? null : placeFault(row, folder, scripts, events);
 }
 
 (async () => {

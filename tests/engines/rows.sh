@@ -1,5 +1,5 @@
 #!/usr/bin/env bash
-# Plays rows of programs, written by hand, with `build` and `map`, and the scripts in each engine that is there. Usage: rows.sh [ES5C], where ES5C is a
+# Plays rows of programs, written by hand, with `build`, `split` and `map`, and the scripts in each engine that is there. Usage: rows.sh [ES5C], where ES5C is a
 # program in place of ours, by its whole path.
 source "$(dirname "$0")/acorn.bash"
 skip_without_acorn rows

@@ -243,6 +243,10 @@ export class K {
 }
 for (const count of [1, 10]) programs.push({ name: `the sample of ${count}`, at: 'main.js', ...sampleGraph(count) });
 
+// a program with a script for each module
+const split = (name) => ({ ...programs.find((row) => row.name === name), name: `${name}, split`, words: ['split', 'main.js'], map: undefined, unmapped: undefined });
+programs.push(...['no byte', 'a ring of two', 'a live import', 'tasks that a host picks', 'a host that throws while generators wait', 'the sample of 10'].map(split));
+
 const chain = (last) => {
   const files = { 'main.js': 'import "./m1.js";' };
   for (let i = 1; i < last; i++) files[`m${i}.js`] = `import "./m${i + 1}.js";`;
@@ -263,6 +267,8 @@ const others = [
   { name: 'a line end before =>', files: { 'main.js': 'let x = 1, f = x\n=> 1;' }, refused: 'main.js:2:1: syntax fault' },
   { name: 'a ring of stars', files: { 'main.js': 'import {k} from "./a.js";', 'a.js': ring('b'), 'b.js': ring('c'), 'c.js': ring('a') }, refused: 'main.js:1:9: unresolved name "k"' },
   { name: 'no entry', files: {}, refused: 'main.js: missing' },
+  { name: 'no entry to split', words: ['split', 'main.js'], files: {}, refused: 'main.js: missing' },
+  { name: 'a name that ends nowhere, split', words: ['split', 'main.js'], files: { 'main.js': 'import {k} from "./a.js";', 'a.js': '' }, refused: 'main.js:1:9: unresolved name "k"' },
   { name: 'an open text', text: 'let s = "ab', refused: 'main.js:2:9: lexical fault OpenString' },
   { name: 'a sign before a power', text: 'print(-2 ** 2);', refused: 'main.js:2:10: syntax fault' },
   { name: 'strictness beside a default', text: 'function f(a = 1) { "use strict"; }', refused: 'main.js:2:21: early error E25' },

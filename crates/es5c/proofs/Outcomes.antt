@@ -40,13 +40,14 @@ use Rattle.graph_refusals.specs.declared.fault.FileFault.TheVariants as in_file
 use Rattle.graph_refusals.specs.declared.fault.GraphFault.{GraphFault}
 use Rattle.graph_refusals.specs.declared.fault.GraphFault.TheVariants as graph_fault
 use Rattle.graph_refusals.specs.declared.fault.Refusal.{Refusal}
-use Rattle.graph_checks.specs.Checks.{HasGraphFault, IsRefusedFor, Passes, Refuses, by_files, by_reading}
-use Rattle.graph_checks.proofs.Entry.{entry_missing, entry_too_long, entry_unread}
+use Rattle.module_linker.specs.graph_checks.Checks.{HasGraphFault, IsRefusedFor, Passes, Refuses, by_files, by_reading}
+use Rattle.module_linker.proofs.graph_checks.Entry.{entry_missing, entry_too_long, entry_unread}
 use Rattle.module_linker.specs.Checking.{IsMadeOf}
 use Rattle.pipeline.specs.Compiled.{IsCompiled}
-use Rattle.graph_checks.proofs.Laws.{one_limit_refused, passes_or_refused, refuses_no_read}
+use Rattle.split_emit.specs.Split.{IsSplitText}
+use Rattle.module_linker.proofs.graph_checks.Laws.{one_limit_refused, passes_or_refused, refuses_no_read}
 use Rattle.es5c.specs.Lines.{graph_status_of, line_of, status_of, usage_line}
-use Rattle.es5c.specs.Outcome.{max_module_bytes, max_script_bytes, IsAccepted, IsBuilt, IsGraphScript, IsNoForm, RefusesEntry, in_graph, HasMap, HasNoMap, no_script, script_too_long, bad_map, IsMapText, OnFile, HasFault, GraphCause, IsToCome, Cause, subject, Written, HasAdded, Call, Makes, script, whole, map, IsLine, usage, refusal, IsReported, cut_output, cut_line, IsOutcome, IsCalm, IsDue, ComesWhenDue}
+use Rattle.es5c.specs.Outcome.{max_module_bytes, max_script_bytes, IsBuilt, IsSplitGraph, IsNoForm, RefusesEntry, in_graph, HasMap, HasNoMap, no_script, script_too_long, bad_map, IsMapText, OnFile, HasFault, GraphCause, IsToCome, Cause, subject, Written, HasAdded, Call, Makes, script, whole, scripts, map, IsLine, usage, refusal, IsReported, cut_output, cut_line, IsOutcome, IsCalm, IsDue, ComesWhenDue}
 use Rattle.es5c.specs.Parts.{map_fault_of, graph_fault_of, entry_refusal, IsEntryFault, IsBytesScript, formed, unformed, RefusesBytes, bytes_too_long, FitsBytes, IsBytesMap, FitsScript, Fits, IsFileScript, of_module, of_graph, IsFileMap, MadeBy, IsSaid, said, cut_off, unsaid, IsMisuseOutcome, IsFailOutcome, IsWritten, IsCommandOutcome, wrote, failed}
 
 same_some : {A : Type 0} {x y : A} → Some x ≡ Some y → x ≡ y
@@ -118,6 +119,9 @@ unmapped_file (Some content) read fault e (bad_map {fault = f} short no_map) =
 -- a graph that is compiled passes every check
 pub passes_built : {hosts : List (List ℕ)} {told : Option (List ℕ → Option (List ℕ))} {entry script : List ℕ} → IsBuilt hosts told entry script → Passes told hosts entry
 passes_built b = record { graph = b.graph; loaded = b.loads; endings = b.relinked.endings; linked = b.relinked.ends }
+
+pub passes_split : {hosts : List (List ℕ)} {told : Option (List ℕ → Option (List ℕ))} {entry bytes : List ℕ} → IsSplitGraph hosts told entry bytes → Passes told hosts entry
+passes_split g = record { graph = g.graph; loaded = g.loads; endings = g.relinked.endings; linked = g.relinked.ends }
 
 -- what the bytes of the entry hold against it
 bytes_refuse : (hosts : List (List ℕ)) (told : Option (List ℕ → Option (List ℕ))) (entry read : List ℕ) (old new : ℕ) (fault : Fault) → IfSome told (λ file. option_map (read_of max_module_bytes) (file entry) ≡ Some read) → RefusesBytes hosts entry read fault → Cause hosts (asked.build entry) told old new fault
@@ -201,6 +205,12 @@ pub built_at : (hosts list : List (List ℕ)) (told told2 : Option (List ℕ →
 built_at hosts list told told2 entry made e f m =
     let here : IsBuilt hosts told entry made.items = record { graph = m.graph; loads = m.loads; linked = m.is_made.linked; relinked = m.is_made.relinked; compiled = m.is_made.is_made } in
     subst (λ (t : Option (List ℕ → Option (List ℕ))). IsBuilt list t entry made.items) (sym f) (subst (λ (l : List (List ℕ)). IsBuilt l told entry made.items) (sym e) here)
+
+-- the scripts that are made of the entry's graph, for a list of the hosts' names
+pub split_at : (hosts list : List (List ℕ)) (told : Option (List ℕ → Option (List ℕ))) (entry : List ℕ) (made : Vec ℕ Global) → list ≡ hosts → IsMadeOf (λ g h (s : Vec ℕ Global). IsSplitText g h s.items) told entry list made → IsSplitGraph hosts told entry made.items
+split_at hosts list told entry made e m =
+    let here : IsSplitGraph list told entry made.items = record { graph = m.graph; loads = m.loads; linked = m.is_made.linked; relinked = m.is_made.relinked; split = m.is_made.is_made } in
+    subst (λ (l : List (List ℕ)). IsSplitGraph l told entry made.items) e here
 
 pub found_map : (files : Option (List ℕ → Option (List ℕ))) (path : List ℕ) (old new : ℕ) (read : List ℕ) (result : Result (Vec ℕ Global) CommandFault) → IfSome files (λ file. option_map (read_of max_script_bytes) (file path) ≡ Some read) → MatchResult result (λ s. IsBytesMap read s.items) (FitsScript read) → MatchResult result (λ s. IsFileMap files path s.items) (Fits [] (asked.map_of path) files old new)
 found_map files path old new read (Ok s) told b = record {
@@ -291,7 +301,7 @@ makes_script c entry _ command (of_graph g) = whole entry command g
 makes : (c : Call) (a : Asked) (bytes : List ℕ) → command_of c.words ≡ Some a → MadeBy c.hosts a c.files bytes → Makes c bytes
 makes c (asked.build entry) bytes command f = makes_script c entry bytes command f
 makes c (asked.map_of path) bytes command f = subst (λ (b : List ℕ). Makes c b) (sym f.line_is) (map f.text path command f.accepted f.is_map)
-makes c (asked.split entry) bytes command f = absurd f
+makes c (asked.split entry) bytes command f = scripts entry command f
 makes c (asked.rebuild entry list) bytes command f = absurd f
 makes c (asked.run entry steps) bytes command f = absurd f
 makes c (asked.run5 path steps) bytes command f = absurd f
@@ -349,21 +359,21 @@ unbuilt_status f g e k = ap status_of (e ∙ sym k)
 same_fault : (hosts : List (List ℕ)) (a : Asked) (file : List ℕ → Option (List ℕ)) (f g : Fault) → HasFault hosts a (Some file) f → HasFault hosts a (Some file) g → status_of f ≡ status_of g
 same_fault hosts (asked.build entry) file f g = one_status hosts file entry f g
 same_fault hosts (asked.map_of path) file f g = one_map_status (file path) f g
-same_fault hosts (asked.split entry) file f g = unbuilt_status f g
+same_fault hosts (asked.split entry) file f g = one_status hosts file entry f g
 same_fault hosts (asked.rebuild entry list) file f g = unbuilt_status f g
 same_fault hosts (asked.run entry steps) file f g = unbuilt_status f g
 same_fault hosts (asked.run5 path steps) file f g = unbuilt_status f g
 same_fault hosts (asked.sample n) file f g = unbuilt_status f g
 
 -- a cause is a fault of what the files tell, if no read failed
+entry_fault_told : (hosts : List (List ℕ)) (told : Option (List ℕ → Option (List ℕ))) (entry : List ℕ) (old new : ℕ) (r : Refusal) → (CountRose old new → ⊥) → IsRefusedFor told hosts entry old new r → RefusesEntry hosts told entry (InGraph r)
+entry_fault_told hosts told entry old new _ calm (by_files x) = in_graph x
+entry_fault_told hosts told entry old new _ calm (by_reading rose next) = absurd (calm rose)
+
 graph_fault_told : (hosts : List (List ℕ)) (a : Asked) (told : Option (List ℕ → Option (List ℕ))) (old new : ℕ) (r : Refusal) → (CountRose old new → ⊥) → GraphCause hosts a told old new r → HasFault hosts a told (InGraph r)
-graph_fault_told hosts (asked.build entry) told old new r calm h = by_cause r h
-  where
-    by_cause : (r : Refusal) → IsRefusedFor told hosts entry old new r → RefusesEntry hosts told entry (InGraph r)
-    by_cause _ (by_files x) = in_graph x
-    by_cause _ (by_reading rose next) = absurd (calm rose)
+graph_fault_told hosts (asked.build entry) told old new r calm h = entry_fault_told hosts told entry old new r calm h
 graph_fault_told hosts (asked.map_of path) told old new r calm h = absurd h
-graph_fault_told hosts (asked.split entry) told old new r calm h = absurd h
+graph_fault_told hosts (asked.split entry) told old new r calm h = entry_fault_told hosts told entry old new r calm h
 graph_fault_told hosts (asked.rebuild entry list) told old new r calm h = absurd h
 graph_fault_told hosts (asked.run entry steps) told old new r calm h = absurd h
 graph_fault_told hosts (asked.run5 path steps) told old new r calm h = absurd h
@@ -372,7 +382,7 @@ graph_fault_told hosts (asked.sample n) told old new r calm h = absurd h
 to_come : (hosts : List (List ℕ)) (a : Asked) (told : Option (List ℕ → Option (List ℕ))) → IsToCome a → HasFault hosts a told Unbuilt
 to_come hosts (asked.build entry) told h = absurd h
 to_come hosts (asked.map_of path) told h = absurd h
-to_come hosts (asked.split entry) told h = refl
+to_come hosts (asked.split entry) told h = absurd h
 to_come hosts (asked.rebuild entry list) told h = refl
 to_come hosts (asked.run entry steps) told h = refl
 to_come hosts (asked.run5 path steps) told h = refl
@@ -399,8 +409,18 @@ module _ (c : Call) (file : List ℕ → Option (List ℕ)) (told : c.files ≡ 
   built_is_due entry command here = record {
     no_command = λ none. absurd (cc);
     accepted = λ entry2 command2 p. refl;
+    split = λ entry2 command2 p. refl;
     mapped = λ path text command2 h is. refl;
     refused = λ a fault command2 r. absurd (one_finding c.hosts file entry fault here (fault_here (asked.build entry) a fault command command2 r));
+  }
+
+  split_is_due : (entry : List ℕ) → command_of c.words ≡ Some (asked.split entry) → Passes (Some file) c.hosts entry → IsDue c file status.Done
+  split_is_due entry command here = record {
+    no_command = λ none. absurd (cc);
+    accepted = λ entry2 command2 p. refl;
+    split = λ entry2 command2 p. refl;
+    mapped = λ path text command2 h is. refl;
+    refused = λ a fault command2 r. absurd (one_finding c.hosts file entry fault here (fault_here (asked.split entry) a fault command command2 r));
   }
 
   made_is_due : (bytes : List ℕ) → Makes c bytes → IsDue c file status.Done
@@ -408,11 +428,14 @@ module _ (c : Call) (file : List ℕ → Option (List ℕ)) (told : c.files ≡ 
       built_is_due entry command (at_file (λ t. Passes t c.hosts entry) accepted.passes)
   made_is_due bytes (whole entry command g) =
       built_is_due entry command (at_file (λ t. Passes t c.hosts entry) (passes_built g.built))
+  made_is_due bytes (scripts entry command g) =
+      split_is_due entry command (at_file (λ t. Passes t c.hosts entry) (passes_split g))
   made_is_due bytes (map text path command has is) =
       let here = at_file (λ t. OnFile t path (λ f. HasMap f text)) has in
       record {
         no_command = λ none. absurd (cc);
         accepted = λ entry command2 p. refl;
+        split = λ entry command2 p. refl;
         mapped = λ path2 text2 command2 h is2. refl;
         refused = λ a fault command2 r. absurd (one_map (file path) text fault here is (fault_here (asked.map_of path) a fault command command2 r));
       }
@@ -421,6 +444,7 @@ module _ (c : Call) (file : List ℕ → Option (List ℕ)) (told : c.files ≡ 
   refusal_is_due fault a command r = record {
     no_command = λ none. absurd (cc);
     accepted = λ entry command2 p. absurd (one_finding c.hosts file entry fault p (fault_here (asked.build entry) a fault command2 command r));
+    split = λ entry command2 p. absurd (one_finding c.hosts file entry fault p (fault_here (asked.split entry) a fault command2 command r));
     mapped = λ path text command2 h is. absurd (one_map (file path) text fault h is (fault_here (asked.map_of path) a fault command2 command r));
     refused = λ b fault2 command2 r2. same_fault c.hosts a file fault fault2 r (fault_here a b fault2 command command2 r2);
   }
@@ -429,6 +453,7 @@ module _ (c : Call) (file : List ℕ → Option (List ℕ)) (told : c.files ≡ 
   line_is_due calm s bytes (usage none) = record {
     no_command = λ n. refl;
     accepted = λ entry command p. absurd (cc);
+    split = λ entry command p. absurd (cc);
     mapped = λ path text command h is. absurd (cc);
     refused = λ a fault command r. absurd (cc);
   }

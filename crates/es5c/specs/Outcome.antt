@@ -14,11 +14,12 @@ use Rattle.command_words.specs.Words.{Asked, command_of}
 use Rattle.command_words.specs.Words as asked
 use Rattle.module_loading.specs.Files.{Holds, Told}
 use Rattle.graph_refusals.specs.declared.fault.Refusal.{Refusal}
-use Rattle.graph_checks.specs.Checks.{Passes, Refuses, IsRefusedFor}
+use Rattle.module_linker.specs.graph_checks.Checks.{Passes, Refuses, IsRefusedFor}
 use Rattle.es6_ast.specs.declared.graph.Graph.{Graph}
 use Rattle.module_linker.specs.Linking.{IsRelinked}
 use Rattle.module_linker.specs.Loading.{IsGraphOf}
 use Rattle.pipeline.specs.Compiled.{IsCompiled}
+use Rattle.split_emit.specs.Split.{IsSplitText}
 use Rattle.es5c.specs.declared.status.Status.{Status}
 use Rattle.es5c.specs.declared.status.Status.TheVariants as status
 use Rattle.es5c.specs.declared.fault.Fault.{Fault}
@@ -60,6 +61,14 @@ pub record IsGraphScript (hosts : List (List ℕ)) (told : Told) (entry script :
   pub holds : Holds told entry (Some bytes)
   pub unformed : IsNoForm hosts bytes
 
+-- The graph of the entry is loaded and linked, and these bytes are the text of its scripts.
+pub record IsSplitGraph (hosts : List (List ℕ)) (told : Told) (entry bytes : List ℕ) : Type 0 where
+  pub graph : Graph
+  pub loads : IsGraphOf told entry graph
+  pub linked : Graph
+  pub relinked : IsRelinked graph hosts linked
+  pub split : IsSplitText linked hosts bytes
+
 -- The graph of the entry has this fault.
 pub data RefusesEntry (hosts : List (List ℕ)) (told : Told) (entry : List ℕ) : Fault → Type 0 where
   in_graph : {refusal : Refusal} → Refuses told hosts entry refusal → RefusesEntry hosts told entry (InGraph refusal)
@@ -89,7 +98,7 @@ map_line text = text ++ 10 ∷ []
 abbrev pub subject : Asked → List ℕ
 subject (asked.build entry) = entry
 subject (asked.map_of script) = script
-subject (asked.split entry) = codes "split"
+subject (asked.split entry) = entry
 subject (asked.rebuild entry list) = codes "rebuild"
 subject (asked.run entry steps) = codes "run"
 subject (asked.run5 script steps) = codes "run5"
@@ -102,18 +111,21 @@ OnFile told path P = IfSome told (λ file. P (file path))
 -- a command's fault, by what its files tell
 abbrev pub HasFault : List (List ℕ) → Asked → Told → Fault → Type 0
 HasFault hosts (asked.build entry) told fault = RefusesEntry hosts told entry fault
+HasFault hosts (asked.split entry) told fault = RefusesEntry hosts told entry fault
 HasFault hosts (asked.map_of path) told fault = OnFile told path (λ file. HasNoMap file fault)
 HasFault hosts _ told fault = fault ≡ Unbuilt
 
 -- a command that isn't built yet
 abbrev pub IsToCome : Asked → Type 0
 IsToCome (asked.build entry) = ⊥
+IsToCome (asked.split entry) = ⊥
 IsToCome (asked.map_of path) = ⊥
 IsToCome _ = Unit {0}
 
 -- what a graph is refused for: a read that failed, or what its files hold
 abbrev pub GraphCause : List (List ℕ) → Asked → Told → ℕ → ℕ → Refusal → Type 0
 GraphCause hosts (asked.build entry) told old new refusal = IsRefusedFor told hosts entry old new refusal
+GraphCause hosts (asked.split entry) told old new refusal = IsRefusedFor told hosts entry old new refusal
 GraphCause hosts _ told old new refusal = ⊥
 
 -- What a fault comes from: a read that failed, so that the count of faults rose, a command that isn't built, or what the files hold.
@@ -158,10 +170,11 @@ call_of files faults words hosts old new out err =
     record { words = words; hosts = hosts; files = files old; faults_old = faults old; faults_new = faults new; out = out; err = err }
 
 -- What the call is to write, on the output: the script of the entry's module where that is in one of the first forms, else that of its
--- graph, or the text of a script's map.
+-- graph; the scripts of the entry's graph; or the text of a script's map.
 pub data Makes (c : Call) : List ℕ → Type 0 where
   script : {bytes : List ℕ} (entry : List ℕ) (m : Module) → command_of c.words ≡ Some (asked.build entry) → IsAccepted c.hosts c.files entry m → IsScriptOf c.hosts m bytes → Makes c bytes
   whole : {bytes : List ℕ} (entry : List ℕ) → command_of c.words ≡ Some (asked.build entry) → IsGraphScript c.hosts c.files entry bytes → Makes c bytes
+  scripts : {bytes : List ℕ} (entry : List ℕ) → command_of c.words ≡ Some (asked.split entry) → IsSplitGraph c.hosts c.files entry bytes → Makes c bytes
   map : (text path : List ℕ) → command_of c.words ≡ Some (asked.map_of path) → OnFile c.files path (λ file. HasMap file text) → IsMapText text → Makes c (map_line text)
 
 -- The call has this line for this fault.
@@ -209,6 +222,7 @@ pub record IsCalm (c : Call) : Type 0 where
 pub record IsDue (c : Call) (file : List ℕ → Option (List ℕ)) (s : Status) : Type 0 where
   pub no_command : command_of c.words ≡ None → s ≡ status.Usage
   pub accepted : (entry : List ℕ) → command_of c.words ≡ Some (asked.build entry) → Passes (Some file) c.hosts entry → s ≡ status.Done
+  pub split : (entry : List ℕ) → command_of c.words ≡ Some (asked.split entry) → Passes (Some file) c.hosts entry → s ≡ status.Done
   pub mapped : (path text : List ℕ) → command_of c.words ≡ Some (asked.map_of path) → HasMap (file path) text → IsMapText text → s ≡ status.Done
   pub refused : (a : Asked) (fault : Fault) → command_of c.words ≡ Some a → HasFault c.hosts a (Some file) fault → s ≡ status_of fault
 

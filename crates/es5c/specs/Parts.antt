@@ -23,7 +23,7 @@ use Rattle.es5c.specs.declared.fault.Fault.TheVariants.{InGraph, BadMap}
 use Rattle.es5c.specs.declared.fault.CommandFault.{CommandFault}
 use Rattle.es5c.specs.declared.fault.CommandFault.TheVariants.{Refused, OutOfMemory}
 use Rattle.es5c.specs.Lines.{line_of, status_of, usage_line}
-use Rattle.es5c.specs.Outcome.{max_module_bytes, max_script_bytes, IsAccepted, IsGraphScript, IsNoForm, HasMap, HasNoMap, IsMapText, map_line, OnFile, Cause, subject, Written, HasAdded, HasFailed}
+use Rattle.es5c.specs.Outcome.{max_module_bytes, max_script_bytes, IsAccepted, IsGraphScript, IsSplitGraph, IsNoForm, HasMap, HasNoMap, IsMapText, map_line, OnFile, Cause, subject, Written, HasAdded, HasFailed}
 
 abbrev pub map_fault_of : MapFault → CommandFault
 map_fault_of map_fault.OutOfMemory = OutOfMemory
@@ -108,6 +108,7 @@ pub record IsFileMap (told : Told) (path line : List ℕ) : Type 0 where
 -- what a command makes
 abbrev pub MadeBy : List (List ℕ) → Asked → Told → List ℕ → Type 0
 MadeBy hosts (asked.build entry) told bytes = IsFileScript hosts told entry bytes
+MadeBy hosts (asked.split entry) told bytes = IsSplitGraph hosts told entry bytes
 MadeBy hosts (asked.map_of path) told bytes = IsFileMap told path bytes
 MadeBy hosts _ told bytes = ⊥
 

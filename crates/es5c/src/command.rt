@@ -10,6 +10,7 @@ ghost use Rattle.es5c.specs.Lines.{line_of, status_of};
 use crate::build::build;
 use crate::fault::{CommandFault, Fault};
 use crate::map::map_of;
+use crate::split::split;
 use crate::status::Status;
 use command_words::{Command, WordsFault};
 use es_outside::{Files, Hosts, Sink, write_all};
@@ -67,6 +68,7 @@ fn made<F: Files>(
 {
     match command {
         Command::Build { entry } => build(alloc, entry.as_str(), files, hosts),
+        Command::Split { entry } => split(alloc, entry.as_str(), files, hosts),
         Command::Map { script } => map_of(alloc, script.as_str(), files),
         _ => Err(CommandFault::Refused(Fault::Unbuilt)),
     }
@@ -77,9 +79,8 @@ fn subject(command: &Command) -> &str
     ensures { result.now ≡ subject (asked_of command.now) }
 {
     match command {
-        Command::Build { entry } => entry.as_str(),
+        Command::Build { entry } | Command::Split { entry } => entry.as_str(),
         Command::Map { script } => script.as_str(),
-        Command::Split { .. } => "split",
         Command::Rebuild { .. } => "rebuild",
         Command::Run { .. } => "run",
         Command::Run5 { .. } => "run5",

@@ -1,14 +1,13 @@
-//! The program `es5c`: `es5c build ENTRY` writes the ES5 script of a graph of modules to the standard output, and `es5c map SCRIPT` the text of the
-//! map that a script holds.
+//! The program `es5c`: `es5c build ENTRY` writes the ES5 script of a graph of modules to the standard output, `es5c split ENTRY` a script for
+//! each module of that graph, and `es5c map SCRIPT` the text of the map that a script holds.
 #![tactic(auto)]
 
 mod build;
 mod command;
 mod fault;
 mod map;
+mod split;
 mod status;
-#[cfg(test)]
-mod tests;
 mod top;
 
 use es_outside::{Host, Hosts};
