@@ -4,14 +4,14 @@ use Rattle.std.specs.Prelude.{slice_get, sum_by}
 use Rattle.std.proofs.lemmas.List.Sums.{sum_by-cons}
 use Rattle.es6_ast.specs.declared.graph.Graph.{Graph}
 use Rattle.es6_ast.specs.declared.graph.LoadedModule.{LoadedModule}
-use Rattle.scope_tables.specs.declared.binding.Binding.{Binding}
+use Rattle.scope_rules.specs.declared.scope_tables.binding.Binding.{Binding}
 use Rattle.scope_analysis.specs.Answers.{AreScopes}
 use Rattle.scope_analysis.specs.declared.scopes.Scopes.{Scopes}
 use Rattle.scope_analysis.specs.Scopes.{AreAllScopes, no_module, one_module}
 use Rattle.scope_analysis.specs.declared.tables.ModuleScopes.{ModuleScopes}
 use Rattle.module_lowering.specs.declared.meaning.Meaning.{Meaning}
 use Rattle.module_lowering.specs.Modules.{hints, offsets_from}
-use Rattle.lower_names.specs.Names.{names_in}
+use Rattle.lower_walk.specs.lower_names.Names.{names_in}
 use Rattle.graph_bindings.specs.declared.numbering.Numbering.{Numbering}
 use Rattle.graph_bindings.specs.Meanings.{all_meanings_by, meanings_by}
 

@@ -8,7 +8,7 @@ use Rattle.std.specs.HashMap.{UpdatesBy, get_by}
 use Rattle.std.proofs.lemmas.Bool.{cases_Bool, cond-true, cond-false}
 use Rattle.es6_ast.specs.declared.graph.Request.{Request}
 use Rattle.es6_static_semantics.specs.Endings.{requested}
-use Rattle.lower_names.proofs.Lists.{drop_read}
+use Rattle.lower_walk.proofs.lower_names.Lists.{drop_read}
 use Rattle.module_lowering.specs.Modules.{ImportedSpace, module_in, space_at}
 use Rattle.graph_bindings.specs.Requests.{Table, asked, is_key}
 use Rattle.graph_bindings.specs.Spaces.{Homes, placed}

@@ -1,11 +1,11 @@
 -- The bindings of a module, one by one.
 use Rattle.std.proofs.Common.{◌≡◌, ℕ, zero, suc, ◌+◌, ◌≤◌, List, [], ◌∷◌, length, drop, Option, Some, None, refl, ◌∙◌, arith}
 use Rattle.std.specs.Prelude.{slice_get}
-use Rattle.scope_tables.specs.declared.binding.Binding.{Binding}
+use Rattle.scope_rules.specs.declared.scope_tables.binding.Binding.{Binding}
 use Rattle.scope_analysis.specs.declared.tables.ModuleScopes.{ModuleScopes}
 use Rattle.scope_analysis.specs.Answers.{binding_in}
-use Rattle.lower_names.specs.Names.{names_in}
-use Rattle.lower_names.proofs.Lists.{drop_none, drop_read}
+use Rattle.lower_walk.specs.lower_names.Names.{names_in}
+use Rattle.lower_walk.proofs.lower_names.Lists.{drop_none, drop_read}
 
 read_in : (m : Option ModuleScopes) (n : ℕ) → slice_get (names_in m) n ≡ binding_in n m
 read_in None n = refl

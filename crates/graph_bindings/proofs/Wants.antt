@@ -5,7 +5,7 @@ use Rattle.std.specs.List.{list_any}
 use Rattle.std.proofs.lemmas.List.Folds.{list_any-append}
 use Rattle.es6_static_semantics.specs.Findings.{joined}
 use Rattle.module_lowering.specs.Modules.{ImportedSpace, is_module}
-use Rattle.lower_names.proofs.Lists.{drop_read}
+use Rattle.lower_walk.proofs.lower_names.Lists.{drop_read}
 
 or-assoc : (a b c : Bool) → ((a || b) || c) ≡ (a || (b || c))
 or-assoc true b c = refl

@@ -5,7 +5,7 @@ use Rattle.binding_tables.specs.declared.ids.BindingId.TheVariants.{Global, Host
 use Rattle.core_ast.specs.declared.parts.Var.{Var}
 use Rattle.scope_analysis.specs.declared.tables.ModuleScopes.{ModuleScopes}
 use Rattle.scope_analysis.specs.Answers.{end_ids, own_binding}
-use Rattle.scope_tables.specs.declared.binding.Binding.{Binding}
+use Rattle.scope_rules.specs.declared.scope_tables.binding.Binding.{Binding}
 use Rattle.module_lowering.specs.declared.meaning.Meaning.{Meaning}
 use Rattle.module_lowering.specs.declared.meaning.Meaning.TheVariants.{Itself, NamespaceOf, OfHost}
 use Rattle.module_lowering.specs.Bindings.{first_id}

@@ -2,10 +2,10 @@
 
 ghost use Rattle.std.specs.Prelude.{◌≡◌, ◌++◌, None, Some, length, map, replicate, slice_get, IfOk, OnOk};
 ghost use Rattle.graph_bindings.specs.Counts.{offsets_at};
-ghost use Rattle.lower_names.specs.Names.{names_in};
+ghost use Rattle.lower_walk.specs.lower_names.Names.{names_in};
 ghost use Rattle.module_lowering.specs.Modules.{bindings_count, hints, offsets_from};
 
-use lower_names::behind;
+use lower_walk::lower_names::behind;
 use scope_analysis::{BindingId, Scopes};
 use shared_text::Name;
 use sqlite_items::Items;

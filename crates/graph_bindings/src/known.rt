@@ -13,7 +13,7 @@ use crate::wanted::wanted_of;
 use core_ast::Fresh;
 use es6_ast::Graph;
 use indexmap::IndexSet;
-use lower_names::Bindings;
+use lower_walk::lower_names::Bindings;
 use lowering_rules::Names;
 use module_lowering::{Lowerer, Seen};
 use scope_analysis::Scopes;

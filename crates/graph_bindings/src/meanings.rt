@@ -3,17 +3,17 @@
 ghost use Rattle.std.specs.Prelude.{◌≡◌, ◌++◌, Some, length, slice_get, IfOk, OnOk};
 ghost use Rattle.std.specs.Option.{option_copied};
 ghost use Rattle.graph_bindings.specs.Meanings.{all_meanings_by, ended_by, meaning_by, meanings_by, name_meaning_by, namespace_meaning, own_meaning_by, var_by};
-ghost use Rattle.lower_names.specs.Names.{names_in};
+ghost use Rattle.lower_walk.specs.lower_names.Names.{names_in};
 ghost use Rattle.module_lowering.specs.declared.meaning.Meaning.TheVariants.{OfHost};
 ghost use Rattle.module_lowering.specs.Modules.{if_import, is_import, unless_itself};
 
 use crate::numbering::Numbering;
 use core_ast::Var;
-use lower_names::first_id;
+use lower_walk::lower_names::first_id;
 use module_lowering::Meaning;
 use scope_analysis::BindingId;
 use scope_rules::Kind;
-use scope_tables::Binding;
+use scope_rules::scope_tables::Binding;
 use sqlite_items::Items;
 use std::alloc::{AllocError, Global};
 

@@ -5,7 +5,7 @@ ghost use Rattle.graph_bindings.specs.Meanings.{namespace_by, space_by, var_by};
 
 use crate::spaces::Spaces;
 use core_ast::Var;
-use lower_names::{behind, offset_at};
+use lower_walk::lower_names::{behind, offset_at};
 use scope_analysis::Scopes;
 use sqlite_items::at;
 use std::alloc::AllocError;

@@ -5,7 +5,7 @@ ghost use Rattle.std.specs.BTreeMap.{values};
 ghost use Rattle.graph_namespaces.specs.Entries.{Adds, AddsOutcome, IsPicked};
 
 use es6_ast::EndOf;
-use lower_names::units_of;
+use lower_walk::lower_names::units_of;
 use module_endings::{Outcome, Place};
 use module_lowering::Entry;
 use sqlite_items::Items;

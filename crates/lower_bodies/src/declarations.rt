@@ -1,7 +1,7 @@
 //! What is declared: names that aren't initialized, and functions (ECMA-262, 6th edition, 9.2.12 and 15.2.1.16.4).
 
 ghost use Rattle.std.specs.Prelude.{◌≡◌, ◌++◌, map, OnOk};
-ghost use Rattle.statement_rules.specs.Bodies.{declared};
+ghost use Rattle.lowering_rules.specs.statement_rules.Bodies.{declared};
 ghost use Rattle.lowering_rules.specs.Making.{uninitialized};
 
 use core_ast::{CoreStat, Declared, ScopedName, Var};

@@ -1,13 +1,13 @@
 //! Functions (ECMA-262, 6th edition, 9.2).
 
 ghost use Rattle.std.specs.Prelude.{◌≡◌, ◌++◌, IfOk, OnOk};
-ghost use Rattle.statement_rules.specs.Bodies.{begun, begun_with, kept, kept_all, instantiated, names_of, with_body, with_statements};
+ghost use Rattle.lowering_rules.specs.statement_rules.Bodies.{begun, begun_with, kept, kept_all, instantiated, names_of, with_body, with_statements};
 
 use crate::declarations::{push_declared, push_vars};
 use core_ast::{CoreExpr, CoreFunction, CoreHead, CoreKind, CoreStat, Primitive, Var, expression};
 use lower_parts::{initialize, primitive};
+use lowering_rules::statement_rules::{BodyNames, Receiver};
 use sqlite_items::Items;
-use statement_rules::{BodyNames, Receiver};
 use std::alloc::{AllocError, Global};
 
 pub(crate) fn begun_with(
@@ -35,7 +35,7 @@ pub(crate) fn begun_with(
     }
 }
 
-#[tactic(auto, unfolding(statement_rules::specs::Bodies::kept))]
+#[tactic(auto, unfolding(lowering_rules::specs::statement_rules::Bodies::kept))]
 fn push_kept(
     alloc: Global,
     var: Option<Var>,
@@ -50,7 +50,7 @@ fn push_kept(
     }
 }
 
-#[tactic(auto, unfolding(statement_rules::specs::Bodies::names_of))]
+#[tactic(auto, unfolding(lowering_rules::specs::statement_rules::Bodies::names_of))]
 fn push_name(var: Option<Var>, out: &mut Items<Var>) -> Result<(), AllocError>
     ensures { OnOk result (out.new ≡ out.old ++ names_of var) }
 {

@@ -1,14 +1,14 @@
 //! The parts of modules (ECMA-262, 6th edition, 15.2).
 
 ghost use Rattle.std.specs.Prelude.{◌≡◌, ◌++◌, map, IfOk, OnOk};
-ghost use Rattle.statement_rules.specs.Bodies.{default_exported, module_instantiated, part, started, temporary};
+ghost use Rattle.lowering_rules.specs.statement_rules.Bodies.{default_exported, module_instantiated, part, started, temporary};
 
 use crate::declarations::push_declared;
 use crate::namespaces::push_namespaces;
 use core_ast::{CoreExpr, CorePart, CoreStat, Primitive, ScopedName, Var};
 use lower_parts::{initialize, primitive};
+use lowering_rules::statement_rules::ModuleScope;
 use sqlite_items::Items;
-use statement_rules::ModuleScope;
 use std::alloc::{AllocError, Global};
 
 /// `export default` of an expression: its variable is initialized.

@@ -2,7 +2,7 @@
 
 ghost use Rattle.std.specs.Prelude.{◌≡◌, ◌++◌, map, IfOk, OnOk};
 ghost use Rattle.std.specs.List.{flat_map};
-ghost use Rattle.statement_rules.specs.Bodies.{export_getter, export_links, namespace_made, namespace_object};
+ghost use Rattle.lowering_rules.specs.statement_rules.Bodies.{export_getter, export_links, namespace_made, namespace_object};
 
 use crate::functions::{begun_with, with_statements};
 use core_ast::{
@@ -10,8 +10,8 @@ use core_ast::{
     expression,
 };
 use lower_parts::{alone, set, text, through};
+use lowering_rules::statement_rules::{Export, Namespace};
 use sqlite_items::Items;
-use statement_rules::{Export, Namespace};
 use std::alloc::{AllocError, Global};
 
 /// A function that reads the binding of an exported name.

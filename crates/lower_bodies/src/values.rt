@@ -1,7 +1,7 @@
 //! Values that statements make (ECMA-262, 6th edition, 14.1.20).
 
 ghost use Rattle.std.specs.Prelude.{◌≡◌, IfOk};
-ghost use Rattle.statement_rules.specs.Bodies.{after_running, named_function, own_body, own_scope};
+ghost use Rattle.lowering_rules.specs.statement_rules.Bodies.{after_running, named_function, own_body, own_scope};
 
 use core_ast::{
     CoreExpr, CoreHead, CoreLink, CoreOp, CoreStat, FunctionId, ScopedName, Var, acting,

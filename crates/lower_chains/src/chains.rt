@@ -7,19 +7,19 @@ ghost use Rattle.lower_walk.specs.Handed.{done_at, HasExpressions, LowersAs};
 ghost use Rattle.module_lowering.specs.Expressions.{called_with, chain_reached, indexed_with, linked_at, tagged_with};
 ghost use Rattle.module_lowering.specs.Lowered.{argument_lowered, expression_lowered, link_lowered, template_lowered};
 ghost use Rattle.module_lowering.specs.Lowering.{along_by, Lowers};
-ghost use Rattle.reference_rules.specs.declared.references.MemberName.TheVariants.{Named};
-ghost use Rattle.reference_rules.specs.References.{accessed};
+ghost use Rattle.lowering_rules.specs.declared.reference_rules.references.MemberName.TheVariants.{Named};
+ghost use Rattle.lowering_rules.specs.reference_rules.References.{accessed};
 
 use crate::chained::Chained;
 use crate::sites::reached_sited;
 use core_ast::Key;
 use es6_ast::{Argument, Expression, Link, Template};
-use lower_items::{lower_argument_list, lower_template_values, template_object_of};
-use lower_names::site_at;
 use lower_references::{lower_accessed, lower_called, lower_called_as_tag};
+use lower_walk::lower_items::{lower_argument_list, lower_template_values, template_object_of};
+use lower_walk::lower_names::site_at;
 use lower_walk::{Around, Here};
+use lowering_rules::reference_rules::{MemberName, Reached};
 use module_lowering::Lowerer;
-use reference_rules::{MemberName, Reached};
 use shared_text::Name;
 use std::alloc::{AllocError, Global};
 

@@ -9,16 +9,16 @@ ghost use Rattle.module_lowering.specs.Lowering.{Lowers};
 use crate::sites::is_sited;
 use core_ast::CoreExpr;
 use es6_ast::{Argument, Expression};
-use lower_items::lower_argument_list;
-use lower_names::site_at;
 use lower_references::lower_constructed;
+use lower_walk::lower_items::lower_argument_list;
+use lower_walk::lower_names::site_at;
 use lower_walk::{Around, Here};
+use lowering_rules::reference_rules::Reached;
 use module_lowering::Lowerer;
-use reference_rules::Reached;
 use std::alloc::AllocError;
 
 /// `new` of a callee with arguments, which begins at an offset in bytes.
-#[tactic(auto, unfolding(reference_rules::specs::References::value_of))]
+#[tactic(auto, unfolding(lowering_rules::specs::reference_rules::References::value_of))]
 pub fn lower_new<E: Fn(Around, &Expression, &mut Lowerer) -> Result<Reached, AllocError>, P, S, F>(
     here: &Here<'_, E, P, S, F>,
     begin: u32,

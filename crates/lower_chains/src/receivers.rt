@@ -8,9 +8,9 @@ ghost use Rattle.module_lowering.specs.Lowering.{Lowers};
 
 use core_ast::{CoreExpr, Primitive, undefined, variable};
 use lower_classes::lower_this;
-use lower_names::sees_this;
 use lower_parts::primitive;
 use lower_walk::Here;
+use lower_walk::lower_names::sees_this;
 use module_lowering::{Lowerer, ThisKind};
 use std::alloc::{AllocError, Global};
 

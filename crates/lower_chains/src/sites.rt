@@ -4,7 +4,7 @@ ghost use Rattle.std.specs.Prelude.{◌≡◌};
 ghost use Rattle.module_lowering.specs.Expressions.{has_site, is_sited, reached_sited};
 
 use core_ast::{CoreExpr, CoreLink};
-use reference_rules::Reached;
+use lowering_rules::reference_rules::Reached;
 
 fn has_site(link: &CoreLink) -> bool
     ensures { result ≡ has_site link.now }

@@ -12,12 +12,12 @@ use crate::receivers::{meet_this, this_value};
 use core_ast::{CoreExpr, Primitive, undefined};
 use es6_ast::{Argument, Expression, Identifier};
 use lower_classes::lower_super_call;
-use lower_items::lower_argument_list;
-use lower_names::units_of;
 use lower_parts::{text, through_with, to_text};
+use lower_walk::lower_items::lower_argument_list;
+use lower_walk::lower_names::units_of;
 use lower_walk::{Around, Here, iterator_text};
+use lowering_rules::reference_rules::{MemberName, Reached};
 use module_lowering::Lowerer;
-use reference_rules::{MemberName, Reached};
 use std::alloc::{AllocError, Global};
 
 /// The property of `super` with this key.

@@ -5,9 +5,9 @@ use Rattle.core_ast.specs.declared.parts.When.TheVariants.{Choice}
 use Rattle.core_ast.specs.declared.tree.CoreExpr.{CoreExpr}
 use Rattle.core_ast.specs.declared.tree.CoreLink.TheVariants as link
 use Rattle.core_ast.specs.Made.{linked}
-use Rattle.reference_rules.specs.declared.references.Compound.{Compound}
+use Rattle.lowering_rules.specs.declared.reference_rules.references.Compound.{Compound}
 use Rattle.module_lowering.specs.Expressions.{assigned, operated, valued}
-use Rattle.statement_rules.specs.Bodies.{named_function}
+use Rattle.lowering_rules.specs.statement_rules.Bodies.{named_function}
 use Rattle.module_lowering.specs.declared.context.FunctionForm.TheVariants.{PlainForm}
 use Rattle.module_lowering.specs.Bindings.{scoped_name}
 use Rattle.module_lowering.specs.Lowering.{asks, pure, temporary, Lowering, ◌>>=◌}

@@ -1,7 +1,7 @@
 //! Assignments (ECMA-262, 6th edition, 12.14).
 
 ghost use Rattle.lower_expressions.specs.Arms.{assigned_by_form, operated_by_form, target_alone};
-ghost use Rattle.lower_names.specs.Reached.{name_reached};
+ghost use Rattle.lower_walk.specs.lower_names.Reached.{name_reached};
 ghost use Rattle.lower_walk.specs.Handed.{done_at, HasExpressions, HasPatterns};
 ghost use Rattle.module_lowering.specs.Expressions.{assigned_to, assignment, compound_of, gives, operated_on, pattern_value};
 ghost use Rattle.module_lowering.specs.Lowered.{expression_lowered, pattern_lowered};
@@ -14,8 +14,8 @@ use es6_ast::{AssignOperator, Expression, Pattern};
 use lower_listed::expression_name;
 use lower_references::{lower_assigned, lower_operated, pattern_assigned};
 use lower_walk::Around;
+use lowering_rules::reference_rules::{Compound, Reached};
 use module_lowering::{Lowerer, Role};
-use reference_rules::{Compound, Reached};
 use shared_text::Name;
 use sqlite_items::Items;
 use std::alloc::AllocError;

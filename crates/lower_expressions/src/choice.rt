@@ -10,8 +10,8 @@ use core_ast::{CoreExpr, CoreStat, FunctionId, undefined};
 use es6_ast::{Expression, Function, Pattern, Statement};
 use lower_chains::{lower_chain, lower_new_target, lower_super_index, lower_super_member};
 use lower_walk::{Around, Here};
+use lowering_rules::reference_rules::Reached;
 use module_lowering::{FunctionForm, Lowerer, Role};
-use reference_rules::Reached;
 use sqlite_items::Items;
 use std::alloc::AllocError;
 

@@ -15,8 +15,8 @@ use es6_ast::{Expression, Operand, UnaryOperator, UpdateOperator};
 use lower_parts::{then, through_with};
 use lower_references::lower_updated;
 use lower_walk::Around;
+use lowering_rules::reference_rules::Reached;
 use module_lowering::Lowerer;
-use reference_rules::Reached;
 use sqlite_items::Boxed;
 use std::alloc::AllocError;
 

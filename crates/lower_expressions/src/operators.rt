@@ -6,7 +6,7 @@ ghost use Rattle.core_ast.specs.declared.parts.CoreOp.TheVariants as op;
 ghost use Rattle.core_ast.specs.declared.parts.When.TheVariants.{Choice};
 ghost use Rattle.core_ast.specs.declared.tree.CoreLink.TheVariants as link;
 ghost use Rattle.module_lowering.specs.Expressions.{binary_of, compound_of, constant_of, operand_link, or_undefined, unary_value, update_of};
-ghost use Rattle.reference_rules.specs.References.{value_of};
+ghost use Rattle.lowering_rules.specs.reference_rules.References.{value_of};
 
 use core_ast::{
     Binary, Constant, CoreExpr, CoreLink, CoreOp, Unary, Update, When, act, acting, linked,
@@ -15,7 +15,7 @@ use core_ast::{
 use es6_ast::{AssignOperator, BinaryOperator, Literal, UnaryOperator, UpdateOperator};
 use lower_references::{lower_deleted, value_of};
 use lower_walk::whole;
-use reference_rules::{Compound, Reached};
+use lowering_rules::reference_rules::{Compound, Reached};
 use sqlite_items::Boxed;
 use std::alloc::{AllocError, Global};
 

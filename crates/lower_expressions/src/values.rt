@@ -7,7 +7,7 @@ ghost use Rattle.module_lowering.specs.Expressions.{array_lowered, class_value, 
 ghost use Rattle.module_lowering.specs.Lowered.{argument_lowered, arrow_lowered, class_lowered, element_lowered, expression_lowered, function_lowered, property_lowered, template_lowered};
 ghost use Rattle.module_lowering.specs.Lowering.{Lowers};
 ghost use Rattle.core_ast.specs.Made.{constant};
-ghost use Rattle.reference_rules.specs.declared.references.Reached.TheVariants.{Value};
+ghost use Rattle.lowering_rules.specs.declared.reference_rules.references.Reached.TheVariants.{Value};
 ghost use Rattle.std.specs.Prelude.{◌≡◌, None, map, IfOk};
 
 use crate::expressions::Expressions;
@@ -20,12 +20,12 @@ use es6_ast::{
 use lower_bodies::{after_running, lower_named_function};
 use lower_chains::{lower_new, lower_super_called, lower_this_value};
 use lower_functions::{ClassParts, lower_arrow_function, lower_class_definition};
-use lower_items::{lower_element_list, lower_properties, lower_template_value};
 use lower_objects::lower_object;
 use lower_parts::lower_array;
 use lower_walk::Around;
+use lower_walk::lower_items::{lower_element_list, lower_properties, lower_template_value};
+use lowering_rules::reference_rules::Reached;
 use module_lowering::{FunctionForm, Lowerer, Role};
-use reference_rules::Reached;
 use sqlite_items::Items;
 use std::alloc::{AllocError, Global};
 

@@ -4,7 +4,7 @@ use Rattle.core_ast.specs.declared.tree.CoreStat.{CoreStat}
 use Rattle.module_lowering.specs.declared.context.JumpForm.{JumpForm}
 use Rattle.module_lowering.specs.declared.context.JumpForm.TheVariants.{Cases, Stays, Turns}
 use Rattle.module_lowering.specs.Statements.{jump_to}
-use Rattle.statement_rules.specs.Statements.{body_label, exit_label, jump}
+use Rattle.lowering_rules.specs.statement_rules.Statements.{body_label, exit_label, jump}
 use Rattle.lower_flow.specs.Jumps.{leaves_body}
 
 pub body_left : (goes_on : Bool) (at : ℕ) (form : JumpForm) → leaves_body goes_on form ≡ true → jump_to goes_on at form ≡ jump false (body_label at)

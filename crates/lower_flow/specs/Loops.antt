@@ -5,8 +5,8 @@ use Rattle.core_ast.specs.declared.parts.Var.{Var}
 use Rattle.core_ast.specs.declared.tree.CoreStat.{CoreStat}
 use Rattle.lowering_rules.specs.declared.naming.Iteration.{Iteration}
 use Rattle.lowering_rules.specs.Iteration.{for_of}
-use Rattle.statement_rules.specs.declared.statements.ForTurns.{ForTurns}
-use Rattle.statement_rules.specs.Statements.{exit_label}
+use Rattle.lowering_rules.specs.declared.statement_rules.statements.ForTurns.{ForTurns}
+use Rattle.lowering_rules.specs.statement_rules.Statements.{exit_label}
 use Rattle.module_lowering.specs.Expressions.{optional, valued}
 use Rattle.module_lowering.specs.Lowering.{Lowering, asks, each_by, option, pure, within, ◌>>=◌}
 use Rattle.module_lowering.specs.Names.{scoped_names}

@@ -12,7 +12,7 @@ use Rattle.es6_ast.specs.declared.tree.Statement.{Statement}
 use Rattle.es6_static_semantics.specs.Findings.{joined}
 use Rattle.core_ast.specs.declared.tree.CoreStat.{CoreStat}
 use Rattle.lowering_rules.specs.declared.naming.Iteration.{Iteration}
-use Rattle.statement_rules.specs.declared.statements.ForTurns.{ForTurns}
+use Rattle.lowering_rules.specs.declared.statement_rules.statements.ForTurns.{ForTurns}
 use Rattle.module_lowering.specs.Lowered.{block_lowered, case_lowered, catch_lowered, condition_lowered, expression_lowered, for_first_lowered, for_target_lowered, statement_lowered}
 use Rattle.module_lowering.specs.Lowering.{Lowering, within}
 use Rattle.module_lowering.specs.Nodes.{Exited}

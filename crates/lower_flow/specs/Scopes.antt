@@ -5,7 +5,7 @@ use Rattle.core_ast.specs.declared.tree.CoreCase.{CoreCase}
 use Rattle.core_ast.specs.declared.tree.CoreExpr.{CoreExpr}
 use Rattle.core_ast.specs.declared.tree.CoreStat.{CoreStat}
 use Rattle.es6_static_semantics.specs.Findings.{joined}
-use Rattle.statement_rules.specs.Statements.{exit_label, switch}
+use Rattle.lowering_rules.specs.statement_rules.Statements.{exit_label, switch}
 use Rattle.module_lowering.specs.declared.context.JumpForm.TheVariants.{Cases}
 use Rattle.module_lowering.specs.Functions.{all_hoisted}
 use Rattle.module_lowering.specs.Lowering.{Lowering, asks, each_by, pure, ◌>>=◌}

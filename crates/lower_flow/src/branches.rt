@@ -5,7 +5,7 @@ ghost use Rattle.lower_walk.specs.Handed.{done_at, HasExpressions, HasStatements
 ghost use Rattle.module_lowering.specs.Lowered.{condition_lowered, statement_lowered};
 ghost use Rattle.module_lowering.specs.Lowering.{each_by, option, Lowers};
 ghost use Rattle.module_lowering.specs.Statements.{under};
-ghost use Rattle.statement_rules.specs.Statements.{if_chain};
+ghost use Rattle.lowering_rules.specs.statement_rules.Statements.{if_chain};
 ghost use Rattle.std.specs.Option.{option_map};
 ghost use Rattle.std.specs.Prelude.{◌≡◌, ◌∷◌, [], map, IfOk};
 
@@ -15,8 +15,8 @@ use es6_ast::{Condition, Expression, Statement};
 use lower_parts::alone;
 use lower_statements::{branch, lower_if};
 use lower_walk::Around;
+use lowering_rules::reference_rules::Reached;
 use module_lowering::Lowerer;
-use reference_rules::Reached;
 use sqlite_items::{Boxed, Items};
 use std::alloc::{AllocError, Global};
 

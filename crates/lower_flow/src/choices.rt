@@ -18,10 +18,10 @@ use es6_ast::{Case, Expression, Function, Statement};
 use lower_listed::{HoistedAt, statements_functions, statements_lexicals};
 use lower_statements::{exit_label, lower_switch};
 use lower_walk::{Around, targeting};
+use lowering_rules::reference_rules::Reached;
+use lowering_rules::statement_rules::SwitchParts;
 use module_lowering::{FunctionForm, JumpForm, Lowerer};
-use reference_rules::Reached;
 use sqlite_items::Items;
-use statement_rules::SwitchParts;
 use std::alloc::{AllocError, Global};
 
 /// The places of the lexical names of a clause.

@@ -14,8 +14,8 @@ use lower_functions::lower_class_definition;
 use lower_listed::{NamedAt, name_places, parts_names};
 use lower_statements::lower_class_declaration;
 use lower_walk::{Around, Here};
+use lowering_rules::reference_rules::Reached;
 use module_lowering::{FunctionForm, Lowerer, Role};
-use reference_rules::Reached;
 use sqlite_items::Items;
 use std::alloc::{AllocError, Global};
 

@@ -13,10 +13,10 @@ use core_ast::{CoreExpr, CoreStat, ScopedName};
 use es6_ast::{Expression, ForFirst, Pattern, Statement};
 use lower_statements::{exit_label, lower_for};
 use lower_walk::Around;
+use lowering_rules::reference_rules::Reached;
+use lowering_rules::statement_rules::{ForLoop, ForTurns};
 use module_lowering::{Lowerer, Role};
-use reference_rules::Reached;
 use sqlite_items::{Boxed, Items};
-use statement_rules::{ForLoop, ForTurns};
 use std::alloc::{AllocError, Global};
 
 /// The places of the lexical names of a head.

@@ -18,9 +18,9 @@ use lower_listed::pattern_names;
 use lower_patterns::lower_for_of;
 use lower_statements::exit_label;
 use lower_walk::{Around, in_subject};
+use lowering_rules::reference_rules::Reached;
 use lowering_rules::{ForOf, Iteration};
 use module_lowering::{Dead, Lowerer, Role};
-use reference_rules::Reached;
 use sqlite_items::Items;
 use std::alloc::{AllocError, Global};
 

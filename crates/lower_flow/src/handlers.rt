@@ -16,9 +16,9 @@ use es6_ast::{Block, Catch, Function, Pattern, Statement};
 use lower_listed::{name_places, pattern_names};
 use lower_statements::lower_try;
 use lower_walk::{Around, in_places};
+use lowering_rules::statement_rules::Handler;
 use module_lowering::{FunctionForm, Lowerer, Role};
 use sqlite_items::{Boxed, Items};
-use statement_rules::Handler;
 use std::alloc::{AllocError, Global};
 
 /// The names of a catch parameter, and the statements that bind these.

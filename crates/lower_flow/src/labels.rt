@@ -6,7 +6,7 @@ ghost use Rattle.module_lowering.specs.declared.context.JumpForm.TheVariants.{St
 ghost use Rattle.module_lowering.specs.Lowered.{statement_lowered};
 ghost use Rattle.module_lowering.specs.Lowering.{Lowers};
 ghost use Rattle.module_lowering.specs.Statements.{labelled_at, with_label};
-ghost use Rattle.statement_rules.specs.Statements.{exit_label, labelled};
+ghost use Rattle.lowering_rules.specs.statement_rules.Statements.{exit_label, labelled};
 ghost use Rattle.std.specs.Prelude.{◌≡◌, ◌∷◌, [], IfOk};
 
 use crate::flow::{Flow, placed};

@@ -3,7 +3,7 @@
 ghost use Rattle.lower_flow.specs.Nodes.{do_while_node, while_node};
 ghost use Rattle.lower_walk.specs.Handed.{done_at, HasExpressions, HasStatements};
 ghost use Rattle.module_lowering.specs.Lowering.{Lowers};
-ghost use Rattle.statement_rules.specs.Statements.{body_label, do_while, exit_label, while_loop};
+ghost use Rattle.lowering_rules.specs.statement_rules.Statements.{body_label, do_while, exit_label, while_loop};
 ghost use Rattle.std.specs.Prelude.{◌≡◌, ◌∷◌, [], IfOk};
 
 use crate::flow::Flow;
@@ -12,8 +12,8 @@ use es6_ast::{Expression, Statement};
 use lower_parts::alone;
 use lower_statements::{body_label, exit_label, lower_do_while, lower_while};
 use lower_walk::Around;
+use lowering_rules::reference_rules::Reached;
 use module_lowering::Lowerer;
-use reference_rules::Reached;
 use sqlite_items::Items;
 use std::alloc::{AllocError, Global};
 

@@ -13,8 +13,8 @@ use crate::jumps::jumping;
 use core_ast::{CoreExpr, CoreStat, FunctionId};
 use es6_ast::{Expression, Function, Pattern, Statement};
 use lower_walk::{Around, Here, targeting};
+use lowering_rules::reference_rules::Reached;
 use module_lowering::{FunctionForm, JumpForm, Lowerer, Role};
-use reference_rules::Reached;
 use sqlite_items::Items;
 use std::alloc::AllocError;
 

@@ -7,8 +7,8 @@ use Rattle.module_lowering.specs.declared.lowerer.Lowerer.{Lowerer}
 use Rattle.module_lowering.specs.declared.lowerer.Seen.{Seen}
 use Rattle.module_lowering.specs.Functions.{assembled, FunctionParts}
 use Rattle.module_lowering.specs.Lowering.{Inside}
-use Rattle.statement_rules.specs.declared.bodies.Receiver.{Receiver}
-use Rattle.statement_rules.specs.Bodies.{begun}
+use Rattle.lowering_rules.specs.declared.statement_rules.bodies.Receiver.{Receiver}
+use Rattle.lowering_rules.specs.statement_rules.Bodies.{begun}
 
 -- The function round it goes on with these temporaries, as `left` has it.
 abbrev pub left_with : {A : Type 0} → List Var → Seen → A × Lowerer → Inside A × Lowerer

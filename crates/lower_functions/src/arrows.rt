@@ -17,8 +17,8 @@ use crate::walk::Walk;
 use core_ast::{CoreExpr, CoreFunction, CoreKind, CoreStat, FunctionId};
 use es6_ast::{Arrow, Expression, Function, Parameter, Pattern, Statement};
 use lower_walk::{Around, Here, in_arrow};
+use lowering_rules::reference_rules::Reached;
 use module_lowering::{FunctionForm, Lowerer, Role};
-use reference_rules::Reached;
 use sqlite_items::Items;
 use std::alloc::{AllocError, Global};
 

@@ -20,10 +20,10 @@ use lower_listed::{
 use lower_params::concise;
 use lower_walk::Around;
 use lowering_rules::BodyVar;
+use lowering_rules::reference_rules::Reached;
+use lowering_rules::statement_rules::BodyNames;
 use module_lowering::{FunctionForm, Lowerer};
-use reference_rules::Reached;
 use sqlite_items::Items;
-use statement_rules::BodyNames;
 use std::alloc::{AllocError, Global};
 
 /// The body of a function: statements, or of an arrow an expression, whose value is returned.
@@ -140,7 +140,7 @@ impl<E, P, S, F> Walk<'_, E, P, S, F> {
     }
 
     /// The variables of the body that are named as parameters, where these are names of another scope.
-    #[tactic(auto, using(lower_names::proofs::Maps::map_identity))]
+    #[tactic(auto, using(lower_walk::proofs::lower_names::Maps::map_identity))]
     pub fn body_vars(
         &self,
         parameters: &[Parameter],

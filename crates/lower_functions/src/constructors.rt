@@ -18,7 +18,7 @@ use module_lowering::{FunctionForm, Lowerer};
 use std::alloc::{AllocError, Global};
 
 /// A constructor that isn't written. It passes its arguments on, where the class has a heritage (step 10).
-#[tactic(auto, unfolding(statement_rules::specs::Bodies::kept, statement_rules::specs::Bodies::names_of))]
+#[tactic(auto, unfolding(lowering_rules::specs::statement_rules::Bodies::kept, lowering_rules::specs::statement_rules::Bodies::names_of))]
 fn default_constructor(alloc: Global, derived: bool) -> Result<CoreFunction, AllocError>
     ensures { IfOk result (λ f. f ≡ default_constructor derived) }
 {

@@ -9,8 +9,8 @@ use crate::parts::assembled;
 use core_ast::{CoreFunction, CoreKind, Var};
 use lower_bodies::begun;
 use lower_classes::lower_constructor;
+use lowering_rules::statement_rules::Receiver;
 use module_lowering::{FunctionForm, Seen, ThisKind};
-use statement_rules::Receiver;
 use std::alloc::{AllocError, Global};
 
 pub(crate) fn kind_of(form: FunctionForm) -> CoreKind

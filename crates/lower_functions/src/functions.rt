@@ -19,8 +19,8 @@ use crate::walk::Walk;
 use core_ast::{CoreExpr, CoreFunction, CoreKind, CoreStat, FunctionId, Var};
 use es6_ast::{Expression, Function, Parameter, Pattern, Statement};
 use lower_walk::{Around, Here, in_function};
+use lowering_rules::reference_rules::Reached;
 use module_lowering::{FunctionForm, Lowerer, Role, ThisKind};
-use reference_rules::Reached;
 use sqlite_items::Items;
 use std::alloc::AllocError;
 

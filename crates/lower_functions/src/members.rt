@@ -11,11 +11,11 @@ use crate::constructors::is_constructor;
 use crate::walk::Walk;
 use core_ast::FunctionId;
 use es6_ast::{ClassMember as MemberNode, Expression, Function};
-use lower_items::lower_class_key;
+use lower_walk::lower_items::lower_class_key;
 use lower_walk::{Around, member_form, member_kind};
 use lowering_rules::ClassMember;
+use lowering_rules::reference_rules::Reached;
 use module_lowering::{FunctionForm, Lowerer};
-use reference_rules::Reached;
 use std::alloc::AllocError;
 
 impl<

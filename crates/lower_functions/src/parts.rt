@@ -16,11 +16,11 @@ use es6_ast::{Expression, Function, Parameter, Pattern, Statement};
 use lower_bodies::lower_body;
 use lower_params::lower_parameters;
 use lower_walk::Around;
+use lowering_rules::reference_rules::Reached;
+use lowering_rules::statement_rules::BodyNames;
 use lowering_rules::{BodyVar, ParameterScope};
 use module_lowering::{FunctionForm, Lowerer, Role};
-use reference_rules::Reached;
 use sqlite_items::Items;
-use statement_rules::BodyNames;
 use std::alloc::{AllocError, Global};
 use std::marker::Model;
 

@@ -1,7 +1,7 @@
 -- Which of a list are marked, from its start.
 use Rattle.std.proofs.Common.{◌≡◌, Bool, true, false, List, [], ◌∷◌, length, refl, ap, ◌∙◌, arith}
 use Rattle.module_lowering.specs.Nodes.{Hoisted}
-use Rattle.lower_names.specs.Counting.{kept}
+use Rattle.lower_walk.specs.lower_names.Counting.{kept}
 
 pub kept_end : (marks : List Bool) (hs : List Hoisted) → length marks ≡ 0 → kept marks hs ≡ []
 kept_end [] hs e = refl

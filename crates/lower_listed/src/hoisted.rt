@@ -3,7 +3,7 @@
 ghost use Rattle.std.specs.Prelude.{◌≡◌, map, IfOk};
 ghost use Rattle.lower_listed.specs.Hoisted.{hoisted_of};
 ghost use Rattle.lower_walk.specs.Handed.{done_at, HasFunctions};
-ghost use Rattle.lower_names.specs.Counting.{kept};
+ghost use Rattle.lower_walk.specs.lower_names.Counting.{kept};
 ghost use Rattle.module_lowering.specs.Functions.{all_hoisted, body_hoisted, hoisted};
 ghost use Rattle.module_lowering.specs.Lowering.{Lowers};
 
@@ -87,7 +87,7 @@ pub fn lower_hoisted<
 }
 
 /// The same of those of a body, where of several under one name the last counts (9.2.12, step 10).
-#[tactic(auto, using(lower_names::proofs::Counted::last_ones_kept))]
+#[tactic(auto, using(lower_walk::proofs::lower_names::Counted::last_ones_kept))]
 pub fn lower_body_hoisted<
     E,
     P,

@@ -6,7 +6,7 @@ ghost use Rattle.module_lowering.specs.Names.{places};
 
 use es_text::Span;
 use es6_ast::{Expression, Identifier};
-use lower_names::ListsName;
+use lower_walk::lower_names::ListsName;
 use shared_text::Name;
 use sqlite_items::Items;
 use std::alloc::{AllocError, Global};

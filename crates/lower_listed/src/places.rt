@@ -9,7 +9,7 @@ ghost use Rattle.module_lowering.specs.Statements.{parts_names};
 
 use crate::names::expression_name;
 use es6_ast::{ArrayPart, Expression, ObjectPart, Part, Pattern};
-use lower_names::ListsName;
+use lower_walk::lower_names::ListsName;
 use sqlite_items::Items;
 use std::alloc::AllocError;
 

@@ -7,7 +7,7 @@ use Rattle.es6_ast.specs.declared.module.Module.{Module}
 use Rattle.core_ast.specs.declared.parts.Var.{Var}
 use Rattle.core_ast.specs.declared.tree.CoreStat.{CoreStat}
 use Rattle.core_ast.specs.declared.whole.CorePart.{CorePart}
-use Rattle.statement_rules.specs.declared.bodies.ModuleScope.{ModuleScope}
+use Rattle.lowering_rules.specs.declared.statement_rules.bodies.ModuleScope.{ModuleScope}
 use Rattle.module_lowering.specs.declared.context.Context.{Context}
 use Rattle.module_lowering.specs.declared.meaning.Entry.{Entry}
 use Rattle.module_lowering.specs.Nodes.{Listed}

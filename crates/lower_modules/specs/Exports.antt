@@ -2,8 +2,8 @@
 use Rattle.std.specs.Prelude.{false, true}
 use Rattle.core_ast.specs.declared.parts.Var.{Var}
 use Rattle.scope_rules.specs.declared.kinds.Kind.{Kind}
-use Rattle.reference_rules.specs.declared.references.NamedValue.{NamedValue}
-use Rattle.reference_rules.specs.declared.references.NamedValue.TheVariants.{HostName}
+use Rattle.lowering_rules.specs.declared.reference_rules.references.NamedValue.{NamedValue}
+use Rattle.lowering_rules.specs.declared.reference_rules.references.NamedValue.TheVariants.{HostName}
 use Rattle.module_lowering.specs.declared.meaning.Meaning.{Meaning}
 use Rattle.module_lowering.specs.declared.meaning.Meaning.TheVariants.{Elsewhere, Itself, NamespaceOf, OfHost}
 use Rattle.module_lowering.specs.Bindings.{can_be_unready, imported_value}

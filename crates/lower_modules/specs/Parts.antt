@@ -5,8 +5,8 @@ use Rattle.core_ast.specs.declared.parts.Var.{Var}
 use Rattle.core_ast.specs.declared.whole.CorePart.{CorePart}
 use Rattle.es6_ast.specs.declared.graph.LoadedModule.{LoadedModule}
 use Rattle.es6_ast.specs.declared.module.Item.{Item}
-use Rattle.statement_rules.specs.declared.bodies.ModuleScope.{ModuleScope}
-use Rattle.statement_rules.specs.declared.bodies.Namespace.{Namespace}
+use Rattle.lowering_rules.specs.declared.statement_rules.bodies.ModuleScope.{ModuleScope}
+use Rattle.lowering_rules.specs.declared.statement_rules.bodies.Namespace.{Namespace}
 use Rattle.module_lowering.specs.declared.context.Context.{Context}
 use Rattle.module_lowering.specs.declared.meaning.Entry.{Entry}
 use Rattle.module_lowering.specs.declared.meaning.NamespaceEntries.{NamespaceEntries}

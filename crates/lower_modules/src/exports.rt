@@ -6,20 +6,20 @@ ghost use Rattle.lower_walk.specs.Handed.{done_at};
 ghost use Rattle.module_lowering.specs.Bindings.{meaning, own_var};
 ghost use Rattle.module_lowering.specs.Lowering.{define, each_by, Lowers};
 ghost use Rattle.module_lowering.specs.Modules.{exported, exported_by, exported_own, exported_value, namespace_objects};
-ghost use Rattle.reference_rules.specs.References.{found, value_of};
-ghost use Rattle.statement_rules.specs.Bodies.{export_getter};
+ghost use Rattle.lowering_rules.specs.reference_rules.References.{found, value_of};
+ghost use Rattle.lowering_rules.specs.statement_rules.Bodies.{export_getter};
 
 use core_ast::{CoreFunction, FunctionId, Var};
 use lower_bodies::export_getter;
-use lower_names::{Bindings, can_be_unready, imported_value, units_of};
 use lower_references::{lower_found, value_of};
 use lower_walk::Around;
+use lower_walk::lower_names::{Bindings, can_be_unready, imported_value, units_of};
+use lowering_rules::reference_rules::NamedValue;
+use lowering_rules::statement_rules::{Export, Namespace};
 use module_lowering::{Entry, Lowerer, Meaning};
-use reference_rules::NamedValue;
 use scope_analysis::BindingId;
 use scope_rules::Kind;
 use sqlite_items::Items;
-use statement_rules::{Export, Namespace};
 use std::alloc::{AllocError, Global};
 
 /// What a binding of a module stands for, which is of this kind, in a namespace object.

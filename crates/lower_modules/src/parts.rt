@@ -15,12 +15,12 @@ use core_ast::{CorePart, CoreStat, FunctionId};
 use es6_ast::{Expression, Function, LoadedModule, Module, Statement};
 use indexmap::IndexSet;
 use lower_bodies::lower_part;
-use lower_names::{Bindings, behind};
+use lower_walk::lower_names::{Bindings, behind};
 use lower_walk::{Around, Here};
+use lowering_rules::reference_rules::Reached;
+use lowering_rules::statement_rules::ModuleScope;
 use module_lowering::{Context, FunctionForm, Lowerer, NamespaceEntries, ThisKind};
-use reference_rules::Reached;
 use sqlite_items::Items;
-use statement_rules::ModuleScope;
 use std::alloc::{AllocError, Global};
 
 /// The scope of a module, and its statements.

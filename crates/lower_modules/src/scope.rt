@@ -15,9 +15,9 @@ use core_ast::{Declared, FunctionId, ScopedName, Var};
 use es6_ast::{Function, Item};
 use lower_listed::{HoistedAt, NamedAt, lower_hoisted, name_places, scope_places};
 use lower_walk::{Around, Here};
+use lowering_rules::statement_rules::{ModuleScope, Namespace};
 use module_lowering::{Entry, FunctionForm, Lowerer};
 use sqlite_items::Items;
-use statement_rules::{ModuleScope, Namespace};
 use std::alloc::{AllocError, Global};
 
 /// What the items of a module declare, without their statements.

@@ -13,8 +13,8 @@ use lower_bodies::lower_default;
 use lower_flow::lower_class_at;
 use lower_parts::alone;
 use lower_walk::{Around, Here};
+use lowering_rules::reference_rules::Reached;
 use module_lowering::{FunctionForm, Lowerer};
-use reference_rules::Reached;
 use sqlite_items::Items;
 use std::alloc::AllocError;
 

@@ -4,7 +4,7 @@ use Rattle.std.proofs.Common.{◌≡◌, ℕ, Bool, true, false, cond, nat_eq, L
 use Rattle.std.proofs.lemmas.List.{map-append}
 use Rattle.std.specs.Cmp.Lexicographic.{pointwise}
 use Rattle.std.specs.List.{list_any}
-use Rattle.reference_rules.specs.Objects.{has_text, with_text}
+use Rattle.lowering_rules.specs.reference_rules.Objects.{has_text, with_text}
 
 abbrev pub Key : Type 0
 Key = Bor (List ℕ)

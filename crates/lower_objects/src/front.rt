@@ -1,14 +1,14 @@
 //! The members in front that a literal of a script can hold.
 
 ghost use Rattle.std.specs.Prelude.{◌≡◌, ◌≤◌, [], length, IfOk, OnOk};
-ghost use Rattle.reference_rules.specs.Objects.{fits, front, seen_with};
+ghost use Rattle.lowering_rules.specs.reference_rules.Objects.{fits, front, seen_with};
 
 use crate::texts::SeenTexts;
-use reference_rules::{ObjectKey, ObjectMember};
+use lowering_rules::reference_rules::{ObjectKey, ObjectMember};
 use std::alloc::{AllocError, Global};
 
 /// Whether the member may stand behind those that are seen, and then it is seen.
-#[tactic(auto, unfolding(reference_rules::specs::Objects::fits, reference_rules::specs::Objects::seen_with))]
+#[tactic(auto, unfolding(lowering_rules::specs::reference_rules::Objects::fits, lowering_rules::specs::reference_rules::Objects::seen_with))]
 fn fits<'a>(seen: &mut SeenTexts<'a>, member: &'a ObjectMember) -> Result<bool, AllocError>
     ensures found { IfOk result (λ b. b ≡ fits seen.old member.now) }
     ensures kept { OnOk result (seen.new ≡ seen_with seen.old member.now) }

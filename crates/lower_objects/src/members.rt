@@ -6,8 +6,8 @@ ghost use Rattle.core_ast.specs.declared.parts.CoreOp.TheVariants as op;
 ghost use Rattle.core_ast.specs.declared.tree.CoreLink.TheVariants as link;
 ghost use Rattle.lowering_rules.specs.Classes.{put};
 ghost use Rattle.lowering_rules.specs.Making.{flag};
-ghost use Rattle.reference_rules.specs.declared.objects.ObjectMember.TheVariants.{Valued};
-ghost use Rattle.reference_rules.specs.Objects.{defining, key_part, member_put, putting};
+ghost use Rattle.lowering_rules.specs.declared.reference_rules.objects.ObjectMember.TheVariants.{Valued};
+ghost use Rattle.lowering_rules.specs.reference_rules.Objects.{defining, key_part, member_put, putting};
 
 use core_ast::{
     CoreExpr, CoreHead, CoreLink, CoreOp, FunctionId, Primitive, Var, acting, expression, linked,
@@ -15,11 +15,11 @@ use core_ast::{
 };
 use lower_parts::{flag, text, to_text};
 use lowering_rules::MemberKind;
-use reference_rules::{ObjectKey, ObjectMember};
+use lowering_rules::reference_rules::{ObjectKey, ObjectMember};
 use sqlite_items::Items;
 use std::alloc::{AllocError, Global};
 
-#[tactic(auto, unfolding(reference_rules::specs::Objects::key_part))]
+#[tactic(auto, unfolding(lowering_rules::specs::reference_rules::Objects::key_part))]
 fn key_part(alloc: Global, key: ObjectKey) -> Result<CoreExpr, AllocError>
     ensures { IfOk result (λ x. x ≡ key_part key) }
 {
@@ -67,7 +67,7 @@ fn function_put(
     }
 }
 
-#[tactic(auto, unfolding(reference_rules::specs::Objects::member_put))]
+#[tactic(auto, unfolding(lowering_rules::specs::reference_rules::Objects::member_put))]
 fn member_put(alloc: Global, object: CoreExpr, member: ObjectMember) -> Result<CoreExpr, AllocError>
     ensures { IfOk result (λ x. x ≡ member_put object member) }
 {
@@ -99,7 +99,7 @@ pub(crate) fn putting(
     acting(alloc, CoreOp::Then, put)
 }
 
-#[tactic(auto, unfolding(reference_rules::specs::Objects::defining))]
+#[tactic(auto, unfolding(lowering_rules::specs::reference_rules::Objects::defining))]
 fn push_valued(
     alloc: Global,
     key: ObjectKey,
@@ -115,7 +115,7 @@ fn push_valued(
 }
 
 /// The member of a literal.
-#[tactic(auto, unfolding(reference_rules::specs::Objects::defining))]
+#[tactic(auto, unfolding(lowering_rules::specs::reference_rules::Objects::defining))]
 pub(crate) fn push_defining(
     alloc: Global,
     member: ObjectMember,

@@ -1,15 +1,15 @@
 //! Object literals (ECMA-262, 6th edition, 12.2.6).
 
 ghost use Rattle.std.specs.Prelude.{◌≡◌, map, IfOk};
-ghost use Rattle.reference_rules.specs.Drawing.{Makes};
-ghost use Rattle.reference_rules.specs.Objects.{behind, completed, literal, object, putting};
+ghost use Rattle.lowering_rules.specs.reference_rules.Drawing.{Makes};
+ghost use Rattle.lowering_rules.specs.reference_rules.Objects.{behind, completed, literal, object, putting};
 
 use crate::front::front;
 use crate::members::{push_defining, putting};
 use core_ast::{CoreExpr, CoreHead, CoreLink, Var, variable};
 use lower_parts::{stored, then};
 use lowering_rules::Names;
-use reference_rules::ObjectMember;
+use lowering_rules::reference_rules::ObjectMember;
 use sqlite_items::Items;
 use std::alloc::{AllocError, Global};
 use std::collections::VecDeque;

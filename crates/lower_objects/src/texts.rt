@@ -1,7 +1,7 @@
 //! Texts of names that stood before.
 
 ghost use Rattle.std.specs.Prelude.{◌≡◌, [], not, IfOk, OnOk};
-ghost use Rattle.reference_rules.specs.Objects.{has_text, with_text};
+ghost use Rattle.lowering_rules.specs.reference_rules.Objects.{has_text, with_text};
 
 use indexmap::IndexSet;
 use std::alloc::{AllocError, Global};

@@ -2,9 +2,9 @@
 
 ghost use Rattle.std.specs.Prelude.{◌≡◌, ◌++◌, IfOk, OnOk};
 ghost use Rattle.std.specs.List.{flat_map, list_any};
-ghost use Rattle.reference_rules.specs.declared.references.Reached.TheVariants.{Property};
-ghost use Rattle.reference_rules.specs.Drawing.{Makes};
-ghost use Rattle.reference_rules.specs.References.{called, called_as_tag, callee, callee_alone, callee_kept, constructed, is_iterator, is_spread, listed_call, plain_call, single};
+ghost use Rattle.lowering_rules.specs.declared.reference_rules.references.Reached.TheVariants.{Property};
+ghost use Rattle.lowering_rules.specs.reference_rules.Drawing.{Makes};
+ghost use Rattle.lowering_rules.specs.reference_rules.References.{called, called_as_tag, callee, callee_alone, callee_kept, constructed, is_iterator, is_spread, listed_call, plain_call, single};
 
 use crate::made_calls::{listed_call, plain_call, with_first};
 use crate::members::{member, member_read};
@@ -13,8 +13,8 @@ use crate::reached::value_of;
 use core_ast::{CoreExpr, CoreLink, CoreOp, Primitive, linked, variable};
 use es_outside::Site;
 use lower_parts::{lower_arguments, stored};
+use lowering_rules::reference_rules::{Callee, MemberName, Reached};
 use lowering_rules::{ListPart, Names};
-use reference_rules::{Callee, MemberName, Reached};
 use sqlite_items::Items;
 use std::alloc::{AllocError, Global};
 use std::collections::VecDeque;
@@ -43,7 +43,7 @@ fn callee_kept(
     Ok(Callee { function, receiver })
 }
 
-#[tactic(auto, unfolding(reference_rules::specs::References::is_iterator))]
+#[tactic(auto, unfolding(lowering_rules::specs::reference_rules::References::is_iterator))]
 fn is_iterator(name: &MemberName) -> bool
     ensures { result ≡ is_iterator name.now }
 {
@@ -53,7 +53,7 @@ fn is_iterator(name: &MemberName) -> bool
     }
 }
 
-#[tactic(auto, unfolding(reference_rules::specs::References::callee))]
+#[tactic(auto, unfolding(lowering_rules::specs::reference_rules::References::callee))]
 fn property_callee(
     alloc: Global,
     listed: bool,
@@ -70,7 +70,7 @@ fn property_callee(
     Ok(callee_alone(function))
 }
 
-#[tactic(auto, unfolding(reference_rules::specs::References::callee))]
+#[tactic(auto, unfolding(lowering_rules::specs::reference_rules::References::callee))]
 fn callee(
     alloc: Global,
     listed: bool,
@@ -90,7 +90,7 @@ fn callee(
     }
 }
 
-#[tactic(auto, unfolding(reference_rules::specs::References::is_spread))]
+#[tactic(auto, unfolding(lowering_rules::specs::reference_rules::References::is_spread))]
 fn is_spread(part: &ListPart) -> bool
     ensures { result ≡ is_spread part.now }
 {
@@ -111,7 +111,7 @@ fn has_spread(parts: &[ListPart]) -> bool
     false
 }
 
-#[tactic(auto, unfolding(reference_rules::specs::References::single))]
+#[tactic(auto, unfolding(lowering_rules::specs::reference_rules::References::single))]
 fn push_single(part: ListPart, out: &mut Items<CoreExpr>) -> Result<(), AllocError>
     ensures { OnOk result (out.new ≡ out.old ++ single part) }
 {

@@ -4,20 +4,20 @@
 ghost use Rattle.std.specs.Prelude.{◌≡◌, IfOk};
 ghost use Rattle.core_ast.specs.Made.{variable};
 ghost use Rattle.core_ast.specs.declared.parts.Key.TheVariants.{TextKey};
-ghost use Rattle.reference_rules.specs.Drawing.{Makes};
+ghost use Rattle.lowering_rules.specs.reference_rules.Drawing.{Makes};
 ghost use Rattle.lowering_rules.specs.Patterns.{at_key, at_name, iterator_name, member_at, property_read};
-ghost use Rattle.reference_rules.specs.References.{accessed, converted, drawn_member, drawn_name, member, member_deleted, member_read, settled, settled_computed, settled_key, settled_object};
+ghost use Rattle.lowering_rules.specs.reference_rules.References.{accessed, converted, drawn_member, drawn_name, member, member_deleted, member_read, settled, settled_computed, settled_key, settled_object};
 
 use crate::properties::{at_iterator, at_key, at_name, base_checked, iterator_read};
 use crate::reached::value_of;
 use core_ast::{CoreExpr, CoreOp, Key, Var, act, linked, variable};
 use lower_parts::{stored, then, to_text, two};
+use lowering_rules::reference_rules::{MemberName, Reached};
 use lowering_rules::{MemberTarget, Names, PropertyName};
-use reference_rules::{MemberName, Reached};
 use std::alloc::{AllocError, Global};
 
 /// The property as a reference.
-#[tactic(auto, unfolding(reference_rules::specs::References::member))]
+#[tactic(auto, unfolding(lowering_rules::specs::reference_rules::References::member))]
 pub(crate) fn member(
     alloc: Global,
     object: CoreExpr,
@@ -33,7 +33,7 @@ pub(crate) fn member(
 }
 
 /// The value of the property.
-#[tactic(auto, unfolding(reference_rules::specs::References::member_read))]
+#[tactic(auto, unfolding(lowering_rules::specs::reference_rules::References::member_read))]
 pub(crate) fn member_read(
     alloc: Global,
     object: CoreExpr,
@@ -72,7 +72,7 @@ pub fn lower_accessed(
     Ok(Reached::Property { object, name })
 }
 
-#[tactic(auto, unfolding(reference_rules::specs::References::drawn_name))]
+#[tactic(auto, unfolding(lowering_rules::specs::reference_rules::References::drawn_name))]
 fn drawn_name(name: MemberName, names: &mut Names) -> Result<PropertyName, AllocError>
     ensures { Makes result names.new (drawn_name name names.old) }
 {
@@ -186,7 +186,7 @@ fn iterator_place(alloc: Global, base: Var, object: CoreExpr) -> Result<Settled,
 }
 
 /// The property is settled.
-#[tactic(auto, unfolding(lowering_rules::specs::Patterns::member_at, reference_rules::specs::References::settled))]
+#[tactic(auto, unfolding(lowering_rules::specs::Patterns::member_at, lowering_rules::specs::reference_rules::References::settled))]
 pub(crate) fn settle(alloc: Global, target: MemberTarget) -> Result<Settled, AllocError>
     ensures before { IfOk result (λ s. s.before ≡ settled target.base target.object target.name) }
     ensures at { IfOk result (λ s. s.at ≡ member_at target.base target.name) }

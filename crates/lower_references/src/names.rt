@@ -2,8 +2,8 @@
 
 ghost use Rattle.std.specs.Prelude.{◌≡◌, IfOk};
 ghost use Rattle.lowering_rules.specs.Making.{then};
-ghost use Rattle.reference_rules.specs.Drawing.{Makes};
-ghost use Rattle.reference_rules.specs.References.{checked_written, found, name_assigned, name_operated, name_updated, name_updated_after, name_updated_before, old_value, plain_target, ready, refused, type_of, variable_read, written, written_ready};
+ghost use Rattle.lowering_rules.specs.reference_rules.Drawing.{Makes};
+ghost use Rattle.lowering_rules.specs.reference_rules.References.{checked_written, found, name_assigned, name_operated, name_updated, name_updated_after, name_updated_before, old_value, plain_target, ready, refused, type_of, variable_read, written, written_ready};
 
 use crate::operators::{as_number, gives_old, one_further, operated};
 use core_ast::{
@@ -11,12 +11,12 @@ use core_ast::{
     variable,
 };
 use lower_parts::{primitive, stored, then, through};
+use lowering_rules::reference_rules::{Compound, NamedValue, Reached};
 use lowering_rules::{Names, VariableTarget};
-use reference_rules::{Compound, NamedValue, Reached};
 use std::alloc::{AllocError, Global};
 
 /// What the name stands for.
-#[tactic(auto, unfolding(reference_rules::specs::References::found))]
+#[tactic(auto, unfolding(lowering_rules::specs::reference_rules::References::found))]
 pub fn lower_found(alloc: Global, name: NamedValue) -> Reached
     ensures { result ≡ found name }
 {

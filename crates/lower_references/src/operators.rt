@@ -1,14 +1,14 @@
 //! The operators of assignments (ECMA-262, 6th edition, 12.4, 12.5 and 12.14; of powers the 7th).
 
 ghost use Rattle.std.specs.Prelude.{◌≡◌, IfOk};
-ghost use Rattle.reference_rules.specs.References.{as_number, by_one, gives_old, one_further, operated, operation};
+ghost use Rattle.lowering_rules.specs.reference_rules.References.{as_number, by_one, gives_old, one_further, operated, operation};
 
 use core_ast::{Binary, CoreExpr, CoreOp, Primitive, Unary, Update, act, linked};
 use lower_parts::{number, two};
-use reference_rules::Compound;
+use lowering_rules::reference_rules::Compound;
 use std::alloc::{AllocError, Global};
 
-#[tactic(auto, unfolding(reference_rules::specs::References::operation))]
+#[tactic(auto, unfolding(lowering_rules::specs::reference_rules::References::operation))]
 fn operation(by: Compound) -> CoreOp
     ensures { result ≡ operation by }
 {
@@ -37,7 +37,7 @@ pub(crate) fn as_number(alloc: Global, value: CoreExpr) -> Result<CoreExpr, Allo
     linked(value, act(alloc, CoreOp::Unary(Unary::Plus)))
 }
 
-#[tactic(auto, unfolding(reference_rules::specs::References::by_one))]
+#[tactic(auto, unfolding(lowering_rules::specs::reference_rules::References::by_one))]
 fn by_one(update: Update) -> Binary
     ensures { result ≡ by_one update }
 {
@@ -48,7 +48,7 @@ fn by_one(update: Update) -> Binary
 }
 
 /// Whether the value is that before the update.
-#[tactic(auto, unfolding(reference_rules::specs::References::gives_old))]
+#[tactic(auto, unfolding(lowering_rules::specs::reference_rules::References::gives_old))]
 pub(crate) fn gives_old(update: Update) -> bool
     ensures { result ≡ gives_old update }
 {

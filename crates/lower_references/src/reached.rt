@@ -1,8 +1,8 @@
 //! What expressions come to before their value is taken (ECMA-262, 6th edition, 6.2.3).
 
 ghost use Rattle.std.specs.Prelude.{◌≡◌, IfOk};
-ghost use Rattle.reference_rules.specs.Drawing.{Makes};
-ghost use Rattle.reference_rules.specs.References.{assigned, deleted, operated_at, updated, value_deleted, value_of};
+ghost use Rattle.lowering_rules.specs.reference_rules.Drawing.{Makes};
+ghost use Rattle.lowering_rules.specs.reference_rules.References.{assigned, deleted, operated_at, updated, value_deleted, value_of};
 
 use crate::members::{member_deleted, member_read};
 use crate::names::{name_assigned, name_operated, name_updated, old_value, plain_target};
@@ -11,11 +11,11 @@ use crate::writes::{member_assigned, member_operated, member_updated};
 use core_ast::{CoreExpr, Update};
 use lower_parts::{flag, then};
 use lowering_rules::Names;
-use reference_rules::{Compound, Reached};
+use lowering_rules::reference_rules::{Compound, Reached};
 use std::alloc::{AllocError, Global};
 
 /// The value.
-#[tactic(auto, unfolding(reference_rules::specs::References::value_of))]
+#[tactic(auto, unfolding(lowering_rules::specs::reference_rules::References::value_of))]
 pub fn value_of(alloc: Global, reached: Reached) -> Result<CoreExpr, AllocError>
     ensures { IfOk result (λ x. x ≡ value_of reached) }
 {
@@ -28,7 +28,7 @@ pub fn value_of(alloc: Global, reached: Reached) -> Result<CoreExpr, AllocError>
 }
 
 /// `=`
-#[tactic(auto, unfolding(reference_rules::specs::References::assigned))]
+#[tactic(auto, unfolding(lowering_rules::specs::reference_rules::References::assigned))]
 pub fn lower_assigned(
     alloc: Global,
     reached: Reached,
@@ -48,7 +48,7 @@ pub fn lower_assigned(
 }
 
 /// `+=` and the like.
-#[tactic(auto, unfolding(reference_rules::specs::References::operated_at))]
+#[tactic(auto, unfolding(lowering_rules::specs::reference_rules::References::operated_at))]
 pub fn lower_operated(
     alloc: Global,
     reached: Reached,
@@ -69,7 +69,7 @@ pub fn lower_operated(
 }
 
 /// `++` and `--`.
-#[tactic(auto, unfolding(reference_rules::specs::References::updated))]
+#[tactic(auto, unfolding(lowering_rules::specs::reference_rules::References::updated))]
 pub fn lower_updated(
     alloc: Global,
     reached: Reached,
@@ -93,7 +93,7 @@ fn value_deleted(alloc: Global, value: CoreExpr) -> Result<CoreExpr, AllocError>
 }
 
 /// `delete`
-#[tactic(auto, unfolding(reference_rules::specs::References::deleted))]
+#[tactic(auto, unfolding(lowering_rules::specs::reference_rules::References::deleted))]
 pub fn lower_deleted(alloc: Global, reached: Reached) -> Result<CoreExpr, AllocError>
     ensures { IfOk result (λ x. x ≡ deleted reached) }
 {

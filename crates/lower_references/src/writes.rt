@@ -4,9 +4,9 @@ ghost use Rattle.std.specs.Prelude.{◌≡◌, IfOk};
 ghost use Rattle.core_ast.specs.declared.parts.CoreOp.TheVariants as op;
 ghost use Rattle.lowering_rules.specs.Making.{stored, two};
 ghost use Rattle.lowering_rules.specs.Patterns.{property_read};
-ghost use Rattle.reference_rules.specs.Drawing.{Makes};
-ghost use Rattle.reference_rules.specs.declared.references.MemberName.TheVariants.{Named};
-ghost use Rattle.reference_rules.specs.References.{as_number, is_direct, is_still, is_still_head, member, member_assigned, member_operated, member_updated, operated_in, pattern_assigned, put_at, settled_first, settled_operated, settled_updated, updated_after_at, updated_at};
+ghost use Rattle.lowering_rules.specs.reference_rules.Drawing.{Makes};
+ghost use Rattle.lowering_rules.specs.declared.reference_rules.references.MemberName.TheVariants.{Named};
+ghost use Rattle.lowering_rules.specs.reference_rules.References.{as_number, is_direct, is_still, is_still_head, member, member_assigned, member_operated, member_updated, operated_in, pattern_assigned, put_at, settled_first, settled_operated, settled_updated, updated_after_at, updated_at};
 
 use crate::members::{Settled, drawn_member, member, old_at, settle};
 use crate::operators::{as_number, gives_old, one_further, operated};
@@ -15,12 +15,12 @@ use core_ast::{
     CoreExpr, CoreHead, CoreLink, CoreOp, CoreStat, Key, Update, Var, act, linked, variable,
 };
 use lower_parts::{stored, then, two};
+use lowering_rules::reference_rules::{Compound, MemberName};
 use lowering_rules::{MemberTarget, Names, PropertyName};
-use reference_rules::{Compound, MemberName};
 use sqlite_items::Items;
 use std::alloc::{AllocError, Global};
 
-#[tactic(auto, unfolding(reference_rules::specs::References::is_still_head))]
+#[tactic(auto, unfolding(lowering_rules::specs::reference_rules::References::is_still_head))]
 fn is_still_head(head: &CoreHead) -> bool
     ensures { result ≡ is_still_head head.now }
 {
@@ -48,7 +48,7 @@ fn is_still(value: &CoreExpr) -> bool
     (value.links.len() == 0) & is_still_head(&value.head)
 }
 
-#[tactic(auto, unfolding(reference_rules::specs::References::is_direct))]
+#[tactic(auto, unfolding(lowering_rules::specs::reference_rules::References::is_direct))]
 fn is_direct(name: &MemberName, value: &CoreExpr) -> bool
     ensures { result ≡ is_direct name.now value.now }
 {
@@ -123,7 +123,7 @@ fn drawn_operated(
     settled_operated(alloc, target, by, value)
 }
 
-#[tactic(auto, unfolding(reference_rules::specs::References::member_operated))]
+#[tactic(auto, unfolding(lowering_rules::specs::reference_rules::References::member_operated))]
 fn named_operated(
     alloc: Global,
     object: CoreExpr,
@@ -146,7 +146,7 @@ fn named_operated(
 }
 
 /// `o.k += e`, `o[k] += e` and the like.
-#[tactic(auto, unfolding(reference_rules::specs::References::member_operated))]
+#[tactic(auto, unfolding(lowering_rules::specs::reference_rules::References::member_operated))]
 pub(crate) fn member_operated(
     alloc: Global,
     object: CoreExpr,
@@ -222,7 +222,7 @@ fn settled_updated(
 }
 
 /// `o.k++`, `o[k]++` and the like.
-#[tactic(auto, unfolding(reference_rules::specs::References::member_updated))]
+#[tactic(auto, unfolding(lowering_rules::specs::reference_rules::References::member_updated))]
 pub(crate) fn member_updated(
     alloc: Global,
     object: CoreExpr,

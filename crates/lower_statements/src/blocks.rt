@@ -1,7 +1,7 @@
 //! Blocks and declarations (ECMA-262, 6th edition, 13.2, 13.3 and 14.5).
 
 ghost use Rattle.std.specs.Prelude.{◌≡◌, ◌++◌, map, IfOk, OnOk};
-ghost use Rattle.statement_rules.specs.Statements.{assigned_var, block, class_declared, hoisted, lexical};
+ghost use Rattle.lowering_rules.specs.statement_rules.Statements.{assigned_var, block, class_declared, hoisted, lexical};
 
 use core_ast::{
     CoreExpr, CoreHead, CoreStat, Declared, ScopedName, Var, expression, undefined, variable,
@@ -49,7 +49,7 @@ pub fn lower_block(
 }
 
 /// A name of a `let` or `const` is initialized.
-#[tactic(auto, unfolding(statement_rules::specs::Statements::lexical))]
+#[tactic(auto, unfolding(lowering_rules::specs::statement_rules::Statements::lexical))]
 pub fn lower_lexical(
     alloc: Global,
     var: Var,
@@ -64,7 +64,7 @@ pub fn lower_lexical(
 }
 
 /// A name of a `var` takes its value, where there is one.
-#[tactic(auto, unfolding(statement_rules::specs::Statements::assigned_var))]
+#[tactic(auto, unfolding(lowering_rules::specs::statement_rules::Statements::assigned_var))]
 pub fn lower_var(
     alloc: Global,
     var: Var,

@@ -1,14 +1,14 @@
 //! `if` and `switch` (ECMA-262, 6th edition, 13.6 and 13.12).
 
 ghost use Rattle.std.specs.Prelude.{◌≡◌, ◌++◌, IfOk, OnOk};
-ghost use Rattle.statement_rules.specs.Statements.{branch, chosen, if_chain, otherwise, switch};
+ghost use Rattle.lowering_rules.specs.statement_rules.Statements.{branch, chosen, if_chain, otherwise, switch};
 
 use crate::blocks::lower_block;
 use crate::jumps::labelled;
 use core_ast::{CoreCase, CoreExpr, CoreStat, Declared, ScopedName, Var, variable};
 use lower_parts::{alone, set};
+use lowering_rules::statement_rules::SwitchParts;
 use sqlite_items::Items;
-use statement_rules::SwitchParts;
 use std::alloc::{AllocError, Global};
 
 /// A case of an `if`.
@@ -19,7 +19,7 @@ pub fn branch(test: CoreExpr, body: Items<CoreStat>) -> CoreCase
     CoreCase { test, body }
 }
 
-#[tactic(auto, unfolding(statement_rules::specs::Statements::otherwise))]
+#[tactic(auto, unfolding(lowering_rules::specs::statement_rules::Statements::otherwise))]
 fn push_otherwise(
     other: Option<Items<CoreStat>>,
     out: &mut Items<CoreCase>,

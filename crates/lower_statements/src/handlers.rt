@@ -1,12 +1,12 @@
 //! `try` (ECMA-262, 6th edition, 13.15).
 
 ghost use Rattle.std.specs.Prelude.{◌≡◌, IfOk};
-ghost use Rattle.statement_rules.specs.Statements.{attempt, caught, ended, handled};
+ghost use Rattle.lowering_rules.specs.statement_rules.Statements.{attempt, caught, ended, handled};
 
 use core_ast::CoreStat;
 use lower_parts::alone;
+use lowering_rules::statement_rules::Handler;
 use sqlite_items::Items;
-use statement_rules::Handler;
 use std::alloc::{AllocError, Global};
 
 /// What is thrown is bound to the pattern before the handler's block is entered.
@@ -29,7 +29,7 @@ fn handled(block: Items<CoreStat>, handler: Handler) -> Result<CoreStat, AllocEr
     })
 }
 
-#[tactic(auto, unfolding(statement_rules::specs::Statements::caught))]
+#[tactic(auto, unfolding(lowering_rules::specs::statement_rules::Statements::caught))]
 fn caught(
     alloc: Global,
     block: Items<CoreStat>,
@@ -43,7 +43,7 @@ fn caught(
     }
 }
 
-#[tactic(auto, unfolding(statement_rules::specs::Statements::ended))]
+#[tactic(auto, unfolding(lowering_rules::specs::statement_rules::Statements::ended))]
 fn ended(
     alloc: Global,
     block: Items<CoreStat>,

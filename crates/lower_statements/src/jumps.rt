@@ -1,7 +1,7 @@
 //! Labels, jumps and returns (ECMA-262, 6th edition, 13.8 to 13.10 and 13.13).
 
 ghost use Rattle.std.specs.Prelude.{◌≡◌, IfOk};
-ghost use Rattle.statement_rules.specs.Statements.{body_label, exit_label, jump, labelled, returned};
+ghost use Rattle.lowering_rules.specs.statement_rules.Statements.{body_label, exit_label, jump, labelled, returned};
 
 use core_ast::{CoreExpr, CoreStat, Label, undefined};
 use sqlite_items::Items;
@@ -47,7 +47,7 @@ pub fn labelled(label: Label, body: Items<CoreStat>) -> CoreStat
 }
 
 /// A return of this value, or of undefined.
-#[tactic(auto, unfolding(statement_rules::specs::Statements::returned))]
+#[tactic(auto, unfolding(lowering_rules::specs::statement_rules::Statements::returned))]
 pub fn lower_return(alloc: Global, value: Option<CoreExpr>) -> CoreStat
     ensures { result ≡ returned value }
 {

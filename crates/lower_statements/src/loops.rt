@@ -3,15 +3,15 @@
 ghost use Rattle.std.specs.Prelude.{◌≡◌, [], ◌∷◌, ◌++◌, false, IfOk, OnOk};
 ghost use Rattle.core_ast.specs.declared.tree.CoreStat.TheVariants as stat;
 ghost use Rattle.lowering_rules.specs.Making.{when};
-ghost use Rattle.statement_rules.specs.Statements.{all_turns, copied, copying_turns, do_while, followed, for_loop, jump, labelled, negated, own_turns, turn_names, turns, while_loop};
+ghost use Rattle.lowering_rules.specs.statement_rules.Statements.{all_turns, copied, copying_turns, do_while, followed, for_loop, jump, labelled, negated, own_turns, turn_names, turns, while_loop};
 
 use crate::jumps::{jump, labelled};
 use core_ast::{
     CoreExpr, CoreHead, CoreOp, CoreStat, Label, ScopedName, Unary, Var, act, expression, linked,
 };
 use lower_parts::{alone, push_scoped, then, when};
+use lowering_rules::statement_rules::{ForLoop, ForTurns};
 use sqlite_items::Items;
-use statement_rules::{ForLoop, ForTurns};
 use std::alloc::{AllocError, Global};
 
 fn looping(
@@ -89,7 +89,7 @@ fn copied(alloc: Global, vars: &[Var]) -> Result<CoreExpr, AllocError>
     Ok(expression(alloc, CoreHead::Copy(vars)))
 }
 
-#[tactic(auto, unfolding(statement_rules::specs::Statements::followed))]
+#[tactic(auto, unfolding(lowering_rules::specs::statement_rules::Statements::followed))]
 fn followed(alloc: Global, value: CoreExpr, next: Option<CoreExpr>) -> Result<CoreExpr, AllocError>
     ensures { IfOk result (λ x. x ≡ followed value next) }
 {

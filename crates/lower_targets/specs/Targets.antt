@@ -14,7 +14,7 @@ use Rattle.module_lowering.specs.Lowered.{expression_lowered}
 use Rattle.module_lowering.specs.Lowering.{drawing, Lowering, ◌>>=◌}
 use Rattle.module_lowering.specs.Nodes.{Expressed, Form}
 use Rattle.module_lowering.specs.Patterns.{member_reached}
-use Rattle.reference_rules.specs.declared.references.Reached.{Reached}
+use Rattle.lowering_rules.specs.declared.reference_rules.references.Reached.{Reached}
 
 -- the form of a target by itself
 abbrev pub form_by : Expressed → Form

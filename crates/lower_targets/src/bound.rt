@@ -17,8 +17,8 @@ use lower_parts::{alone, set};
 use lower_patterns::{lower_array_pattern, lower_object_pattern};
 use lower_walk::{Around, Here};
 use lowering_rules::ObjectPart as LoweredObjectPart;
+use lowering_rules::reference_rules::Reached;
 use module_lowering::{Lowerer, Role};
-use reference_rules::Reached;
 use sqlite_items::Items;
 use std::alloc::{AllocError, Global};
 

@@ -6,7 +6,7 @@ ghost use Rattle.lower_walk.specs.Handed.{done_at, HasExpressions};
 ghost use Rattle.module_lowering.specs.Lowered.{expression_lowered};
 ghost use Rattle.module_lowering.specs.Lowering.{Lowers};
 ghost use Rattle.module_lowering.specs.Patterns.{member_bound, member_or_none, member_reached, member_taken, target_statements};
-ghost use Rattle.reference_rules.specs.Drawing.{Makes};
+ghost use Rattle.lowering_rules.specs.reference_rules.Drawing.{Makes};
 
 use crate::patterns::Patterns;
 use core_ast::{CoreExpr, CoreStat, Var};
@@ -15,9 +15,9 @@ use lower_parts::set;
 use lower_patterns::member_target;
 use lower_references::drawn_member;
 use lower_walk::Around;
+use lowering_rules::reference_rules::Reached;
 use lowering_rules::{MemberTarget, Names, Target};
 use module_lowering::Lowerer;
-use reference_rules::Reached;
 use sqlite_items::Items;
 use std::alloc::{AllocError, Global};
 

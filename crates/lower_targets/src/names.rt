@@ -11,14 +11,14 @@ use crate::patterns::Patterns;
 use core_ast::{CoreExpr, CoreStat, Var};
 use es6_ast::Expression;
 use lower_listed::NamedAt;
-use lower_names::ListsName;
 use lower_parts::{alone, initialize, set};
 use lower_patterns::{assigned_target, declared_target};
 use lower_references::lower_assigned;
 use lower_walk::Around;
+use lower_walk::lower_names::ListsName;
+use lowering_rules::reference_rules::Reached;
 use lowering_rules::{Target, VariableTarget};
 use module_lowering::{Lowerer, Role};
-use reference_rules::Reached;
 use sqlite_items::Items;
 use std::alloc::AllocError;
 

@@ -9,15 +9,15 @@ ghost use Rattle.module_lowering.specs.Patterns.{named_key, property_name, prope
 use crate::patterns::Patterns;
 use core_ast::{CoreExpr, CoreStat, Key as CoreKey, Var};
 use es6_ast::{ArrayPart, Expression, Key, ObjectPart, Part, Pattern};
-use lower_items::lower_property_name;
 use lower_listed::{NamedAt, pattern_names};
-use lower_names::ListsName;
 use lower_walk::Around;
+use lower_walk::lower_items::lower_property_name;
+use lower_walk::lower_names::ListsName;
+use lowering_rules::reference_rules::Reached;
 use lowering_rules::{
     ArrayPart as LoweredArrayPart, Iteration, ObjectPart as LoweredObjectPart, PropertyName,
 };
 use module_lowering::{Lowerer, Role};
-use reference_rules::Reached;
 use shared_text::Name;
 use sqlite_items::Items;
 use std::alloc::AllocError;

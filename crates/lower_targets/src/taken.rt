@@ -12,8 +12,8 @@ use es6_ast::{Expression, Part, Pattern};
 use lower_listed::expression_name;
 use lower_walk::Around;
 use lowering_rules::Target;
+use lowering_rules::reference_rules::Reached;
 use module_lowering::{Lowerer, Role};
-use reference_rules::Reached;
 use sqlite_items::Items;
 use std::alloc::AllocError;
 

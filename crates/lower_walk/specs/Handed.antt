@@ -11,7 +11,7 @@ use Rattle.es6_ast.specs.declared.tree.Function.{Function}
 use Rattle.core_ast.specs.declared.parts.FunctionId.{FunctionId}
 use Rattle.core_ast.specs.declared.tree.CoreExpr.{CoreExpr}
 use Rattle.core_ast.specs.declared.tree.CoreStat.{CoreStat}
-use Rattle.reference_rules.specs.declared.references.Reached.{Reached}
+use Rattle.lowering_rules.specs.declared.reference_rules.references.Reached.{Reached}
 use Rattle.module_lowering.specs.declared.context.FunctionForm.{FunctionForm}
 use Rattle.module_lowering.specs.declared.context.Role.{Role}
 use Rattle.module_lowering.specs.declared.lowerer.Lowerer.{Lowerer}

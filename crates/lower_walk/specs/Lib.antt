@@ -1,2 +1,3 @@
+pub mod lower_names
 pub mod Handed
 pub mod Keys

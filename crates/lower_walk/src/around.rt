@@ -2,7 +2,7 @@
 
 ghost use Rattle.std.specs.Prelude.{◌≡◌, ◌<◌, ◌-◌};
 
-use lower_names::Bindings;
+use crate::lower_names::Bindings;
 use module_lowering::Context;
 use std::alloc::{AllocError, Global};
 

@@ -14,8 +14,8 @@ use core_ast::{CoreExpr, CoreStat, FunctionId, Var};
 use es6_ast::{Expression, Function, Pattern, Statement};
 use lower_references::value_of;
 use lowering_rules::Iteration;
+use lowering_rules::reference_rules::Reached;
 use module_lowering::{FunctionForm, Lowerer, Role};
-use reference_rules::Reached;
 use sqlite_items::{Boxed, Items};
 use std::alloc::AllocError;
 

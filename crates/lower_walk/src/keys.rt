@@ -11,8 +11,8 @@ use crate::around::Around;
 use crate::here::Here;
 use es6_ast::{Expression, Link, MethodKind};
 use lowering_rules::MemberKind;
+use lowering_rules::reference_rules::{MemberName, Reached};
 use module_lowering::{FunctionForm, Lowerer};
-use reference_rules::{MemberName, Reached};
 use std::alloc::AllocError;
 
 /// Whether an expression is the name `Symbol`.

@@ -8,6 +8,8 @@ mod contexts;
 mod copies;
 mod here;
 mod keys;
+pub mod lower_items;
+pub mod lower_names;
 mod written;
 
 pub use around::Around;

@@ -7,9 +7,9 @@ ghost use Rattle.lowering_rules.specs.Patterns.{iterator_name};
 ghost use Rattle.module_lowering.specs.Expressions.{whole};
 ghost use Rattle.module_lowering.specs.Lowered.{key_lowered};
 
+use crate::lower_names::units_of;
 use core_ast::Key as CoreKey;
 use es6_ast::Key;
-use lower_names::units_of;
 use shared_text::{Name, Units};
 use std::alloc::{AllocError, Global};
 

@@ -1,3 +1,5 @@
+pub mod reference_rules
+pub mod statement_rules
 pub mod Classes
 pub mod Expressions
 pub mod Functions

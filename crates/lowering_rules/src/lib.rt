@@ -7,6 +7,8 @@ mod expressions;
 mod functions;
 mod naming;
 mod patterns;
+pub mod reference_rules;
+pub mod statement_rules;
 
 pub use classes::{ClassKey, ClassMember, ClassNames, MemberKind};
 pub use expressions::{ListPart, TemplatePart};

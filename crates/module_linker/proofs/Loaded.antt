@@ -9,7 +9,7 @@ use Rattle.es6_ast.specs.declared.graph.Request.{Request}
 use Rattle.es6_ast.specs.declared.module.Specifier.{Specifier}
 use Rattle.es6_reading.proofs.Ordered.{order}
 use Rattle.es6_static_semantics.specs.Graphs.{AreLoaded, no_module, one_module, IsLoaded, IsLoadedModule, IsRequest, IsText, request_place, specifier_place, specifiers}
-use Rattle.module_checks.specs.Reading.{IsRead}
+use Rattle.module_linker.specs.module_checks.Reading.{IsRead}
 use Rattle.module_loading.proofs.Coming.{comes-few}
 use Rattle.module_loading.proofs.Ended.{IsSettled, comes-distinct, comes-read, comes-size, comes-some, ended-settled, settled-number}
 use Rattle.module_loading.specs.Files.{Told}

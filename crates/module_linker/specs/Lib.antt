@@ -1,3 +1,5 @@
+pub mod graph_checks
+pub mod module_checks
 pub mod Checking
 pub mod Linking
 pub mod Loading

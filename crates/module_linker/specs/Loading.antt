@@ -4,9 +4,9 @@ use Rattle.es_text.specs.declared.Place.{Place}
 use Rattle.es6_ast.specs.declared.graph.Graph.{Graph}
 use Rattle.es6_ast.specs.declared.graph.LoadedModule.{LoadedModule}
 use Rattle.es6_ast.specs.declared.graph.Request.{Request}
-use Rattle.module_checks.specs.declared.fault.ModuleFault.{ModuleFault}
-use Rattle.module_checks.specs.Faults.{HasFault, IsToldFor}
-use Rattle.module_checks.specs.Reading.{IsRead}
+use Rattle.module_linker.specs.declared.module_checks.fault.ModuleFault.{ModuleFault}
+use Rattle.module_linker.specs.module_checks.Faults.{HasFault, IsToldFor}
+use Rattle.module_linker.specs.module_checks.Reading.{IsRead}
 use Rattle.module_loading.specs.declared.fault.LoadFault.{LoadFault}
 use Rattle.module_loading.specs.Files.{Told}
 use Rattle.module_loading.specs.Loading.{IsFault, IsGraph}

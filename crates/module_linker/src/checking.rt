@@ -9,9 +9,9 @@ ghost use Rattle.module_links.specs.declared.fault.LinkFault.TheVariants.{OutOfM
 
 use crate::linking::link;
 use crate::loading::load;
+use crate::module_checks::ModuleFault;
 use es_outside::{Files, HostNames};
 use es6_ast::Graph;
-use module_checks::ModuleFault;
 use module_links::LinkFault;
 use module_loading::LoadFault;
 use std::alloc::{AllocError, Global};

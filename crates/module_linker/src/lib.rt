@@ -3,14 +3,16 @@
 #![tactic(auto)]
 
 mod checking;
+pub mod graph_checks;
 mod linking;
 mod loading;
+pub mod module_checks;
 mod reading;
 
+pub use crate::module_checks::ModuleFault;
 pub use checking::{CheckFault, UsesGraph, check};
 pub use linking::link;
 pub use loading::{Modules, load};
-pub use module_checks::ModuleFault;
 pub use module_links::LinkFault;
 pub use module_loading::LoadFault;
 pub use reading::read_module;

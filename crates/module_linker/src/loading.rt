@@ -3,15 +3,15 @@
 ghost use Rattle.std.specs.Prelude.{◌≡◌, ◌≤◌, IfOk};
 ghost use Rattle.es_outside.specs.Counts.{CountRose};
 ghost use Rattle.es6_static_semantics.specs.Graphs.{IsLoaded};
-ghost use Rattle.module_checks.specs.Reading.{IsRead};
+ghost use Rattle.module_linker.specs.module_checks.Reading.{IsRead};
 ghost use Rattle.module_linker.specs.Loading.{LoadsGraph, asked, refuses, shows, with_requests};
 ghost use Rattle.module_loading.specs.Loading.{HasReadFault};
 
+use crate::module_checks::ModuleFault;
 use crate::reading::read_module;
 use es_outside::Files;
 use es_text::Place;
 use es6_ast::{Graph, LoadedModule, Request};
-use module_checks::ModuleFault;
 use module_loading::{LoadFault, ReadsModules, Unread};
 use module_places::place_of;
 use sqlite_items::Items;

@@ -4,14 +4,14 @@ ghost use Rattle.std.specs.Prelude.{◌≡◌, [], map, IfErr, IfOk, OnOk};
 ghost use Rattle.es6_static_semantics.specs.Early.{early_pairs};
 ghost use Rattle.es6_static_semantics.specs.Graphs.{specifiers};
 ghost use Rattle.es6_static_semantics.specs.Outside.{outside_pairs};
-ghost use Rattle.module_checks.specs.Faults.{IsMisfit, Refuses};
-ghost use Rattle.module_checks.specs.Reading.{IsRead};
+ghost use Rattle.module_linker.specs.module_checks.Faults.{IsMisfit, Refuses};
+ghost use Rattle.module_linker.specs.module_checks.Reading.{IsRead};
 ghost use Rattle.module_linker.specs.Reading.{unlinked};
 
+use crate::module_checks::{ModuleFault, Text, checked_requests, text_of, unparsed};
 use es_text::Lines;
 use es6_ast::{LoadedModule, Module};
 use es6_module::parse_module;
-use module_checks::{ModuleFault, Text, checked_requests, text_of, unparsed};
 use shared_text::Name;
 use sqlite_items::Items;
 use std::alloc::Global;

@@ -10,13 +10,13 @@ use Rattle.binding_tables.specs.declared.ids.BindingId.{BindingId}
 use Rattle.binding_tables.specs.declared.ids.BindingId.TheVariants.{Global as OutsideScopes, Host, Own}
 use Rattle.scope_rules.specs.declared.kinds.Kind.{Kind}
 use Rattle.scope_rules.specs.declared.kinds.Kind.TheVariants as kind
-use Rattle.scope_tables.specs.declared.binding.Binding.{Binding}
+use Rattle.scope_rules.specs.declared.scope_tables.binding.Binding.{Binding}
 use Rattle.scope_analysis.specs.declared.scopes.Scopes.{Scopes}
 use Rattle.scope_analysis.specs.Answers.{declared_ids, is_captured, is_in_loop, is_unsure, own_binding, referred_ids}
 use Rattle.lowering_rules.specs.declared.patterns.VariableTarget.{VariableTarget}
-use Rattle.reference_rules.specs.declared.references.NamedValue.{NamedValue}
-use Rattle.reference_rules.specs.declared.references.NamedValue.TheVariants.{GlobalName, HostName, UndefinedName, VariableName}
-use Rattle.reference_rules.specs.References.{plain_target}
+use Rattle.lowering_rules.specs.declared.reference_rules.references.NamedValue.{NamedValue}
+use Rattle.lowering_rules.specs.declared.reference_rules.references.NamedValue.TheVariants.{GlobalName, HostName, UndefinedName, VariableName}
+use Rattle.lowering_rules.specs.reference_rules.References.{plain_target}
 use Rattle.module_lowering.specs.declared.context.Context.{Context}
 use Rattle.module_lowering.specs.declared.context.Dead.{Dead}
 use Rattle.module_lowering.specs.declared.meaning.Meaning.{Meaning}

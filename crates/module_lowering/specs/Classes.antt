@@ -15,12 +15,12 @@ use Rattle.lowering_rules.specs.declared.classes.ClassKey.TheVariants.{ComputedN
 use Rattle.lowering_rules.specs.declared.classes.ClassMember.{ClassMember}
 use Rattle.lowering_rules.specs.declared.classes.ClassNames.{ClassNames}
 use Rattle.lowering_rules.specs.declared.naming.Names.{Names}
-use Rattle.reference_rules.specs.declared.references.MemberName.{MemberName}
-use Rattle.reference_rules.specs.declared.references.MemberName.TheVariants.{AtIterator, Indexed, Named}
-use Rattle.statement_rules.specs.Bodies.{begun_with, with_statements}
+use Rattle.lowering_rules.specs.declared.reference_rules.references.MemberName.{MemberName}
+use Rattle.lowering_rules.specs.declared.reference_rules.references.MemberName.TheVariants.{AtIterator, Indexed, Named}
+use Rattle.lowering_rules.specs.statement_rules.Bodies.{begun_with, with_statements}
 use Rattle.lowering_rules.specs.Classes.{class_statements, constructor, default_body}
 use Rattle.lowering_rules.specs.Naming.{Drawn}
-use Rattle.reference_rules.specs.Drawing.{drawn, with_one}
+use Rattle.lowering_rules.specs.reference_rules.Drawing.{drawn, with_one}
 use Rattle.lowering_rules.specs.Patterns.{iterator_name}
 use Rattle.module_lowering.specs.declared.context.Context.{Context}
 use Rattle.module_lowering.specs.declared.context.FunctionForm.TheVariants.{ConstructorForm}

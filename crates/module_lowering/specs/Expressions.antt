@@ -40,22 +40,22 @@ use Rattle.core_ast.specs.Made.{act, constant, linked, undefined, variable}
 use Rattle.lowering_rules.specs.declared.expressions.ListPart.{ListPart}
 use Rattle.lowering_rules.specs.declared.expressions.ListPart.TheVariants.{Missing, Single, Spread}
 use Rattle.lowering_rules.specs.declared.expressions.TemplatePart.{TemplatePart}
-use Rattle.reference_rules.specs.declared.objects.ObjectMember.{ObjectMember}
-use Rattle.reference_rules.specs.declared.references.Compound.{Compound}
-use Rattle.reference_rules.specs.declared.references.Compound.TheVariants.{Operates, Powers}
-use Rattle.reference_rules.specs.declared.references.MemberName.{MemberName}
-use Rattle.reference_rules.specs.declared.references.MemberName.TheVariants.{AtIterator, Indexed, Named}
-use Rattle.reference_rules.specs.declared.references.Reached.{Reached}
-use Rattle.reference_rules.specs.declared.references.Reached.TheVariants.{Inherited, Property, Value, Variable}
-use Rattle.statement_rules.specs.Bodies.{after_running, named_function}
+use Rattle.lowering_rules.specs.declared.reference_rules.objects.ObjectMember.{ObjectMember}
+use Rattle.lowering_rules.specs.declared.reference_rules.references.Compound.{Compound}
+use Rattle.lowering_rules.specs.declared.reference_rules.references.Compound.TheVariants.{Operates, Powers}
+use Rattle.lowering_rules.specs.declared.reference_rules.references.MemberName.{MemberName}
+use Rattle.lowering_rules.specs.declared.reference_rules.references.MemberName.TheVariants.{AtIterator, Indexed, Named}
+use Rattle.lowering_rules.specs.declared.reference_rules.references.Reached.{Reached}
+use Rattle.lowering_rules.specs.declared.reference_rules.references.Reached.TheVariants.{Inherited, Property, Value, Variable}
+use Rattle.lowering_rules.specs.statement_rules.Bodies.{after_running, named_function}
 use Rattle.lowering_rules.specs.Classes.{closure, super_call}
 use Rattle.lowering_rules.specs.Classes as classes
 use Rattle.lowering_rules.specs.Expressions.{arguments, array, template, template_object}
 use Rattle.lowering_rules.specs.Making.{primitive, text, then, through_with, to_text}
-use Rattle.reference_rules.specs.Objects.{object}
+use Rattle.lowering_rules.specs.reference_rules.Objects.{object}
 use Rattle.lowering_rules.specs.Patterns.{iterator_name}
-use Rattle.reference_rules.specs.References as references
-use Rattle.reference_rules.specs.References.{accessed, called, called_as_tag, deleted, operated_at, pattern_assigned, updated, value_of}
+use Rattle.lowering_rules.specs.reference_rules.References as references
+use Rattle.lowering_rules.specs.reference_rules.References.{accessed, called, called_as_tag, deleted, operated_at, pattern_assigned, updated, value_of}
 use Rattle.module_lowering.specs.declared.context.FunctionForm.TheVariants.{PlainForm}
 use Rattle.module_lowering.specs.declared.context.ThisKind.{ThisKind}
 use Rattle.module_lowering.specs.declared.context.ThisKind.TheVariants.{OfConstructor, OfFunction, OfGenerator, OfMethod, OfModule}

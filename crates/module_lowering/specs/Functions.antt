@@ -13,12 +13,12 @@ use Rattle.core_ast.specs.declared.whole.CoreKind.{CoreKind}
 use Rattle.core_ast.specs.declared.whole.CoreKind.TheVariants as kind
 use Rattle.core_ast.specs.declared.whole.Declared.{Declared}
 use Rattle.core_ast.specs.Made.{variable}
-use Rattle.statement_rules.specs.declared.bodies.BodyNames.{BodyNames}
-use Rattle.statement_rules.specs.declared.bodies.Receiver.{Receiver}
+use Rattle.lowering_rules.specs.declared.statement_rules.bodies.BodyNames.{BodyNames}
+use Rattle.lowering_rules.specs.declared.statement_rules.bodies.Receiver.{Receiver}
 use Rattle.lowering_rules.specs.declared.functions.BodyVar.{BodyVar}
 use Rattle.lowering_rules.specs.declared.functions.Parameter.{Parameter}
 use Rattle.lowering_rules.specs.declared.functions.RestParameter.{RestParameter}
-use Rattle.statement_rules.specs.Bodies.{begun, with_body}
+use Rattle.lowering_rules.specs.statement_rules.Bodies.{begun, with_body}
 use Rattle.lowering_rules.specs.Classes.{constructor}
 use Rattle.lowering_rules.specs.Functions.{arrow, concise, with_parameters}
 use Rattle.module_lowering.specs.declared.context.Context.{Context}

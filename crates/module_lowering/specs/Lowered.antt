@@ -28,7 +28,7 @@ use Rattle.es6_ast.specs.declared.tree.Template.{Template, fold-Template}
 use Rattle.es6_ast.specs.declared.tree.TemplatePart.{TemplatePart, fold-TemplatePart}
 use Rattle.core_ast.specs.declared.parts.FunctionId.{FunctionId}
 use Rattle.lowering_rules.specs.declared.expressions.ListPart.{ListPart}
-use Rattle.reference_rules.specs.declared.objects.ObjectMember.{ObjectMember}
+use Rattle.lowering_rules.specs.declared.reference_rules.objects.ObjectMember.{ObjectMember}
 use Rattle.module_lowering.specs.Lowering.{Lowering}
 use Rattle.module_lowering.specs.Nodes.{ArrayParted, Cased, Caught, Classed, Conditioned, Expressed, ForBegun, ForTargeted, Functioned, Keyed, Linked, Listed, Membered, Methoded, ObjectParted, Operated, Parametered, Parted, Patterned, Stated, TemplateParted, Templated}
 use Rattle.module_lowering.specs.Expressions.{argument_step, element_step, expression_step, link_step, operand_step, template_part_step, template_step}

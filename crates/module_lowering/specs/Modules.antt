@@ -24,18 +24,18 @@ use Rattle.binding_tables.specs.declared.ids.BindingId.{BindingId}
 use Rattle.binding_tables.specs.declared.ids.BindingId.TheVariants.{Global, Host, Own}
 use Rattle.scope_rules.specs.declared.kinds.Kind.{Kind}
 use Rattle.scope_rules.specs.declared.kinds.Kind.TheVariants as kind
-use Rattle.scope_tables.specs.declared.binding.Binding.{Binding}
+use Rattle.scope_rules.specs.declared.scope_tables.binding.Binding.{Binding}
 use Rattle.scope_analysis.specs.declared.scopes.Scopes.{Scopes}
 use Rattle.scope_analysis.specs.declared.tables.ModuleScopes.{ModuleScopes}
 use Rattle.scope_analysis.specs.Answers.{end_ids, own_binding}
 use Rattle.scope_analysis.specs.Ends.{named_in}
-use Rattle.statement_rules.specs.declared.bodies.Export.{Export}
-use Rattle.statement_rules.specs.declared.bodies.ModuleScope.{ModuleScope}
-use Rattle.statement_rules.specs.declared.bodies.Namespace.{Namespace as NamespaceObject}
-use Rattle.reference_rules.specs.declared.references.NamedValue.{NamedValue}
-use Rattle.reference_rules.specs.declared.references.NamedValue.TheVariants.{HostName, UndefinedName}
-use Rattle.statement_rules.specs.Bodies.{default_exported, export_getter, part}
-use Rattle.reference_rules.specs.References.{found, value_of}
+use Rattle.lowering_rules.specs.declared.statement_rules.bodies.Export.{Export}
+use Rattle.lowering_rules.specs.declared.statement_rules.bodies.ModuleScope.{ModuleScope}
+use Rattle.lowering_rules.specs.declared.statement_rules.bodies.Namespace.{Namespace as NamespaceObject}
+use Rattle.lowering_rules.specs.declared.reference_rules.references.NamedValue.{NamedValue}
+use Rattle.lowering_rules.specs.declared.reference_rules.references.NamedValue.TheVariants.{HostName, UndefinedName}
+use Rattle.lowering_rules.specs.statement_rules.Bodies.{default_exported, export_getter, part}
+use Rattle.lowering_rules.specs.reference_rules.References.{found, value_of}
 use Rattle.module_lowering.specs.declared.context.Context.{Context}
 use Rattle.module_lowering.specs.declared.context.FunctionForm.TheVariants.{PlainForm}
 use Rattle.module_lowering.specs.declared.context.ThisKind.TheVariants.{OfModule}

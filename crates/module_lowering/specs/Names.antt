@@ -8,9 +8,9 @@ use Rattle.es6_ast.specs.declared.tree.Identifier.{Identifier}
 use Rattle.core_ast.specs.declared.parts.ScopedName.{ScopedName}
 use Rattle.core_ast.specs.declared.parts.Var.{Var}
 use Rattle.lowering_rules.specs.declared.functions.BodyVar.{BodyVar}
-use Rattle.reference_rules.specs.declared.references.Reached.{Reached}
+use Rattle.lowering_rules.specs.declared.reference_rules.references.Reached.{Reached}
 use Rattle.lowering_rules.specs.declared.patterns.VariableTarget.{VariableTarget}
-use Rattle.reference_rules.specs.References as references
+use Rattle.lowering_rules.specs.reference_rules.References as references
 use Rattle.module_lowering.specs.declared.context.Context.{Context}
 use Rattle.module_lowering.specs.Bindings.{Bindings, declared_var, declares_first, finds_arguments, finds_none, found, name_value, scoped_name, target_of}
 use Rattle.module_lowering.specs.Lowering.{Lowering, marking, sees_arguments, ◌>>=◌}

@@ -11,11 +11,11 @@ use Rattle.core_ast.specs.declared.tree.CoreExpr.{CoreExpr}
 use Rattle.core_ast.specs.declared.tree.CoreStat.{CoreStat}
 use Rattle.lowering_rules.specs.declared.expressions.ListPart.{ListPart}
 use Rattle.lowering_rules.specs.declared.naming.Iteration.{Iteration}
-use Rattle.reference_rules.specs.declared.objects.ObjectMember.{ObjectMember}
+use Rattle.lowering_rules.specs.declared.reference_rules.objects.ObjectMember.{ObjectMember}
 use Rattle.lowering_rules.specs.declared.patterns.ArrayPart.{ArrayPart}
 use Rattle.lowering_rules.specs.declared.patterns.ObjectPart.{ObjectPart}
 use Rattle.lowering_rules.specs.declared.patterns.Target.{Target}
-use Rattle.reference_rules.specs.declared.references.Reached.{Reached}
+use Rattle.lowering_rules.specs.declared.reference_rules.references.Reached.{Reached}
 use Rattle.module_lowering.specs.declared.context.FunctionForm.{FunctionForm}
 use Rattle.module_lowering.specs.declared.context.JumpForm.{JumpForm}
 use Rattle.module_lowering.specs.declared.context.Role.{Role}

@@ -19,10 +19,10 @@ use Rattle.lowering_rules.specs.declared.classes.MemberKind.{MemberKind}
 use Rattle.lowering_rules.specs.declared.classes.MemberKind.TheVariants.{Getter, Method, Setter}
 use Rattle.lowering_rules.specs.declared.naming.Iteration.{Iteration}
 use Rattle.lowering_rules.specs.declared.naming.Names.{Names}
-use Rattle.reference_rules.specs.declared.objects.ObjectKey.{ObjectKey}
-use Rattle.reference_rules.specs.declared.objects.ObjectKey.TheVariants.{Evaluated, Written}
-use Rattle.reference_rules.specs.declared.objects.ObjectMember.{ObjectMember}
-use Rattle.reference_rules.specs.declared.objects.ObjectMember.TheVariants.{Defined, Valued}
+use Rattle.lowering_rules.specs.declared.reference_rules.objects.ObjectKey.{ObjectKey}
+use Rattle.lowering_rules.specs.declared.reference_rules.objects.ObjectKey.TheVariants.{Evaluated, Written}
+use Rattle.lowering_rules.specs.declared.reference_rules.objects.ObjectMember.{ObjectMember}
+use Rattle.lowering_rules.specs.declared.reference_rules.objects.ObjectMember.TheVariants.{Defined, Valued}
 use Rattle.lowering_rules.specs.declared.patterns.ArrayPart.{ArrayPart}
 use Rattle.lowering_rules.specs.declared.patterns.ArrayPart.TheVariants.{Element, Elision, Rest}
 use Rattle.lowering_rules.specs.declared.patterns.MemberTarget.{MemberTarget}
@@ -30,15 +30,15 @@ use Rattle.lowering_rules.specs.declared.patterns.ObjectPart.{ObjectPart}
 use Rattle.lowering_rules.specs.declared.patterns.PropertyName.{PropertyName}
 use Rattle.lowering_rules.specs.declared.patterns.PropertyName.TheVariants.{Computed, Iterator, Literal}
 use Rattle.lowering_rules.specs.declared.patterns.Target.{Target}
-use Rattle.reference_rules.specs.declared.references.MemberName.{MemberName}
-use Rattle.reference_rules.specs.declared.references.MemberName.TheVariants.{AtIterator, Indexed, Named}
-use Rattle.reference_rules.specs.declared.references.Reached.{Reached}
-use Rattle.reference_rules.specs.declared.references.Reached.TheVariants.{Inherited, Property, Value, Variable}
+use Rattle.lowering_rules.specs.declared.reference_rules.references.MemberName.{MemberName}
+use Rattle.lowering_rules.specs.declared.reference_rules.references.MemberName.TheVariants.{AtIterator, Indexed, Named}
+use Rattle.lowering_rules.specs.declared.reference_rules.references.Reached.{Reached}
+use Rattle.lowering_rules.specs.declared.reference_rules.references.Reached.TheVariants.{Inherited, Property, Value, Variable}
 use Rattle.lowering_rules.specs.Making.{initialize, set}
 use Rattle.lowering_rules.specs.Naming.{Drawn, drawn_iteration}
-use Rattle.reference_rules.specs.Drawing.{drawn, made_of, with_one}
+use Rattle.lowering_rules.specs.reference_rules.Drawing.{drawn, made_of, with_one}
 use Rattle.lowering_rules.specs.Patterns.{array_pattern, assigned_target, declared_target, iterator_name, member_target, object_pattern}
-use Rattle.reference_rules.specs.References.{assigned, drawn_member, value_of}
+use Rattle.lowering_rules.specs.reference_rules.References.{assigned, drawn_member, value_of}
 use Rattle.module_lowering.specs.declared.context.FunctionForm.{FunctionForm}
 use Rattle.module_lowering.specs.declared.context.FunctionForm.TheVariants.{AccessorForm, MethodForm}
 use Rattle.module_lowering.specs.declared.context.Role.{Role}

@@ -15,10 +15,10 @@ use Rattle.core_ast.specs.declared.tree.CoreExpr.{CoreExpr}
 use Rattle.core_ast.specs.declared.tree.CoreStat.{CoreStat}
 use Rattle.core_ast.specs.declared.tree.CoreStat.TheVariants as stat
 use Rattle.core_ast.specs.Made.{undefined, variable}
-use Rattle.statement_rules.specs.declared.statements.Handler.{Handler}
+use Rattle.lowering_rules.specs.declared.statement_rules.statements.Handler.{Handler}
 use Rattle.lowering_rules.specs.Iteration.{for_of}
 use Rattle.lowering_rules.specs.Naming.{drawn_iteration}
-use Rattle.statement_rules.specs.Statements.{attempt, block, body_label, branch, class_declared, do_while, exit_label, for_loop, if_chain, jump, labelled, returned, switch, while_loop}
+use Rattle.lowering_rules.specs.statement_rules.Statements.{attempt, block, body_label, branch, class_declared, do_while, exit_label, for_loop, if_chain, jump, labelled, returned, switch, while_loop}
 use Rattle.module_lowering.specs.declared.context.Context.{Context}
 use Rattle.module_lowering.specs.declared.context.Dead.{Dead}
 use Rattle.module_lowering.specs.declared.context.JumpForm.{JumpForm}

@@ -19,8 +19,8 @@ use Rattle.pass_rules.specs.Scopes.{without_scopes}
 use Rattle.scope_analysis.specs.Answers.{AreScopes}
 use Rattle.scope_analysis.specs.declared.scopes.Scopes.{Scopes}
 use Rattle.script_maps.specs.Mapped.{IsMapped}
-use Rattle.state_rules.specs.States.{with_machines}
-use Rattle.yield_rules.specs.Yields.{with_yields_flat}
+use Rattle.pass_rules.specs.state_rules.States.{with_machines}
+use Rattle.pass_rules.specs.yield_rules.Yields.{with_yields_flat}
 
 -- the modules that a module requests, in the order of its requests; the host is none (15.2.1.16.5, step 6)
 abbrev pub requested_modules : LoadedModule → List ℕ

@@ -6,15 +6,15 @@ ghost use Rattle.module_lowering.specs.Modules.{lowered};
 ghost use Rattle.pass_rules.specs.Scopes.{without_scopes};
 ghost use Rattle.pipeline.specs.Compiled.{core_of, order_of, requested_modules};
 ghost use Rattle.scope_analysis.specs.Answers.{AreScopes};
-ghost use Rattle.state_rules.specs.States.{with_machines};
-ghost use Rattle.yield_rules.specs.Yields.{with_yields_flat};
+ghost use Rattle.pass_rules.specs.state_rules.States.{with_machines};
+ghost use Rattle.pass_rules.specs.yield_rules.Yields.{with_yields_flat};
 
+use crate::lower_trees::lower;
 use core_ast::Core;
 use es6_ast::{Graph, LoadedModule, Request};
 use gen_flatten::flatten_yields;
 use gen_states::machines;
 use lower_blocks::flatten_scopes;
-use lower_trees::lower;
 use module_lowering::NamespaceEntries;
 use module_order::evaluation_order;
 use scope_analysis::Scopes;

@@ -4,6 +4,7 @@
 mod compiling;
 mod cores;
 mod helping;
+pub mod lower_trees;
 mod writing;
 
 pub use compiling::{Declared, compile};

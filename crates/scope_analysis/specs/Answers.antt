@@ -1,7 +1,7 @@
 -- What the scopes of a graph answer, by the number of a module.
 use Rattle.std.specs.Prelude.{ℕ, Bool, false, List, [], Option, Some, None, slice_get, sum_by}
 use Rattle.es6_ast.specs.declared.graph.Graph.{Graph}
-use Rattle.scope_tables.specs.declared.binding.Binding.{Binding}
+use Rattle.scope_rules.specs.declared.scope_tables.binding.Binding.{Binding}
 use Rattle.binding_tables.specs.Rows.{any_row, rows_of}
 use Rattle.scope_analysis.specs.Ends.{AreAllEnds}
 use Rattle.scope_analysis.specs.Scopes.{AreAllScopes}

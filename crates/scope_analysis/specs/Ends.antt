@@ -12,7 +12,7 @@ use Rattle.es6_ast.specs.declared.module.Module.{Module}
 use Rattle.es6_ast.specs.declared.module.Specifier.{Specifier}
 use Rattle.es6_ast.specs.declared.tree.Identifier.{Identifier}
 use Rattle.es6_static_semantics.specs.Findings.{joined}
-use Rattle.scope_tables.specs.Scoping.{number_of}
+use Rattle.scope_rules.specs.scope_tables.Scoping.{number_of}
 use Rattle.binding_tables.specs.Rows.{rows_of}
 use Rattle.binding_tables.specs.declared.ids.BindingId.{BindingId}
 use Rattle.binding_tables.specs.declared.ids.BindingId.TheVariants.{Own, Host}

@@ -5,10 +5,10 @@ use Rattle.es6_ast.specs.declared.graph.LoadedModule.{LoadedModule}
 use Rattle.es6_ast.specs.declared.module.Module.{Module}
 use Rattle.es6_static_semantics.specs.Findings.{joined}
 use Rattle.scope_rules.specs.Marks.{module_marked}
-use Rattle.scope_tables.specs.declared.binding.Binding.{Binding}
-use Rattle.scope_tables.specs.declared.declarations.Declared.{Declared}
-use Rattle.scope_tables.specs.declared.reference.Reference.{Reference}
-use Rattle.scope_tables.specs.Scoping.{module_bindings, module_declared, module_references}
+use Rattle.scope_rules.specs.declared.scope_tables.binding.Binding.{Binding}
+use Rattle.scope_rules.specs.declared.scope_tables.declarations.Declared.{Declared}
+use Rattle.scope_rules.specs.declared.scope_tables.reference.Reference.{Reference}
+use Rattle.scope_rules.specs.scope_tables.Scoping.{module_bindings, module_declared, module_references}
 use Rattle.binding_tables.specs.Names.{number_of_name, with_name}
 use Rattle.binding_tables.specs.Rows.{rows_of}
 use Rattle.binding_tables.specs.declared.ids.BindingId.{BindingId}

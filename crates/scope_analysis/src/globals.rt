@@ -4,7 +4,7 @@ ghost use Rattle.std.specs.Prelude.{◌≡◌, OnOk};
 ghost use Rattle.scope_analysis.specs.Scopes.{id_of, named_by, with_globals};
 
 use binding_tables::{BindingId, NumberedNames};
-use scope_tables::Reference;
+use scope_rules::scope_tables::Reference;
 use std::alloc::AllocError;
 
 /// Adds the names of references that no scope declares.

@@ -12,7 +12,7 @@ use crate::globals::add_globals;
 use crate::tables::{ModuleScopes, module_scopes};
 use binding_tables::{BindingId, NumberedNames, RefId, Table};
 use es6_ast::{Graph, LoadedModule, Module};
-use scope_tables::{Binding, resolve_marks};
+use scope_rules::scope_tables::{Binding, resolve_marks};
 use scope_walk::module_marks;
 use std::alloc::{AllocError, Global};
 

@@ -6,7 +6,7 @@ ghost use Rattle.scope_analysis.specs.Scopes.{AreModuleScopes, captured_row, cap
 
 use crate::globals::id_of;
 use binding_tables::{BindingId, NumberedNames, Row, Table};
-use scope_tables::{Declared, Names, Reference, Resolved};
+use scope_rules::scope_tables::{Declared, Names, Reference, Resolved};
 use std::alloc::{AllocError, Global};
 
 /// A module's bindings by their numbers and by scope and name, and tables of what its names declare and refer to by place, of the references that are not

@@ -8,7 +8,7 @@
 use es6_ast::Module;
 use es6_lexer::{Token, lex6};
 use es6_module::parse_module;
-use scope_tables::{Binding, Reference, resolve_marks};
+use scope_rules::scope_tables::{Binding, Reference, resolve_marks};
 use scope_walk::module_marks;
 use std::alloc::{AllocError, Global};
 use std::io::{self, BufReader, BufWriter, Read, Write};

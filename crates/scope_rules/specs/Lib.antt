@@ -1,1 +1,2 @@
+pub mod scope_tables
 pub mod Marks

@@ -5,6 +5,7 @@
 mod kinds;
 mod mark;
 mod marks;
+pub mod scope_tables;
 mod spelling;
 
 pub use kinds::{Kind, Role, ScopeKind};

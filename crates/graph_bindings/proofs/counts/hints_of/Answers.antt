@@ -2,7 +2,7 @@ use Rattle.std.proofs.Common.{ℕ, ◌+◌, ◌<◌, List, length, map, drop, So
 use Rattle.std.specs.Prelude.{slice_get}
 use Rattle.scope_analysis.specs.declared.tables.ModuleScopes.{ModuleScopes}
 use Rattle.module_lowering.specs.Modules.{hints}
-use Rattle.lower_names.specs.Names.{names_in}
+use Rattle.lower_walk.specs.lower_names.Names.{names_in}
 use Rattle.graph_bindings.proofs.Counted.{hints_turn}
 use Rattle.graph_bindings.proofs.Gathering.{joined_on}
 use Rattle.graph_bindings.proofs.counts.hints_of.Goals as goal

@@ -1,8 +1,8 @@
 use Rattle.std.proofs.Common.{◌≡◌, ◌<◌, ◌+◌, ℕ, length, Option, sym, arith}
 use Rattle.std.specs.Prelude.{slice_get}
 use Rattle.scope_analysis.specs.declared.tables.ModuleScopes.{ModuleScopes}
-use Rattle.lower_names.specs.Names.{names_in}
-use Rattle.lower_names.proofs.Numbers.{falls, number_within}
+use Rattle.lower_walk.specs.lower_names.Names.{names_in}
+use Rattle.lower_walk.proofs.lower_names.Numbers.{falls, number_within}
 use Rattle.graph_bindings.proofs.Turns.{all_counted}
 use Rattle.graph_bindings.proofs.counts.names_count.Goals as goal
 

@@ -2,7 +2,7 @@ use Rattle.std.proofs.Common.{◌≡◌, ℕ, ◌+◌, ◌<◌, List, length, dr
 use Rattle.std.specs.Prelude.{slice_get, sum_by}
 use Rattle.scope_analysis.specs.declared.tables.ModuleScopes.{ModuleScopes}
 use Rattle.module_lowering.specs.Modules.{offsets_from}
-use Rattle.lower_names.specs.Names.{names_in}
+use Rattle.lower_walk.specs.lower_names.Names.{names_in}
 use Rattle.graph_bindings.proofs.Counted.{count_turn, offsets_turn}
 use Rattle.graph_bindings.proofs.Gathering.{appended, summed, var_end}
 use Rattle.graph_bindings.proofs.counts.offsets_of.Goals as goal

@@ -1,8 +1,8 @@
 use Rattle.std.proofs.Common.{◌≡◌, ℕ, ◌+◌, List, map, drop, Option, Some, sym, ap}
 use Rattle.std.specs.Prelude.{slice_get}
-use Rattle.scope_tables.specs.declared.binding.Binding.{Binding}
+use Rattle.scope_rules.specs.declared.scope_tables.binding.Binding.{Binding}
 use Rattle.scope_analysis.specs.declared.tables.ModuleScopes.{ModuleScopes}
-use Rattle.lower_names.specs.Names.{names_in}
+use Rattle.lower_walk.specs.lower_names.Names.{names_in}
 use Rattle.graph_bindings.proofs.Gathering.{appended, ended}
 use Rattle.graph_bindings.proofs.Turns.{next_binding, no_binding}
 use Rattle.graph_bindings.proofs.counts.push_hints.Goals as goal

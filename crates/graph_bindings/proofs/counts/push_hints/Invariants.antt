@@ -1,6 +1,6 @@
 use Rattle.std.proofs.Common.{◌≡◌, ◌-◌, ◌++◌, length, map, drop, Some}
 use Rattle.std.specs.Prelude.{slice_get}
-use Rattle.lower_names.specs.Names.{names_in}
+use Rattle.lower_walk.specs.lower_names.Names.{names_in}
 use Rattle.graph_bindings.proofs.counts.push_hints.Given as goal
 
 abbrev pub invariant-loop-binding : goal.invariant-loop-binding

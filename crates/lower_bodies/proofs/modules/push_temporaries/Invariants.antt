@@ -1,5 +1,5 @@
 use Rattle.std.proofs.Common.{◌≡◌, ◌++◌, drop, map}
-use Rattle.statement_rules.specs.Bodies.{temporary}
+use Rattle.lowering_rules.specs.statement_rules.Bodies.{temporary}
 use Rattle.lower_bodies.proofs.modules.push_temporaries.Given as goal
 
 abbrev pub invariant-loop-var : goal.invariant-loop-var

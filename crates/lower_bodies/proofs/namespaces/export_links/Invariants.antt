@@ -1,6 +1,6 @@
 use Rattle.std.proofs.Common.{◌≡◌, ◌++◌, drop}
 use Rattle.std.specs.List.{flat_map}
-use Rattle.statement_rules.specs.Bodies.{export_links}
+use Rattle.lowering_rules.specs.statement_rules.Bodies.{export_links}
 use Rattle.lower_bodies.proofs.namespaces.export_links.Given as goal
 
 abbrev pub invariant-loop-one : goal.invariant-loop-one

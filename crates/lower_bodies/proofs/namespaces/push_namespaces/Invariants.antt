@@ -1,5 +1,5 @@
 use Rattle.std.proofs.Common.{◌≡◌, ◌++◌, drop, map}
-use Rattle.statement_rules.specs.Bodies.{namespace_made}
+use Rattle.lowering_rules.specs.statement_rules.Bodies.{namespace_made}
 use Rattle.lower_bodies.proofs.namespaces.push_namespaces.Given as goal
 
 abbrev pub invariant-loop-one : goal.invariant-loop-one

@@ -1,6 +1,6 @@
 use Rattle.std.proofs.Common.{◌≡◌, ℕ, ◌≤◌, Bool, List, [], ◌++◌, drop, length, map, sym, ap, ◌∙◌, append-nil, arith}
 use Rattle.std.proofs.lemmas.List.{drop_all}
-use Rattle.lower_names.specs.Counting.{kept}
+use Rattle.lower_walk.specs.lower_names.Counting.{kept}
 use Rattle.module_lowering.specs.Nodes.{Hoisted}
 use Rattle.lower_listed.specs.declared.functions.HoistedAt.{HoistedAt}
 use Rattle.lower_listed.specs.Hoisted.{hoisted_of}

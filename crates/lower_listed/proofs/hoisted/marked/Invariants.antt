@@ -1,5 +1,5 @@
 use Rattle.std.proofs.Common.{◌≡◌, ◌++◌, drop, map}
-use Rattle.lower_names.specs.Counting.{kept}
+use Rattle.lower_walk.specs.lower_names.Counting.{kept}
 use Rattle.lower_listed.specs.Hoisted.{hoisted_of}
 use Rattle.lower_listed.proofs.hoisted.marked.Given as goal
 

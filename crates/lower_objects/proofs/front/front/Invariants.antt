@@ -1,5 +1,5 @@
 use Rattle.std.proofs.Common.{◌≡◌, ◌+◌, [], drop}
-use Rattle.reference_rules.specs.Objects.{front}
+use Rattle.lowering_rules.specs.reference_rules.Objects.{front}
 use Rattle.lower_objects.proofs.front.front.Given as goal
 
 abbrev pub invariant-loop-member : goal.invariant-loop-member

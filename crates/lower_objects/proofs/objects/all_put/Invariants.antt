@@ -1,5 +1,5 @@
 use Rattle.std.proofs.Common.{◌≡◌, ◌++◌, length, map}
-use Rattle.reference_rules.specs.Objects.{putting}
+use Rattle.lowering_rules.specs.reference_rules.Objects.{putting}
 use Rattle.lower_objects.proofs.objects.all_put.Given as goal
 
 abbrev pub invariant-loop-member : goal.invariant-loop-member

@@ -1,6 +1,6 @@
 use Rattle.std.proofs.Common.{◌≡◌, ◌++◌, length}
 use Rattle.std.specs.List.{flat_map}
-use Rattle.reference_rules.specs.Objects.{defining}
+use Rattle.lowering_rules.specs.reference_rules.Objects.{defining}
 use Rattle.lower_objects.proofs.objects.literal.Given as goal
 
 abbrev pub invariant-loop-member : goal.invariant-loop-member

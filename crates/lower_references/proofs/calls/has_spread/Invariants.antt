@@ -1,6 +1,6 @@
 use Rattle.std.proofs.Common.{◌≡◌, drop}
 use Rattle.std.specs.List.{list_any}
-use Rattle.reference_rules.specs.References.{is_spread}
+use Rattle.lowering_rules.specs.reference_rules.References.{is_spread}
 use Rattle.lower_references.proofs.calls.has_spread.Given as goal
 
 abbrev pub invariant-loop-part : goal.invariant-loop-part

@@ -1,6 +1,6 @@
 use Rattle.std.proofs.Common.{◌≡◌, ◌++◌, length}
 use Rattle.std.specs.List.{flat_map}
-use Rattle.reference_rules.specs.References.{single}
+use Rattle.lowering_rules.specs.reference_rules.References.{single}
 use Rattle.lower_references.proofs.calls.singles.Given as goal
 
 abbrev pub invariant-loop-part : goal.invariant-loop-part

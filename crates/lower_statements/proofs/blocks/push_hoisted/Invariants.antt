@@ -1,5 +1,5 @@
 use Rattle.std.proofs.Common.{◌≡◌, ◌++◌, drop, map}
-use Rattle.statement_rules.specs.Statements.{hoisted}
+use Rattle.lowering_rules.specs.statement_rules.Statements.{hoisted}
 use Rattle.lower_statements.proofs.blocks.push_hoisted.Given as goal
 
 abbrev pub invariant-loop-function : goal.invariant-loop-function

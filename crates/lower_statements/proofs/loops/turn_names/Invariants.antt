@@ -1,5 +1,5 @@
 use Rattle.std.proofs.Common.{◌≡◌, ◌++◌, drop}
-use Rattle.statement_rules.specs.Statements.{turn_names}
+use Rattle.lowering_rules.specs.statement_rules.Statements.{turn_names}
 use Rattle.lower_statements.proofs.loops.turn_names.Given as goal
 
 abbrev pub invariant-loop-name : goal.invariant-loop-name

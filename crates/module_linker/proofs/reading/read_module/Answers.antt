@@ -1,7 +1,7 @@
 use Rattle.std.proofs.Common.{rules, chars}
-use Rattle.module_checks.specs.Faults.{IsPlaced}
-use Rattle.module_checks.specs.Reading.{IsLexed}
-use Rattle.module_checks.proofs.Refused.{no_module}
+use Rattle.module_linker.specs.module_checks.Faults.{IsPlaced}
+use Rattle.module_linker.specs.module_checks.Reading.{IsLexed}
+use Rattle.module_linker.proofs.module_checks.Refused.{no_module}
 use Rattle.module_linker.proofs.reading.read_module.Goals as goal
 
 pub returns-in-Err-clause-fault : goal.returns-in-Err-clause-fault

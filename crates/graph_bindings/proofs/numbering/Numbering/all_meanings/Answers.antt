@@ -1,7 +1,7 @@
 use Rattle.std.proofs.Common.{ℕ, ◌+◌, ◌<◌, List, length, drop, subst}
 use Rattle.std.specs.Prelude.{slice_get}
 use Rattle.scope_analysis.specs.declared.tables.ModuleScopes.{ModuleScopes}
-use Rattle.lower_names.specs.Names.{names_in}
+use Rattle.lower_walk.specs.lower_names.Names.{names_in}
 use Rattle.graph_bindings.specs.declared.numbering.Numbering.{Numbering}
 use Rattle.graph_bindings.specs.Meanings.{all_meanings_by, meanings_by}
 use Rattle.graph_bindings.proofs.Counted.{meanings_turn}

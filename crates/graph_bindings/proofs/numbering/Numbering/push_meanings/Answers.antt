@@ -1,9 +1,9 @@
 use Rattle.std.proofs.Common.{◌≡◌, ℕ, ◌+◌, List, length, drop, Option, sym, ap}
 use Rattle.std.specs.Prelude.{slice_get}
-use Rattle.scope_tables.specs.declared.binding.Binding.{Binding}
+use Rattle.scope_rules.specs.declared.scope_tables.binding.Binding.{Binding}
 use Rattle.scope_analysis.specs.declared.tables.ModuleScopes.{ModuleScopes}
-use Rattle.lower_names.specs.Names.{names_in}
-use Rattle.lower_names.proofs.Numbers.{falls, number_within}
+use Rattle.lower_walk.specs.lower_names.Names.{names_in}
+use Rattle.lower_walk.proofs.lower_names.Numbers.{falls, number_within}
 use Rattle.graph_bindings.specs.declared.numbering.Numbering.{Numbering}
 use Rattle.graph_bindings.specs.Meanings.{meaning_by, meanings_by}
 use Rattle.graph_bindings.proofs.Gathering.{appended, ended}

@@ -1,6 +1,6 @@
 use Rattle.std.proofs.Common.{◌≡◌, ◌-◌, ◌++◌, length, drop}
 use Rattle.std.specs.Prelude.{slice_get}
-use Rattle.lower_names.specs.Names.{names_in}
+use Rattle.lower_walk.specs.lower_names.Names.{names_in}
 use Rattle.graph_bindings.specs.Meanings.{meanings_by}
 use Rattle.graph_bindings.proofs.numbering.Numbering.push_meanings.Given as goal
 

@@ -1,5 +1,5 @@
 use Rattle.std.proofs.Common.{ℕ, List, not, ap, ◌∙◌}
-use Rattle.reference_rules.specs.Objects.{has_text, with_text}
+use Rattle.lowering_rules.specs.reference_rules.Objects.{has_text, with_text}
 use Rattle.lower_objects.proofs.Keys.{has_key, texts_of, texts_with}
 use Rattle.lower_objects.proofs.texts.SeenTexts.add.Goals as goal
 

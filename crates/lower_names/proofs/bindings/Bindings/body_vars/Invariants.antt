@@ -1,8 +1,0 @@
-use Rattle.std.proofs.Common.{◌≡◌, ◌++◌, drop, map}
-use Rattle.module_lowering.specs.Names.{body_vars}
-use Rattle.lower_names.proofs.bindings.Bindings.body_vars.Given as goal
-
-abbrev pub invariant-loop-variable : goal.invariant-loop-variable
-invariant-loop-variable g l =
-    l.vars ++ body_vars (map g.N.ListsName.identifier l.parameters) (map g.N.ListsName.identifier (drop l.variable-index l.variables)) l.self l.context
-    ≡ body_vars (map g.N.ListsName.identifier l.parameters) (map g.N.ListsName.identifier l.variables) l.self l.context

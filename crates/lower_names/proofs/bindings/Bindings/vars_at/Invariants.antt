@@ -1,7 +1,0 @@
-use Rattle.std.proofs.Common.{◌≡◌, ◌++◌, drop, map}
-use Rattle.module_lowering.specs.Bindings.{declared_var}
-use Rattle.lower_names.proofs.bindings.Bindings.vars_at.Given as goal
-
-abbrev pub invariant-loop-at : goal.invariant-loop-at
-invariant-loop-at l =
-    l.vars ++ map (declared_var l.self l.context) (drop l.at-index l.ats) ≡ map (declared_var l.self l.context) l.ats

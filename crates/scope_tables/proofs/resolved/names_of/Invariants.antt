@@ -1,6 +1,0 @@
-use Rattle.std.proofs.Common.{◌≡◌, drop}
-use Rattle.scope_tables.specs.Scoping.{all_bindings, module_bindings}
-use Rattle.scope_tables.proofs.resolved.names_of.Given as goal
-
-abbrev pub invariant-loop-mark : goal.invariant-loop-mark
-invariant-loop-mark l = all_bindings (drop l.mark-index l.marks) l.position l.names ≡ module_bindings l.marks

@@ -1,9 +1,0 @@
-//! What the lowering makes of statements, of the bodies of functions and of modules, as functions on the trees of cores, in `specs/`, and
-//! the types that these speak of. The builders stand in crates of their own.
-#![tactic(auto)]
-
-mod bodies;
-mod statements;
-
-pub use bodies::{BodyNames, Export, ModuleScope, Namespace, Receiver};
-pub use statements::{ForLoop, ForTurns, Handler, SwitchParts};
