@@ -10,18 +10,23 @@ const modules = new Map(); // 'crate/Module' -> module
 const unknown = new Set(); // names that nothing defines, or that aren't imported
 const mangled = (text) => text.replace(/[^A-Za-z0-9_]/g, (c) => '$' + c.codePointAt(0).toString(16));
 
-// ---- the enums of Rust sources: how many values each variant holds, by crate and type
+// ---- the enums of Rust sources: how many values each variant holds, by crate and type, with the modules that lead to it
 
 const enums = new Map();
+function sourcesIn(folder, modules = []) {
+  if (!fs.existsSync(folder)) return [];
+  return fs.readdirSync(folder, { withFileTypes: true }).flatMap((entry) => {
+    const file = path.join(folder, entry.name);
+    if (entry.isDirectory()) return sourcesIn(file, [...modules, entry.name]);
+    return entry.name.endsWith('.rt') ? [{ file, module: [...modules, entry.name.slice(0, -3)].join('.') }] : [];
+  });
+}
 function readEnums(crate) {
   if (enums.has(crate)) return enums.get(crate);
   const types = new Map();
   enums.set(crate, types);
-  const folder = path.join(crates, crate, 'src');
-  if (!fs.existsSync(folder)) return types;
-  for (const file of fs.readdirSync(folder)) {
-    if (!file.endsWith('.rt')) continue;
-    const text = fs.readFileSync(path.join(folder, file), 'utf8').replace(/\/\/.*$/gm, '').replace(/#\[[^\]]*\]/g, '');
+  for (const { file, module } of sourcesIn(path.join(crates, crate, 'src'))) {
+    const text = fs.readFileSync(file, 'utf8').replace(/\/\/.*$/gm, '').replace(/#\[[^\]]*\]/g, '');
     for (const found of text.matchAll(/(?:pub(?:\(crate\))? )?enum (\w+)(?:<[^>]*>)?\s*\{/g)) {
       let depth = 1, at = found.index + found[0].length, start = at;
       for (; depth > 0; at++) depth += '{(<['.includes(text[at]) ? 1 : '})>]'.includes(text[at]) ? -1 : 0;
@@ -30,7 +35,7 @@ function readEnums(crate) {
         const variant = /^\s*(\w+)\s*([({]?)([\s\S]*)/.exec(part);
         if (variant) variants.set(variant[1], variant[2] ? topLevel(variant[3].replace(/[)}]\s*$/, ''), ',').filter((x) => x.trim()).length : 0);
       }
-      types.set(found[1], { variants, file: file.slice(0, -3) });
+      types.set(`${module}.${found[1]}`, { variants, module });
     }
   }
   return types;
@@ -122,6 +127,8 @@ class Reader {
     }
     return args.length > 0 ? { call: head, args } : head;
   }
+  // the rest of a type in parentheses
+  skipType() { for (let depth = 0; depth > 0 || !this.is(')'); this.at++) depth += this.is('(') ? 1 : this.is(')') ? -1 : 0; }
   skipBraces() { let depth = 0; do { if (this.is('{')) depth++; if (this.is('}')) depth--; this.at++; } while (depth > 0); }
   atom() {
     const token = this.next;
@@ -135,6 +142,7 @@ class Reader {
       this.ifs = 0;
       this.at++;
       const parts = [this.expression()];
+      if (this.is('→') || this.is('×')) this.skipType();
       while (this.took(',')) parts.push(this.expression());
       this.take(')');
       this.ifs = outer;
@@ -276,14 +284,14 @@ function imported(where, name) {
   if (parts[3] === 'declared') {
     const last = parts[parts.length - 1];
     if (last === 'TheVariants' || last === 'TheOpen') {
-      const type = parts[parts.length - 2];
+      const type = parts.slice(4, -1).join('.');
       const types = readEnums(crate);
       if (last === 'TheVariants') {
         if (!types.has(type)) throw new Error(`${where}: no enum`);
         return { variant: name, arity: types.get(type).variants.get(name) };
       }
       if (/-F$/.test(name)) return { type: true };
-      for (const { variants, file } of types.values()) if (file === parts[parts.length - 3] && variants.has(name)) return { variant: name, arity: variants.get(name) };
+      for (const { variants, module } of types.values()) if (module === parts.slice(4, -2).join('.') && variants.has(name)) return { variant: name, arity: variants.get(name) };
       return { type: true };
     }
     if (/^(out|roll)-/.test(name)) return { word: 'itself' };
@@ -488,6 +496,7 @@ function functionCode(module, name, readers, outer, label) {
 
 // The functions of these names, `crate/Module/name` each, ready to be called.
 function load(wanted) {
+  needed.clear();
   const labels = wanted.map((whole) => {
     const at = whole.lastIndexOf('/');
     const [crate, ...name] = whole.slice(0, at).split('/');

@@ -47,13 +47,17 @@ for (const name of names) {
       const run = level === 's' ? runModules(files, answers) : runAt(level, core, answers);
       told.steps += run.steps;
       const [until, exit] = leaving[name] || [];
-      const lines = exit ? [...expected.slice(0, until), exit] : expected;
-      const fault = difference(lines, run.lines);
+      // a script goes on where its modules left at 6, and nothing is claimed of it from there on
+      const shown = level === '4' && exit === 'left 6' ? until : Infinity;
+      const lines = (exit ? [...expected.slice(0, until), exit] : expected).slice(0, shown);
+      const fault = difference(lines, run.lines.slice(0, shown));
       if (fault) faults.push(`level ${level}: ${fault}`);
       if (level === 's') heap = run.state.heap;
-      if (level === '0' && heap && sameHeap(heap, run.state.heap)) told.heaps++;
+      // a configuration of the core has its state beside the control
+      if (level === '0' && heap && sameHeap(heap, run.state.state.heap)) told.heaps++;
       places = places || run.places;
-      if (difference(places, run.places)) faults.push(`level ${level}: places: ${difference(places, run.places)}`);
+      const misplaced = difference(places, run.places.slice(0, shown));
+      if (misplaced) faults.push(`level ${level}: places: ${misplaced}`);
     } catch (error) { faults.push(`level ${level}: ${error.message}${process.env.WHERE ? error.stack : ''}`); }
   }
   told.events += expected.length - 1;

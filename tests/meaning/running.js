@@ -13,7 +13,7 @@ const { programHosts } = eval(`(function () { ${fs.readFileSync(path.join(engine
 const hostNames = ['print', 'read', 'count'];
 const mostSteps = Number(process.env.MOST_STEPS || 3000000);
 
-const passes = { 1: 'pass_rules/Scopes/without_scopes', 2: 'yield_rules/Yields/with_yields_flat', 3: 'state_rules/States/with_machines' };
+const passes = { 1: 'pass_rules/Scopes/without_scopes', 2: 'pass_rules/yield_rules/Yields/with_yields_flat', 3: 'pass_rules/state_rules/States/with_machines' };
 const definitions = load(['source_meaning/Step/step', 'source_meaning/Modules/start', 'core_meaning/Modules/core_step', 'core_meaning/Modules/start', 'emission_rules/Functions/emitted',
   'script_core/Scripts/core_of', 'script_core/Meaning/script_step', 'script_core/Meaning/script_start', ...Object.values(passes)]);
 const named = (crate, name) => definitions[`${crate}/${name}`];

@@ -137,7 +137,7 @@ module.exports = {
   encode_utf16: (c) => c < 0x10000 ? [c] : [0xd800 + (c - 0x10000 >> 10), 0xdc00 + (c - 0x10000 & 0x3ff)],
   encode_utf8: (c) => [...Buffer.from(String.fromCodePoint(c), 'utf8')], chars: (bytes) => [...Buffer.from(bytes).toString('utf8')].map((c) => c.codePointAt(0)),
   position_or_len: (f, list) => { const at = list.findIndex((x) => apply(f, x)); return at < 0 ? list.length : at; },
-  is_ascii_alphabetic: (c) => c >= 65 && c <= 90 || c >= 97 && c <= 122, is_ascii_alphanumeric: (c) => c >= 48 && c <= 57 || c >= 65 && c <= 90 || c >= 97 && c <= 122,
+  is_ascii_digit: (c) => c >= 48 && c <= 57, is_ascii_alphabetic: (c) => c >= 65 && c <= 90 || c >= 97 && c <= 122, is_ascii_alphanumeric: (c) => c >= 48 && c <= 57 || c >= 65 && c <= 90 || c >= 97 && c <= 122,
   starts_with: (f, list, front) => same(list.slice(0, front.length), front),
   'fold-Stat5': foldByScript('stat'), 'fold-Expr5': foldByScript('expr'),
   ...Object.fromEntries(treeNames.map((type) => [`fold-${type}`, foldByTree(type)])),

@@ -1,0 +1,53 @@
+// Whether the cores of the programs of tests/engines/programs are lawful at each level, as their model lowers them and behind each pass, and whether their
+// scripts may be printed; and the same of random cores that are lawful, but for operations on cells, which there are from the first pass on.
+// Usage: node --expose-internals lawful.js [SEED COUNT]
+'use strict';
+const fs = require('fs');
+const path = require('path');
+const { engines, coreOf } = require('./running.js');
+const { load } = require('./definitions.js');
+const { helpers } = require('./scripts.js');
+const { randomCore } = require('./random_cores.js');
+
+const passes = ['pass_rules/Scopes/without_scopes', 'pass_rules/yield_rules/Yields/with_yields_flat', 'pass_rules/state_rules/States/with_machines'];
+const tests = ['functions_lawful', 'part_lawful', 'declarations', 'held', 'all_differ'].map((name) => `core_ast/Lawful/${name}`);
+const definitions = load([...passes, ...tests, 'emission_rules/Functions/emitted', 'es5_printable/Printable/is_printable']);
+const [functionsLawful, partLawful, declarations, held, allDiffer] = tests.map((name) => definitions[name]);
+const hosts = ['print', 'read', 'count'].map((name) => [...name].map((c) => c.charCodeAt(0)));
+
+function faultOf(core) {
+  const names = core.fresh.hints.length, functions = core.functions.length;
+  if (!functionsLawful(names, hosts.length, 0, core.functions)) return 'a function';
+  if (!core.parts.every((part) => partLawful(names, hosts.length, functions, part))) return 'a part';
+  if (!core.order.every((n) => n < core.parts.length)) return 'the order';
+  if (!allDiffer(declarations(core))) return 'a name that is declared twice';
+  return allDiffer(held(core)) ? null : 'a function that is held twice';
+}
+function faultsOf(core) {
+  const faults = [];
+  for (let level = 0; level <= passes.length; level++) {
+    if (level > 0) core = definitions[passes[level - 1]](core);
+    const fault = faultOf(core);
+    if (fault) faults.push(`level ${level} isn't lawful: ${fault}`);
+  }
+  if (!definitions['es5_printable/Printable/is_printable'](definitions['emission_rules/Functions/emitted'](core, hosts, helpers()))) faults.push("its script can't be printed");
+  return faults;
+}
+function modulesOf(folder, under = '') {
+  const files = {};
+  for (const entry of fs.readdirSync(path.join(folder, under), { withFileTypes: true })) {
+    const name = under + entry.name;
+    if (entry.isDirectory()) Object.assign(files, modulesOf(folder, name + '/'));
+    else if (name.endsWith('.js')) files[name] = fs.readFileSync(path.join(folder, name), 'utf8');
+  }
+  return files;
+}
+const programs = path.join(engines, 'programs');
+const [seed, count] = process.argv.length > 3 ? process.argv.slice(2, 4).map(Number) : [1, 100];
+let failed = 0;
+const tell = (name, faults) => { if (faults.length > 0) { failed++; console.log(`${name}: ${faults.join('; ')}`); } };
+const names = fs.readdirSync(programs).sort();
+for (const name of names) tell(name, faultsOf(coreOf(modulesOf(path.join(programs, name)))));
+for (let at = seed; at < seed + count; at++) tell(`random core ${at}`, faultsOf(randomCore(at)));
+console.log(`lawful: ${names.length} programs, ${count} random cores, levels 0 to 3 and their scripts: ${failed} failed`);
+process.exitCode = failed === 0 ? 0 : 1;
