@@ -30,6 +30,14 @@ impl Environment {
         Ok(Environment { records })
     }
 
+    /// These numbers, innermost last.
+    pub fn of(alloc: Global, records: Vec<usize>) -> Result<Environment, AllocError>
+        ensures { IfOk result (λ e. e ≡ reverse records.items) }
+    {
+        let records = Rc::new(alloc, records)?;
+        Ok(Environment { records })
+    }
+
     /// The numbers, innermost last.
     pub fn as_slice(&self) -> &[usize]
         ensures { reverse result.now ≡ self.now }
