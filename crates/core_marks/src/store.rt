@@ -5,13 +5,13 @@ use crate::work::CoreWork;
 use core_state::{Context, Table};
 use es_heap::Key;
 use es_value::{ObjId, Str, Value};
-use sqlite_items::Items;
+use sqlite_items::{Boxed, Items};
 
 /// A generator (ECMA-262, 6th edition, 25.3.2): a context is saved at its start or at a yield.
 #[derive(Drop)]
 pub enum Generator<'a> {
-    AtStart(Context<'a, Mark, Own, CoreWork<'a>>),
-    AtYield(Context<'a, Mark, Own, CoreWork<'a>>),
+    AtStart(Context<'a, Mark, Own, Boxed<CoreWork<'a>>>),
+    AtYield(Context<'a, Mark, Own, Boxed<CoreWork<'a>>>),
     Executing,
     Completed,
 }
