@@ -1,0 +1,4 @@
+pub mod Lengths
+pub mod Scopes
+pub mod Stacks
+pub mod UserLists

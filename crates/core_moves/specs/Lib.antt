@@ -1,0 +1,4 @@
+pub mod Elements
+pub mod Moves
+pub mod Names
+pub mod Values
