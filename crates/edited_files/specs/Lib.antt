@@ -1,0 +1,2 @@
+pub mod EditedFiles
+pub mod Edits
