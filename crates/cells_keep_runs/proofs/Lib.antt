@@ -1,0 +1,12 @@
+pub mod Shapes
+pub mod Places
+pub mod Ways
+pub mod Opened
+pub mod Alike
+pub mod Passed
+pub mod Grown
+pub mod Carried
+pub mod Begun
+pub mod Links
+pub mod Statements
+pub mod Given

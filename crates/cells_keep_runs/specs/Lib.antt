@@ -1,0 +1,13 @@
+pub mod Shapes
+pub mod Places
+pub mod Ways
+pub mod Opened
+pub mod Alike
+pub mod Related
+pub mod Passed
+pub mod Grown
+pub mod Carried
+pub mod Begun
+pub mod Links
+pub mod Statements
+pub mod Given
