@@ -7,3 +7,4 @@ mod quoted;
 
 pub use fault::{FileFault, GraphFault, PlacedFault, Refusal};
 pub use line::push_place;
+pub use quoted::{push_quoted, units_of_name};
