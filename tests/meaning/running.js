@@ -15,7 +15,7 @@ const mostSteps = Number(process.env.MOST_STEPS || 3000000);
 
 const passes = { 1: 'pass_rules/Scopes/without_scopes', 2: 'pass_rules/yield_rules/Yields/with_yields_flat', 3: 'pass_rules/state_rules/States/with_machines' };
 const definitions = load(['source_meaning/Step/step', 'source_meaning/Modules/start', 'core_meaning/Modules/core_step', 'core_meaning/Modules/start', 'emission_rules/Functions/emitted',
-  'script_core/Scripts/core_of', 'script_core/Meaning/script_step', 'script_core/Meaning/script_start', ...Object.values(passes)]);
+  'script_lowering/Scripts/core_of', 'script_core/Meaning/script_step', 'script_core/Meaning/script_start', ...Object.values(passes)]);
 const named = (crate, name) => definitions[`${crate}/${name}`];
 
 // values between programs and hosts
@@ -71,7 +71,7 @@ function runCore(core, answers) {
 }
 // a script, given as its tree, with the places that its calls carry or those of their spans
 function runScript(script, sites, answers) {
-  const core = named('script_core', 'Scripts/core_of')({ t: sites, a: [] }, script);
+  const core = named('script_lowering', 'Scripts/core_of')({ t: sites, a: [] }, script);
   const step = named('script_core', 'Meaning/script_step');
   return runMachine((state) => step(core, state), named('script_core', 'Meaning/script_start')(hostTexts, core), answers);
 }

@@ -1,5 +1,1 @@
-pub mod Reading
-pub mod Expressions
-pub mod Statements
-pub mod Scripts
 pub mod Meaning

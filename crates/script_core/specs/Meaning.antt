@@ -1,6 +1,6 @@
 -- The meaning of scripts: the machine of the small tree with nothing besides, in the realm of the 5.1 edition.
 use Rattle.std.specs.List.{flat_map}
-use Rattle.std.specs.Prelude.{List, None, Option, Some, [], false, if◌then◌else◌, length, map, slice_get, suc, true, ℕ, ◌++◌, ◌∷◌}
+use Rattle.std.specs.Prelude.{Bool, List, None, Option, Some, [], false, if◌then◌else◌, length, map, slice_get, suc, true, ℕ, ◌++◌, ◌∷◌}
 use Rattle.std.specs.Str.{bytes_eq}
 use Rattle.runs.specs.Run.{run}
 use Rattle.shared_meaning.specs.Ending.{ProgramBehaviour}
@@ -10,8 +10,9 @@ use Rattle.es_value.specs.declared.value.Value.TheVariants as value
 use Rattle.es5_ast.specs.declared.tree.Script.{Script}
 use Rattle.es_heap.specs.Heaps.{next_id}
 use Rattle.es_heap.specs.declared.key.Key.TheVariants.{Text}
-use Rattle.script_core.specs.Expressions.{Sites}
-use Rattle.script_core.specs.Scripts.{core_of}
+use Rattle.script_core.specs.declared.nothing.Nothing.{Nothing}
+use Rattle.script_lowering.specs.declared.sites.Sites.{Sites}
+use Rattle.script_lowering.specs.Scripts.{core_of}
 use Rattle.es_realm.specs.Globals.{global_of}
 use Rattle.es_realm.specs.Realms.{fresh5, host_functions}
 use Rattle.es_realm.specs.declared.edition.Edition.TheVariants.{Fifth}
@@ -27,10 +28,8 @@ use Rattle.core_ast.specs.declared.whole.CoreFunction.{CoreFunction}
 use Rattle.core_ast.specs.declared.whole.CorePart.{CorePart}
 use Rattle.core_meaning.specs.Rows.{Entered, Given, Next, Rows, controls, unlawful}
 use Rattle.core_meaning.specs.State.{Run}
-use Rattle.core_meaning.specs.State.{Binding, Call, Closure, Configuration, CoreValue, Current, Done, EnvironmentRecord, Hand, Reference, Sorts, State, User}
+use Rattle.core_meaning.specs.State.{Binding, Call, Closure, Configuration, Context, CoreValue, Current, Done, EnvironmentRecord, Hand, Reference, Sorts, State, User}
 use Rattle.core_meaning.specs.Step.{step}
-
-pub data Nothing : Type 0 where
 
 abbrev pub script_sorts : Sorts
 script_sorts = record { Mark = Nothing; Own = Unit {0}; Work = Nothing }
@@ -95,16 +94,19 @@ script_rows core = record {
 
 -- ---- the start (10.2.3, 15.1): the global record has the names of the library and of the hosts, and the script's own are before it
 
+abbrev pub user_binding : Var → Value → Bool → Binding Nothing
+user_binding x v mutable = record { var = x; value = User v; mutable = mutable }
+
 abbrev pub global_binding : Var → Global → List (Binding Nothing)
-global_binding x global.Undefined = record { var = x; value = User value.Undefined; mutable = false } ∷ []
-global_binding x (global.Object id) = record { var = x; value = User (value.Object id); mutable = true } ∷ []
+global_binding x global.Undefined = user_binding x value.Undefined false ∷ []
+global_binding x (global.Object id) = user_binding x (value.Object id) true ∷ []
 global_binding x g = []
 
 abbrev pub host_binding : Var → List ℕ → List (List ℕ) → List ObjId → List (Binding Nothing)
 host_binding x name [] ids = []
 host_binding x name (h ∷ hs) [] = []
 host_binding x name (h ∷ hs) (id ∷ ids) =
-    if bytes_eq name h then record { var = x; value = User (value.Object id); mutable = true } ∷ [] else host_binding x name hs ids
+    if bytes_eq name h then user_binding x (value.Object id) true ∷ [] else host_binding x name hs ids
 
 abbrev pub bound_at_start : List (List ℕ) → Var → Option (List ℕ) → List (Binding Nothing)
 bound_at_start hosts x None = []
@@ -117,23 +119,26 @@ global_record hosts n (name ∷ names) =
     bound_at_start hosts (record { 0 = n }) name ++ global_record hosts (suc n) names
 
 abbrev pub own_record : CorePart → EnvironmentRecord Nothing
-own_record p = map (λ n. record { var = n.var; value = User value.Undefined; mutable = n.mutable }) p.names
+own_record p = map (λ n. user_binding n.var value.Undefined n.mutable) p.names
 
 abbrev pub instantiated : CorePart → List CoreStat
 instantiated p = p.instantiate ++ p.body
+
+abbrev pub start_context : Context Nothing (Unit {0}) Nothing
+start_context = record {
+  environment = 1 ∷ 0 ∷ [];
+  receiver = value.Undefined;
+  site = record { «module» = 0; at = 0 };
+  own = tt;
+  frames = [];
+}
 
 abbrev pub script_state : List (List ℕ) → Core → ScriptState
 script_state hosts core = record {
   heap = fresh5 (length hosts);
   records = global_record hosts 0 core.fresh.hints ∷ flat_map own_record core.parts ∷ [];
   closures = [];
-  context = record {
-    environment = 1 ∷ 0 ∷ [];
-    receiver = value.Undefined;
-    site = record { «module» = 0; at = 0 };
-    own = tt;
-    frames = [];
-  };
+  context = start_context;
   callers = [];
   ahead = map instantiated core.parts;
   store = tt;

@@ -1,2 +1,6 @@
-//! A script as a core: definitions alone, in `specs/`.
+//! The meaning of scripts: definitions, in `specs/`.
 #![tactic(auto)]
+
+mod nothing;
+
+pub use nothing::Nothing;

@@ -5,14 +5,7 @@ use Rattle.std.specs.Str.{bytes_eq}
 use Rattle.core_ast.specs.declared.parts.FunctionId.{FunctionId}
 use Rattle.core_ast.specs.declared.parts.Label.{Label}
 use Rattle.core_ast.specs.declared.parts.Var.{Var}
-use Rattle.core_ast.specs.declared.whole.CoreFunction.{CoreFunction}
-use Rattle.core_ast.specs.declared.whole.Declared.{Declared}
-
-pub record Gathered : Type 0 where
-  pub names : List (List ℕ)
-  pub functions : List CoreFunction
-  pub vars : List Var
-  pub declared : List Declared
+use Rattle.script_lowering.specs.declared.gathered.Gathered.{Gathered}
 
 abbrev pub nothing_gathered : Gathered
 nothing_gathered = record { names = []; functions = []; vars = []; declared = [] }
@@ -37,9 +30,12 @@ reads_both first second made = reads_then first (λ x. reads_then second (λ y. 
 abbrev pub reads_one : {A B : Type 0} → Reads A → (A → B) → Reads B
 reads_one first made = reads_then first (λ x. gives (made x))
 
+abbrev pub reads_onto : {A : Type 0} → List A → List (Reads A) → Reads (List A)
+reads_onto ys [] = gives ys
+reads_onto ys (x ∷ xs) = reads_then x (λ y. reads_onto (ys ++ y ∷ []) xs)
+
 abbrev pub reads_each : {A : Type 0} → List (Reads A) → Reads (List A)
-reads_each [] = gives []
-reads_each (x ∷ xs) = reads_both x (reads_each xs) (λ y ys. y ∷ ys)
+reads_each xs = reads_onto [] xs
 
 abbrev pub reads_perhaps : {A : Type 0} → Option (Reads A) → Reads (Option A)
 reads_perhaps None = gives None
@@ -49,7 +45,7 @@ reads_perhaps (Some x) = reads_one x (λ y. Some y)
 
 abbrev pub place_in : List (List ℕ) → List ℕ → ℕ
 place_in [] name = 0
-place_in (n ∷ ns) name = if bytes_eq n name then 0 else suc (place_in ns name)
+place_in (n ∷ ns) name = if bytes_eq name n then 0 else suc (place_in ns name)
 
 abbrev pub with_name : List ℕ → List (List ℕ) → List (List ℕ)
 with_name name names = if nat_lt (place_in names name) (length names) then names else names ++ name ∷ []

@@ -1,12 +1,12 @@
 -- Statements and functions of a script as those of the small tree (5.1 edition, 10.5, 12 and 13).
-use Rattle.std.specs.List.{flat_map}
 use Rattle.std.specs.Prelude.{Bool, List, None, Option, Some, [], codes, false, if◌then◌else◌, length, map, true, ℕ, ◌++◌, ◌∷◌}
 use Rattle.es5_ast.specs.declared.tree.Element5.TheOpen as layer
 use Rattle.es5_ast.specs.declared.tree.Element5.TheOpen.{Block5-F, Case5-F, Catch5-F, Condition5-F, Declared5-F, ForFirst5-F, Function5-F, Stat5-F}
 use Rattle.es5_ast.specs.declared.tree.Identifier5.{Identifier5}
-use Rattle.es5_ast.specs.declared.tree.Stat5.{Stat5, fold-Stat5}
-use Rattle.script_core.specs.Expressions.{Adds, FunctionRead, Operand, Places, Sites, alone, element_step, expr_step, link_step, name_read, operand_step, property_step}
-use Rattle.script_core.specs.Reading.{Gathered, Reads, Taken, declares, first_turn, gives, label_named, named, reads_both, reads_each, reads_one, reads_perhaps, reads_then, variable_named}
+use Rattle.script_lowering.specs.declared.gathered.Gathered.{Gathered}
+use Rattle.script_lowering.specs.declared.read.StatRead.{StatRead}
+use Rattle.script_lowering.specs.Expressions.{Adds, FunctionRead, Operand, Places, alone, name_read}
+use Rattle.script_lowering.specs.Reading.{Reads, Taken, declares, first_turn, gives, label_named, named, reads_both, reads_each, reads_one, reads_onto, reads_perhaps, reads_then, variable_named}
 use Rattle.core_ast.specs.Made.{act, linked, undefined}
 use Rattle.core_ast.specs.declared.parts.Constant.TheVariants as constant
 use Rattle.core_ast.specs.declared.parts.CoreHead.TheVariants as head
@@ -25,11 +25,6 @@ use Rattle.core_ast.specs.declared.tree.CoreStat.{CoreStat, out-CoreStat}
 use Rattle.core_ast.specs.declared.tree.CoreStat.TheVariants as stat
 use Rattle.core_ast.specs.declared.whole.CoreFunction.{CoreFunction}
 use Rattle.core_ast.specs.declared.whole.CoreKind.TheVariants as kind
-
--- the statements of one, of which the last is a loop where labels go to it
-pub record StatRead : Type 0 where
-  pub stats : List CoreStat
-  pub is_loop : Bool
 
 abbrev pub ReadsStat : Type 0
 ReadsStat = Reads StatRead
@@ -53,8 +48,20 @@ single s = plain (s ∷ [])
 abbrev pub stats_of : ReadsStat → ReadsStats
 stats_of r = reads_one r (λ x. x.stats)
 
+abbrev pub stats_onto : List CoreStat → List ReadsStat → ReadsStats
+stats_onto stats [] = gives stats
+stats_onto stats (r ∷ rs) = reads_then r (λ x. stats_onto (stats ++ x.stats) rs)
+
 abbrev pub all_stats : List ReadsStat → ReadsStats
-all_stats rs = reads_one (reads_each (map stats_of rs)) (λ xs. flat_map (λ x. x) xs)
+all_stats rs = stats_onto [] rs
+
+-- those of several declarations
+abbrev pub joined_onto : List CoreStat → List ReadsStats → ReadsStats
+joined_onto stats [] = gives stats
+joined_onto stats (r ∷ rs) = reads_then r (λ xs. joined_onto (stats ++ xs) rs)
+
+abbrev pub joined : List ReadsStats → ReadsStats
+joined rs = joined_onto [] rs
 
 abbrev pub case_with : Option CoreExpr → List CoreStat → CoreCase
 case_with test body = roll-CoreCase (record { test = test; body = body })
@@ -107,7 +114,7 @@ Layer Of = Of Adds (Reads CoreExpr) ReadsStats Places Adds ReadsStat ReadsStats 
 
 abbrev pub for_first_step : Layer ForFirst5-F → ReadsStats
 for_first_step layer.NoFirst = gives []
-for_first_step (layer.FirstVar declared) = reads_one (reads_each declared) (λ xs. flat_map (λ x. x) xs)
+for_first_step (layer.FirstVar declared) = joined declared
 for_first_step (layer.FirstExpression x) = reads_one x (λ y. stat.Do y ∷ [])
 
 abbrev pub block_step : Layer Block5-F → ReadsStats
@@ -197,6 +204,9 @@ abbrev pub otherwise : Option (List CoreStat) → List CoreCase
 otherwise None = []
 otherwise (Some body) = case_with None body ∷ []
 
+abbrev pub if_stat : List CoreCase → Option (List CoreStat) → StatRead
+if_stat cases last = single (stat.If (cases ++ otherwise last))
+
 abbrev pub returned : Option CoreExpr → CoreStat
 returned None = stat.Return undefined
 returned (Some x) = stat.Return x
@@ -210,14 +220,14 @@ perhaps_stats None = gives None
 perhaps_stats (Some r) = reads_one (stats_of r) (λ x. Some x)
 
 abbrev pub stat_step : Layer Stat5-F → ReadsStat
-stat_step (layer.Var span declared) = reads_one (reads_each declared) (λ xs. plain (flat_map (λ x. x) xs))
+stat_step (layer.Var span declared) = reads_one (joined declared) plain
 stat_step (layer.FunctionDeclaration f) = declared_function f f.name
 stat_step (layer.Block b) = reads_one b plain
 stat_step (layer.Empty span) = gives (plain [])
 stat_step (layer.Expression span x) = reads_one x (λ y. single (stat.Do y))
 stat_step (layer.If span first more other) =
-    reads_then first (λ c. reads_both (reads_each more) (perhaps_stats other)
-    (λ cs last. single (stat.If (c ∷ cs ++ otherwise last))))
+    reads_then first (λ c. reads_both (reads_onto (c ∷ []) more) (perhaps_stats other)
+    if_stat)
 stat_step (layer.DoWhile span body test) =
     reads_then first_turn (λ x. reads_both (stats_of body) test (λ ss t. looping (do_while x ss t)))
 stat_step (layer.While span test body) = reads_both test (stats_of body) (λ t ss. looping (loop_stat (Some t) None ss ∷ []))
@@ -235,8 +245,3 @@ stat_step (layer.Try span block handler last) =
     reads_then block (λ ss. reads_both (reads_perhaps handler) (reads_perhaps last)
     (λ h l. plain (ended (caught ss h) l)))
 stat_step (layer.Debugger span) = gives (plain [])
-
-abbrev pub stat_read : Sites → Stat5 → ReadsStat
-stat_read sites =
-    fold-Stat5 Adds (Reads CoreExpr) ReadsStats Places Adds ReadsStat ReadsStats (Reads CoreCase) (Reads Handler) (Reads CoreCase) ReadsStats FunctionRead Operand
-    element_step (expr_step sites) for_first_step (link_step sites) property_step stat_step block_step case_step catch_step condition_step declared_step function_step operand_step

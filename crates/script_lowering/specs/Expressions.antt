@@ -16,8 +16,9 @@ use Rattle.es5_ast.specs.declared.operators.UpdateOperator5.TheVariants as updat
 use Rattle.es5_ast.specs.declared.tree.Element5.TheOpen as layer
 use Rattle.es5_ast.specs.declared.tree.Element5.TheOpen.{Element5-F, Expr5-F, Link5-F, Operand5-F, Property5-F}
 use Rattle.es_text.specs.declared.Span.{Span}
-use Rattle.script_core.specs.Reading.{Reads, gives, named, reads_both, reads_each, reads_one, reads_then}
-use Rattle.es_operators.specs.declared.conversion.Tried.TheVariants.{First}
+use Rattle.script_lowering.specs.declared.sites.Sites.{Sites}
+use Rattle.script_lowering.specs.declared.sites.Sites.TheVariants.{BySpan, Carried}
+use Rattle.script_lowering.specs.Reading.{Reads, gives, named, reads_both, reads_each, reads_one, reads_then}
 use Rattle.core_ast.specs.Made.{act, acting, expression, linked}
 use Rattle.core_ast.specs.declared.parts.Binary.{Binary}
 use Rattle.core_ast.specs.declared.parts.Binary.TheVariants as binary
@@ -45,11 +46,7 @@ use Rattle.core_ast.specs.declared.tree.CoreLink.TheVariants as link
 use Rattle.core_ast.specs.declared.tree.CoreStat.{CoreStat}
 use Rattle.core_ast.specs.declared.whole.Declared.{Declared}
 
--- Which place a call has: that of the first token of its expression, or the one that it carries.
-pub data Sites : Type 0 where
-  BySpan : Sites
-  Carried : Sites
-
+-- which place a call has
 abbrev pub site_by : Sites → Span → Option Site → Option Site
 site_by BySpan span carried = Some (record { «module» = 0; at = span.begin })
 site_by Carried span carried = carried
@@ -149,13 +146,13 @@ refers_in (core.Strict (op.Member k) parts site) = true
 refers_in (core.Strict op.Index parts site) = true
 refers_in l = false
 
-abbrev pub last_refers : List CoreLink → Bool
-last_refers [] = false
-last_refers (l ∷ []) = refers_in (out-CoreLink l)
-last_refers (l ∷ m ∷ ls) = last_refers (m ∷ ls)
+-- whether the last link gives a reference; a head gives none
+abbrev pub last_refers : Bool → List CoreLink → Bool
+last_refers refers [] = refers
+last_refers refers (l ∷ ls) = last_refers (refers_in (out-CoreLink l)) ls
 
 abbrev pub is_reference : CoreExpr → Bool
-is_reference x = last_refers (out-CoreExpr x).links
+is_reference x = last_refers false (out-CoreExpr x).links
 
 -- ---- assignments (11.13, 11.3, 11.4.4, 11.4.5) and unary operators (11.4)
 

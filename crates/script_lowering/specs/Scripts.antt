@@ -2,9 +2,11 @@
 -- declares, whose functions are made before its statements run.
 use Rattle.std.specs.Prelude.{List, Some, [], false, map, true, ◌++◌, ◌∷◌}
 use Rattle.es5_ast.specs.declared.tree.Script.{Script}
-use Rattle.script_core.specs.Expressions.{Sites, closure}
-use Rattle.script_core.specs.Reading.{Taken, nothing_gathered}
-use Rattle.script_core.specs.Statements.{all_stats, stat_read}
+use Rattle.script_lowering.specs.declared.sites.Sites.{Sites}
+use Rattle.script_lowering.specs.Expressions.{closure}
+use Rattle.script_lowering.specs.Reading.{Taken, nothing_gathered}
+use Rattle.script_lowering.specs.Nodes.{stat_read}
+use Rattle.script_lowering.specs.Statements.{all_stats}
 use Rattle.core_ast.specs.Made.{act, linked}
 use Rattle.core_ast.specs.declared.parts.CoreOp.TheVariants as op
 use Rattle.core_ast.specs.declared.parts.ScopedName.{ScopedName}
