@@ -1,5 +1,5 @@
 -- What the first request that waits leads to.
-use Rattle.std.proofs.Common.{◌≡◌, ℕ, ◌<◌, ◌≤◌, inl, inr, List, ◌∷◌, Option, Some, None, Result, Ok, Err, sym, ◌∙◌, subst}
+use Rattle.std.proofs.Common.{◌≡◌, ℕ, ◌<◌, ◌≤◌, inl, inr, List, ◌∷◌, Option, Some, None, Result, Ok, Err, refl, sym, ◌∙◌, subst}
 use Rattle.std.specs.Prelude.{String, string_bytes}
 use Rattle.std.specs.Global.{Global}
 use Rattle.std.proofs.lemmas.List.{length-map}
@@ -34,17 +34,23 @@ module _ {M F : Type 0} (reads : List ℕ → List ℕ → M → Type 0) (reques
       the_requested comes asked.is_of (subst N asked.base_is p.0) (subst L (length-map modules (λ m. m.path)) p.1)
   follow modules wait rest base place request (Err (fault.BadSpecifier own at specifier)) comes asked p =
       let N : List ℕ → Type 0 = λ b. NamesNone b request in
-      record { modules = modules; request = request; first = first modules wait rest base place request comes asked own at p.1 p.2; names = subst N (sym p.1) p.0; specifier_is = p.3 }
+      record {
+        is = record { modules = modules; request = request; first = first modules wait rest base place request comes asked own at p.1 p.2; names = subst N (sym p.1) p.0; specifier_is = p.3 };
+        holds = refl;
+      }
   follow modules wait rest base place request (Err (fault.TooManyModules own at)) comes asked p =
       let N : List ℕ → Type 0 = λ b. NamesNew (paths_of modules) b request p.0.0 in
       let L : ℕ → Type 0 = λ n. 1024 ≤ n in
       record {
-        modules = modules;
-        request = request;
-        first = first modules wait rest base place request comes asked own at p.2 p.3;
-        path = p.0.0;
-        names = subst N (sym p.2) p.0.1;
-        full = subst L (length-map modules (λ m. m.path)) p.1;
+        is = record {
+          modules = modules;
+          request = request;
+          first = first modules wait rest base place request comes asked own at p.2 p.3;
+          path = p.0.0;
+          names = subst N (sym p.2) p.0.1;
+          full = subst L (length-map modules (λ m. m.path)) p.1;
+        };
+        holds = refl;
       }
   follow modules wait rest base place request (Err (fault.ReadFault path)) comes asked p = absurd p
   follow modules wait rest base place request (Err fault.EntryMissing) comes asked p = absurd p
@@ -52,7 +58,7 @@ module _ {M F : Type 0} (reads : List ℕ → List ℕ → M → Type 0) (reques
   follow modules wait rest base place request (Err (fault.FileTooLong path)) comes asked p = absurd p
   follow modules wait rest base place request (Err (fault.GraphTooLong path)) comes asked p = absurd p
   follow modules wait rest base place request (Err (fault.InModule path f)) comes asked p = absurd p
-  follow modules wait rest base place request (Err fault.OutOfMemory) comes asked p = tt
+  follow modules wait rest base place request (Err fault.OutOfMemory) comes asked p = record { is = tt; holds = tt }
 
 -- no read fails there
 pub picks-no_read : {F : Type 0} (paths : List (List ℕ)) (base : List ℕ) (place : Place) (request : Request) (result : Result (Option (String Global)) (LoadFault F)) → Picks paths base place request result

@@ -3,3 +3,4 @@ pub mod Loading
 pub mod Reading
 pub mod Requests
 pub mod States
+pub mod Supplying

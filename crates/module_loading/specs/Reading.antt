@@ -8,3 +8,9 @@ abbrev pub ReadsTo : {M F : Type 0} → (M → Type 0) → (F → Type 0) → Re
 ReadsTo reads refuses (Ok made) = reads made
 ReadsTo reads refuses (Err (Refused f)) = refuses f
 ReadsTo reads refuses (Err OutOfMemory) = Unit {0}
+
+-- that it holds where the bytes have a fault
+abbrev pub IfRefused : {M F : Type 0} → Result M (Unread F) → Type 0 → Type 0
+IfRefused (Ok made) P = Unit {0}
+IfRefused (Err (Refused f)) P = P
+IfRefused (Err OutOfMemory) P = Unit {0}

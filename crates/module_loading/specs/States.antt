@@ -9,8 +9,9 @@ use Rattle.module_loading.specs.declared.loading.Loading.{Loading}
 use Rattle.module_loading.specs.declared.loading.Next.{Next}
 use Rattle.module_loading.specs.declared.waiting.Wait.{Wait}
 use Rattle.module_loading.specs.Files.{Told}
-use Rattle.module_loading.specs.Loading.{Comes, IsFault, IsNext, IsOf, Loaded, paths_of, size_of}
+use Rattle.module_loading.specs.Loading.{Comes, IsNext, IsOf, Loaded, paths_of, size_of}
 use Rattle.module_loading.specs.Requests.{Names, NamesNew, NamesNone, is_host, is_listed}
+use Rattle.module_loading.specs.Supplying.{AreOut, HandsOut, StopsWhere}
 
 -- these modules are loaded, and these requests wait
 pub record Shows {M : Type 0} (modules : List (Loaded M)) (waiting : List Wait) (l : Loading M) : Type 0 where
@@ -52,34 +53,54 @@ Picks paths base place request (Err fault.OutOfMemory) = Unit {0}
 Picks paths base place request (Err other) = ⊥
 
 module _ {M F : Type 0} (reads : List ℕ → List ℕ → M → Type 0) (requests : M → List Request) (shows : M → ℕ → Place → Type 0) (refuses : List ℕ → List ℕ → F → Type 0) where
+  -- the fault comes first, after just these modules
+  abbrev pub StopsAfter : Told → List ℕ → List (Loaded M) → LoadFault F → Type 0
+  StopsAfter told entry modules f = StopsWhere reads requests shows refuses told entry (λ ms. ms ≡ modules) f
+
   -- what the first request that waits leads to
   abbrev pub Follows : Told → List ℕ → List (Loaded M) → Wait → List Wait → Result (Option (String Global)) (LoadFault F) → Type 0
   Follows told entry modules wait rest (Ok None) = Comes told reads requests entry modules rest
   Follows told entry modules wait rest (Ok (Some path)) = IsNext told reads requests entry modules rest (Some wait) (string_bytes path)
-  Follows told entry modules wait rest (Err f) = IsFault told reads requests entry shows refuses f
+  Follows told entry modules wait rest (Err f) = StopsAfter told entry modules f
 
   -- what the requests that wait lead to
   abbrev pub Reaches : Told → List ℕ → List (Loaded M) → Loading M → Result (Option Next) (LoadFault F) → Type 0
   Reaches told entry modules new (Ok None) = Comes told reads requests entry modules [] × Shows modules [] new
   Reaches told entry modules new (Ok (Some next)) = (rest : List Wait) × IsNext told reads requests entry modules rest next.wait (string_bytes next.path) × Shows modules rest new
-  Reaches told entry modules new (Err f) = IsFault told reads requests entry shows refuses f
+  Reaches told entry modules new (Err f) = StopsAfter told entry modules f
 
-  -- loading comes to what is kept
-  abbrev pub Arrives : Told → List ℕ → Loading M → Type 0
-  Arrives told entry l = (modules : List (Loaded M)) × (waiting : List Wait) × Comes told reads requests entry modules waiting × Shows modules waiting l
+  module _ {S : Type 0} (hands : S → List ℕ → List ℕ → S → Type 0) (told : Told) (entry : List ℕ) (start : S) where
+    -- loading comes to what is kept, and the supply handed out its modules
+    pub record Arrives (l : Loading M) (now : S) : Type 0 where
+      pub modules : List (Loaded M)
+      pub waiting : List Wait
+      pub comes : Comes told reads requests entry modules waiting
+      pub kept : Shows modules waiting l
+      pub handed : HandsOut hands start modules now
 
-  -- what the entry leads to
-  abbrev pub Begins : Told → List ℕ → Result (Loading M) (LoadFault F) → Type 0
-  Begins told entry (Ok l) = Arrives told entry l
-  Begins told entry (Err f) = IsFault told reads requests entry shows refuses f
+    -- all requests are followed
+    pub record Arrived (l : Loading M) (now : S) : Type 0 where
+      pub modules : List (Loaded M)
+      pub comes : Comes told reads requests entry modules []
+      pub kept : Shows modules [] l
+      pub handed : HandsOut hands start modules now
 
-  -- what the file that comes next leads to
-  abbrev pub Adds : Told → List ℕ → Loading M → Result Unit (LoadFault F) → Type 0
-  Adds told entry new (Ok done) = Arrives told entry new
-  Adds told entry new (Err f) = IsFault told reads requests entry shows refuses f
+    -- the fault comes first, and the modules that pass before it are kept
+    abbrev pub Stops : Loading M → S → LoadFault F → Type 0
+    Stops l now f = StopsWhere reads requests shows refuses told entry (λ modules. AreOut hands start l.modules now modules) f
 
-  -- what it leads to where there may be none
-  abbrev pub Steps : Told → List ℕ → Loading M → Result Bool (LoadFault F) → Type 0
-  Steps told entry new (Ok true) = Arrives told entry new
-  Steps told entry new (Ok false) = (modules : List (Loaded M)) × Comes told reads requests entry modules [] × Shows modules [] new
-  Steps told entry new (Err f) = IsFault told reads requests entry shows refuses f
+    -- what the file that comes next leads to
+    abbrev pub Adds : Loading M → S → Result Unit (LoadFault F) → Type 0
+    Adds new now (Ok done) = Arrives new now
+    Adds new now (Err f) = Stops new now f
+
+    -- what it leads to where there may be none
+    abbrev pub Steps : Loading M → S → Result Bool (LoadFault F) → Type 0
+    Steps new now (Ok true) = Arrives new now
+    Steps new now (Ok false) = Arrived new now
+    Steps new now (Err f) = Stops new now f
+
+    -- what all requests lead to
+    abbrev pub Fills : Loading M → S → Result Unit (LoadFault F) → Type 0
+    Fills new now (Ok done) = Arrived new now
+    Fills new now (Err f) = Stops new now f
