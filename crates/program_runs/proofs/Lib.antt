@@ -1,0 +1,5 @@
+pub mod Courses
+pub mod Endings
+pub mod HostLists
+pub mod Positions
+pub mod Talking
