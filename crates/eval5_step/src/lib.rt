@@ -1,0 +1,10 @@
+//! The run of a script, step by step.
+#![tactic(auto)]
+
+mod copies;
+mod run5;
+mod stage;
+
+pub use program_runs::{ProgramRun, Step};
+pub use run5::Run5;
+pub use stage::Stage;
