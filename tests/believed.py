@@ -1,7 +1,7 @@
 #!/usr/bin/env python3
 """Which definitions a contract rests on: the files of specs/ that a source file's ghost imports name, and those that these import.
 
-usage: tests/believed.py [FILE]    FILE is a source file whose contract is meant, crates/es5c/src/top.rt if none is given
+usage: tests/believed.py [FILE]    FILE is a source file whose contract is meant, crates/commands/src/top.rt if none is given
 
 A line a file: its lines, those that are neither blank nor a comment nor an import, and its name; then the sums."""
 import os
@@ -45,4 +45,4 @@ def main(source):
 if sys.argv[1:2] and sys.argv[1].startswith('-') or len(sys.argv) > 2:
     print(__doc__)
     sys.exit(2)
-main(sys.argv[1] if len(sys.argv) > 1 else 'crates/es5c/src/top.rt')
+main(sys.argv[1] if len(sys.argv) > 1 else 'crates/commands/src/top.rt')

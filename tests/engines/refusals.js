@@ -157,7 +157,7 @@ for (const wrong of [[], ['build'], ['build', ''], ['build', '/'], ['build', 'a/
   compare('words: ' + JSON.stringify(wrong), { 'main.js': '' }, wrong, 2, usage);
 }
 for (const words of [['build', './a/..//main.js'], ['build', '--', 'main.js']]) compare(`words: ${words.join(' ')}`, { 'main.js': '' }, words, 0, '', '"use strict";\n');
-for (const words of [['rebuild', 'main.js', 'list.txt'], ['run', 'main.js', '--steps', '7'], ['run5', 'main.js'], ['sample', '1000']]) {
+for (const words of [['rebuild', 'main.js', 'list.txt'], ['run', 'main.js', '--steps', '7'], ['sample', '1000']]) {
   compare(`words: ${words.join(' ')}`, { 'main.js': '' }, words, 1, `${words[0]}: not built`);
 }
 

@@ -1,22 +1,13 @@
 //! The program `es5c`: `es5c build ENTRY` writes the ES5 script of a graph of modules to the standard output, `es5c split ENTRY` a script for
-//! each module of that graph, and `es5c map SCRIPT` the text of the map that a script holds.
+//! each module of that graph, and `es5c map SCRIPT` the text of the map that a script holds; `es5c run5 SCRIPT` runs a script.
 #![tactic(auto)]
 
-mod build;
-mod command;
-mod fault;
-mod map;
-mod split;
-mod status;
-mod top;
-
+use commands::{Status, es5c};
 use es_outside::{Host, Hosts};
-use status::Status;
 use std::alloc::{AllocError, Global};
 use std::process::ExitCode;
 use std::{env, io};
 use system_outside::{CountHost, PrintHost, ReadHost, StreamSink, SystemFiles};
-use top::es5c;
 
 fn main(rt: HostRuntime) -> ExitCode {
     let status = run(&rt).unwrap_or(Status::OutOfMemory);
@@ -41,20 +32,21 @@ fn run(rt: &HostRuntime) -> Result<Status, AllocError> {
         Box::new(alloc, CountHost::new())?,
     ))?;
     // These three names may name hosts, so the list isn't handed back.
-    let Ok(mut hosts) = Hosts::new(alloc, list) else {
+    let Ok(hosts) = Hosts::new(alloc, list) else {
         return Ok(Status::HostFault);
     };
     let mut files = SystemFiles::new(rt);
     let mut out = StreamSink::new(rt.stdout());
     let mut err = StreamSink::new(rt.stderr());
-    Ok(es5c(
+    let (status, _hosts) = es5c(
         alloc,
         words.as_slice(),
         &mut files,
-        &mut hosts,
+        hosts,
         &mut out,
         &mut err,
-    ))
+    );
+    Ok(status)
 }
 
 /// The words after the program's own. Where they can't be read as text, they are no command.

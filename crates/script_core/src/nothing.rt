@@ -1,5 +1,5 @@
 //! What scripts don't have.
 
-/// A value that no program sees, and work that is pending besides: scripts have none.
+/// What stands in the place of values that no program sees, and of work that is pending besides. No step of a script makes it.
 #[derive(Drop)]
-pub enum Nothing {}
+pub struct Nothing;

@@ -23,6 +23,7 @@ use std::alloc::{AllocError, Global};
 pub type ScriptState<'a> = State<'a, Nothing, (), Nothing, ()>;
 
 /// The core of a script, with the rows of scripts.
+#[derive(Clone, Copy)]
 pub struct ScriptRows<'a> {
     pub core: &'a Core,
     pub alloc: Global,
@@ -73,8 +74,8 @@ impl<'a> CoreRows<'a> for ScriptRows<'a> {
         self.alloc
     }
 
-    fn share(&self, mark: &Nothing) -> Result<Nothing, AllocError> {
-        match *mark {}
+    fn share(&self, _mark: &Nothing) -> Result<Nothing, AllocError> {
+        Ok(Nothing)
     }
 
     fn edition(&self) -> Edition {

@@ -1,0 +1,14 @@
+//! What the program does: a command over files, hosts and streams that its caller hands in.
+#![tactic(auto)]
+
+mod build;
+mod command;
+mod fault;
+mod map;
+mod run5;
+mod split;
+mod status;
+mod top;
+
+pub use status::Status;
+pub use top::es5c;

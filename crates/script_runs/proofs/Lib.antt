@@ -1,0 +1,5 @@
+pub mod Contents
+pub mod Laws
+pub mod Placed
+pub mod Ran
+pub mod Refused
