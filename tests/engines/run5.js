@@ -1,5 +1,5 @@
-// Plays scripts with `run5`: those that `build` makes of the rows of rows_data.js, whose lines are known, and small ones with the lines and statuses that
-// the rules give them. Usage: node run5.js ES5C [NAME ..]
+// Plays scripts with `run5`: those that `build` makes of the rows of rows_data.js and of the folders of programs/, whose lines are known, and small ones with
+// the lines and statuses that the rules give them. Usage: node run5.js ES5C [NAME ..]
 'use strict';
 const { spawnSync } = require('child_process');
 const fs = require('fs');
@@ -21,10 +21,10 @@ function statusOf(line) {
   return line === 'ended' ? 0 : line.startsWith('threw ') ? 7 : line.startsWith('left X') ? 8 : 9;
 }
 
-// How the run of a row's script differs from the row's lines.
+// How the run of a row's script differs from the row's lines; its modules are those of the row, or lie in the folder that it names.
 function rowFault(row, folder) {
-  for (const [name, text] of Object.entries(row.files || { 'main.js': host + row.text })) fs.writeFileSync(path.join(folder, name), text);
-  const built = run(folder, ['build', 'main.js']);
+  if (!row.at) for (const [name, text] of Object.entries(row.files || { 'main.js': host + row.text })) fs.writeFileSync(path.join(folder, name), text);
+  const built = run(row.at || folder, ['build', 'main.js']);
   if (built.status !== 0) return `it isn't built: ${built.stderr}`;
   fs.writeFileSync(path.join(folder, 'script.js'), built.stdout);
   const { status, stdout, stderr } = run(folder, ['run5', '--steps', '100000000', 'script.js']);
@@ -33,6 +33,25 @@ function rowFault(row, folder) {
   if (shown.join('\n') !== row.lines.join('\n')) return JSON.stringify(lines.slice(0, 12));
   const due = statusOf(lines[lines.length - 1]);
   return status === due && stderr === '' ? null : `status ${status}, not ${due}, ${JSON.stringify(stderr)}`;
+}
+
+// The folders whose scripts leave the profile, since numbers become no safe ones there (X1); the lines up to there are the expected ones.
+const leaving = ['const_assignments', 'expressions_powers', 'modules_live_bindings', 'odd_statements_without_semicolons_and_odd_layout'];
+const programs = path.join(__dirname, 'programs');
+
+function programOf(name) {
+  const at = path.join(programs, name);
+  return { name, at, lines: fs.readFileSync(path.join(at, 'expected'), 'utf8').trimEnd().split('\n'), isLeft: leaving.includes(name) };
+}
+
+// How the run of a folder's script differs from the expected lines.
+function programFault(program, folder) {
+  if (!program.isLeft) return rowFault(program, folder);
+  const fault = rowFault({ ...program, lines: [], leaves: true }, folder);
+  if (fault) return fault;
+  const lines = run(folder, ['run5', '--steps', '100000000', 'script.js']).stdout.trimEnd().split('\n');
+  const last = lines.pop();
+  return last.startsWith('left X1 ') && lines.join('\n') === program.lines.slice(0, lines.length).join('\n') ? null : JSON.stringify(last);
 }
 
 const strict = '"use strict"; ';
@@ -71,6 +90,7 @@ function play(row, faultOf) {
   console.log(`run5: ${row.name}: ${fault}`);
 }
 for (const row of scripts) play(row, scriptFault);
+for (const name of fs.readdirSync(programs)) if (!fs.existsSync(path.join(programs, name, 'answers'))) play(programOf(name), programFault);
 for (const row of rows) if (row.lines && !row.answers && !row.words) play(row, rowFault);
 console.log(`run5: ${played} played, ${failed} differ`);
 process.exitCode = failed === 0 ? 0 : 1;

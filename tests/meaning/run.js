@@ -52,8 +52,8 @@ for (const name of names) {
       const lines = (exit ? [...expected.slice(0, until), exit] : expected).slice(0, shown);
       const fault = difference(lines, run.lines.slice(0, shown));
       if (fault) faults.push(`level ${level}: ${fault}`);
-      if (level === 's') heap = run.state.heap;
-      // a configuration of the core has its state beside the control
+      // a configuration has its state beside the control
+      if (level === 's') heap = run.state.state.heap;
       if (level === '0' && heap && sameHeap(heap, run.state.state.heap)) told.heaps++;
       places = places || run.places;
       const misplaced = difference(places, run.places.slice(0, shown));

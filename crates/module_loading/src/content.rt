@@ -5,7 +5,8 @@ ghost use Rattle.es_outside.specs.Counts.{CountRose};
 ghost use Rattle.module_loading.specs.Files.{Finds};
 ghost use Rattle.module_loading.specs.declared.content.Content.TheVariants.{Failed};
 
-use es_outside::{FileAnswer, Files};
+use crate::finding::FindsFiles;
+use es_outside::FileAnswer;
 use std::alloc::Global;
 
 /// The bytes that a module may have.
@@ -22,13 +23,14 @@ pub(crate) enum Content {
     OutOfMemory,
 }
 
-pub(crate) fn content_of<F: Files>(alloc: Global, files: &mut F, path: &str) -> Content
-    ensures found { Finds (F.files files.old) path.now result }
-    ensures unchanged { F.files files.new ≡ F.files files.old }
-    ensures no_fall { F.faults files.old ≤ F.faults files.new }
-    ensures failed { result ≡ Failed → CountRose (F.faults files.old) (F.faults files.new) }
+pub(crate) fn content_of<F, W: FindsFiles<F>>(alloc: Global, files: &mut F, path: &str) -> Content
+    ensures found { Finds (W.files files.old) path.now result }
+    ensures unchanged { W.files files.new ≡ W.files files.old }
+    ensures no_fall { W.faults files.old ≤ W.faults files.new }
+    ensures failed { result ≡ Failed → CountRose (W.faults files.old) (W.faults files.new) }
+    ensures stays { W.stays files.old files.new }
 {
-    match files.read(alloc, path, MOST_BYTES) {
+    match W::read(alloc, files, path, MOST_BYTES) {
         FileAnswer::Found(bytes) => {
             if bytes.len() > MOST_BYTES as usize {
                 Content::Long

@@ -12,6 +12,7 @@ ghost use Rattle.module_loading.specs.declared.fault.LoadFault.TheVariants.{InMo
 
 use crate::content::{Content, content_of};
 use crate::fault::LoadFault;
+use crate::finding::{ByFiles, FindsFiles};
 use crate::following::{missing, next_of};
 use crate::loading::{Loading, Next, asked_of, nothing_loaded, take};
 use crate::numbers::renumbered;
@@ -47,7 +48,7 @@ pub fn load<F: Files, R: ReadsModules>(
     ensures no_fall { F.faults files.old ≤ F.faults files.new }
     ensures failed { HasReadFault result → CountRose (F.faults files.old) (F.faults files.new) }
 {
-    let Loads { modules, ended } = load_from::<F, R, ReadsAnew>(
+    let Loads { modules, ended } = load_from::<F, ByFiles, R, ReadsAnew>(
         alloc,
         files,
         &mut ReadsAnew,
@@ -60,21 +61,22 @@ pub fn load<F: Files, R: ReadsModules>(
 }
 
 /// Loads the graph of the entry of the modules that a supply hands out. Where memory runs out, nothing is said of what is left.
-pub fn load_from<F: Files, R: ReadsModules, S: SuppliesModules<R>>(
+pub fn load_from<F, W: FindsFiles<F>, R: ReadsModules, S: SuppliesModules<R>>(
     alloc: Global,
     files: &mut F,
     supply: &mut S,
     entry: &str,
 ) -> Loads<R::Module, R::Fault>
-    ensures loads { LoadsFrom R.reads R.requests R.shows R.refuses (F.files files.old) entry.now
+    ensures loads { LoadsFrom R.reads R.requests R.shows R.refuses (W.files files.old) entry.now
         R.requested S.hands_out supply.old result.modules supply.new result.ended }
-    ensures unchanged { F.files files.new ≡ F.files files.old }
-    ensures no_fall { F.faults files.old ≤ F.faults files.new }
+    ensures unchanged { W.files files.new ≡ W.files files.old }
+    ensures stays { W.stays files.old files.new }
+    ensures no_fall { W.faults files.old ≤ W.faults files.new }
     ensures failed { HasReadFault result.ended →
-        CountRose (F.faults files.old) (F.faults files.new) }
+        CountRose (W.faults files.old) (W.faults files.new) }
 {
     let mut loading = nothing_loaded(alloc);
-    match fill::<F, R, S>(alloc, files, supply, entry, &mut loading) {
+    match fill::<F, W, R, S>(alloc, files, supply, entry, &mut loading) {
         Ok(()) => numbered::<R>(alloc, loading),
         Err(fault) => stopped(loading, fault),
     }
@@ -115,7 +117,7 @@ fn numbered<R: ReadsModules>(
 }
 
 /// Loads all modules, the entry first.
-fn fill<F: Files, R: ReadsModules, S: SuppliesModules<R>>(
+fn fill<F, W: FindsFiles<F>, R: ReadsModules, S: SuppliesModules<R>>(
     alloc: Global,
     files: &mut F,
     supply: &mut S,
@@ -124,18 +126,19 @@ fn fill<F: Files, R: ReadsModules, S: SuppliesModules<R>>(
 ) -> Result<(), LoadFault<R::Fault>>
     requires { Shows {M = R.Module} [] [] loading.old }
     ensures fills { Fills R.reads R.requests R.shows R.refuses S.hands_out
-        (F.files files.old) entry.now supply.old loading.new supply.new result }
-    ensures unchanged { F.files files.new ≡ F.files files.old }
-    ensures no_fall { F.faults files.old ≤ F.faults files.new }
-    ensures failed { HasReadFault result → CountRose (F.faults files.old) (F.faults files.new) }
+        (W.files files.old) entry.now supply.old loading.new supply.new result }
+    ensures unchanged { W.files files.new ≡ W.files files.old }
+    ensures stays { W.stays files.old files.new }
+    ensures no_fall { W.faults files.old ≤ W.faults files.new }
+    ensures failed { HasReadFault result → CountRose (W.faults files.old) (W.faults files.new) }
 {
-    begin::<F, R, S>(alloc, files, supply, loading, entry)?;
-    while step::<F, R, S>(alloc, files, supply, loading)? {}
+    begin::<F, W, R, S>(alloc, files, supply, loading, entry)?;
+    while step::<F, W, R, S>(alloc, files, supply, loading)? {}
     Ok(())
 }
 
 /// Adds the entry.
-fn begin<F: Files, R: ReadsModules, S: SuppliesModules<R>>(
+fn begin<F, W: FindsFiles<F>, R: ReadsModules, S: SuppliesModules<R>>(
     alloc: Global,
     files: &mut F,
     supply: &mut S,
@@ -144,20 +147,21 @@ fn begin<F: Files, R: ReadsModules, S: SuppliesModules<R>>(
 ) -> Result<(), LoadFault<R::Fault>>
     requires { Shows {M = R.Module} [] [] loading.old }
     ensures adds { Adds R.reads R.requests R.shows R.refuses S.hands_out
-        (F.files files.old) entry.now supply.old loading.new supply.new result }
-    ensures unchanged { F.files files.new ≡ F.files files.old }
-    ensures no_fall { F.faults files.old ≤ F.faults files.new }
-    ensures failed { HasReadFault result → CountRose (F.faults files.old) (F.faults files.new) }
+        (W.files files.old) entry.now supply.old loading.new supply.new result }
+    ensures unchanged { W.files files.new ≡ W.files files.old }
+    ensures stays { W.stays files.old files.new }
+    ensures no_fall { W.faults files.old ≤ W.faults files.new }
+    ensures failed { HasReadFault result → CountRose (W.faults files.old) (W.faults files.new) }
 {
     let first = Next {
         path: String::from_str(alloc, entry)?,
         wait: None,
     };
-    add::<F, R, S>(alloc, files, supply, loading, first)
+    add::<F, W, R, S>(alloc, files, supply, loading, first)
 }
 
 /// Adds the module that comes next, and says whether there is one.
-fn step<F: Files, R: ReadsModules, S: SuppliesModules<R>>(
+fn step<F, W: FindsFiles<F>, R: ReadsModules, S: SuppliesModules<R>>(
     alloc: Global,
     files: &mut F,
     supply: &mut S,
@@ -165,28 +169,29 @@ fn step<F: Files, R: ReadsModules, S: SuppliesModules<R>>(
 ) -> Result<bool, LoadFault<R::Fault>>
     requires { AreWithin R.requests loading.old }
     ensures steps { (entry : List ℕ) (start : S) →
-        Arrives R.reads R.requests R.shows R.refuses S.hands_out (F.files files.old) entry start
+        Arrives R.reads R.requests R.shows R.refuses S.hands_out (W.files files.old) entry start
         loading.old supply.old →
-        Steps R.reads R.requests R.shows R.refuses S.hands_out (F.files files.old) entry start
+        Steps R.reads R.requests R.shows R.refuses S.hands_out (W.files files.old) entry start
         loading.new supply.new result }
     ensures grows { IfOk result (λ more. more ≡ true →
         (length loading.old.modules < 1024) ×
         (length loading.new.modules ≡ length loading.old.modules + 1)) }
-    ensures unchanged { F.files files.new ≡ F.files files.old }
-    ensures no_fall { F.faults files.old ≤ F.faults files.new }
-    ensures failed { HasReadFault result → CountRose (F.faults files.old) (F.faults files.new) }
+    ensures unchanged { W.files files.new ≡ W.files files.old }
+    ensures stays { W.stays files.old files.new }
+    ensures no_fall { W.faults files.old ≤ W.faults files.new }
+    ensures failed { HasReadFault result → CountRose (W.faults files.old) (W.faults files.new) }
 {
     match next_of::<R>(alloc, loading)? {
         None => Ok(false),
         Some(next) => {
-            add::<F, R, S>(alloc, files, supply, loading, next)?;
+            add::<F, W, R, S>(alloc, files, supply, loading, next)?;
             Ok(true)
         }
     }
 }
 
 /// Reads the file that comes next, and adds its module.
-fn add<F: Files, R: ReadsModules, S: SuppliesModules<R>>(
+fn add<F, W: FindsFiles<F>, R: ReadsModules, S: SuppliesModules<R>>(
     alloc: Global,
     files: &mut F,
     supply: &mut S,
@@ -197,18 +202,19 @@ fn add<F: Files, R: ReadsModules, S: SuppliesModules<R>>(
     requires within { IfSome next.wait (IsWithin R.requests loading.old.modules) }
     ensures adds { (entry : List ℕ) (start : S) (modules : List (Loaded R.Module))
         (rest : List Wait) →
-        IsNext (F.files files.old) R.reads R.requests entry
+        IsNext (W.files files.old) R.reads R.requests entry
         modules rest next.wait (string_bytes next.path) →
         Shows modules rest loading.old → HandsOut S.hands_out start modules supply.old →
-        Adds R.reads R.requests R.shows R.refuses S.hands_out (F.files files.old) entry start
+        Adds R.reads R.requests R.shows R.refuses S.hands_out (W.files files.old) entry start
         loading.new supply.new result }
     ensures grows { OnOk result (length loading.new.modules ≡ length loading.old.modules + 1) }
-    ensures unchanged { F.files files.new ≡ F.files files.old }
-    ensures no_fall { F.faults files.old ≤ F.faults files.new }
-    ensures failed { HasReadFault result → CountRose (F.faults files.old) (F.faults files.new) }
+    ensures unchanged { W.files files.new ≡ W.files files.old }
+    ensures stays { W.stays files.old files.new }
+    ensures no_fall { W.faults files.old ≤ W.faults files.new }
+    ensures failed { HasReadFault result → CountRose (W.faults files.old) (W.faults files.new) }
 {
     let Next { path, wait } = next;
-    match content_of(alloc, files, path.as_str()) {
+    match content_of::<F, W>(alloc, files, path.as_str()) {
         Content::Short(bytes) => add_bytes::<R, S>(alloc, supply, loading, path, bytes),
         Content::Long => Err(LoadFault::FileTooLong {
             path: name_of(alloc, &path)?,

@@ -6,6 +6,7 @@
 
 mod content;
 mod fault;
+mod finding;
 mod following;
 mod graph;
 mod loading;
@@ -17,6 +18,7 @@ mod unread;
 mod waiting;
 
 pub use fault::LoadFault;
+pub use finding::{ByFiles, FindsFiles};
 pub use graph::{Loads, load, load_from};
 pub use reader::ReadsModules;
 pub use supply::{ReadsAnew, SuppliesModules};

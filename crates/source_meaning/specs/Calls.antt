@@ -24,7 +24,7 @@ use Rattle.es6_ast.specs.declared.tree.Parameter.{Parameter, out-Parameter}
 use Rattle.source_meaning.specs.Environments.{record_at, with_record}
 use Rattle.source_meaning.specs.Functions.{body_instantiated, first_bindings, is_arrow, is_class, is_derived, is_generator, one_parameter, parameters_of, run_code, statements_of, with_arguments}
 use Rattle.source_meaning.specs.State.{Call, Closure, Code, Completion, ConstructorCode, Context, Derived, Done, EnvironmentRecord, ForSuper, GeneratorPrototype, Gives, Hand, Listing, Made, Making, OfArguments, Own, ParametersBound, SpreadIterator, State, SuperMade, Throws, Turn}
-use Rattle.source_meaning.specs.Steps.{Next, calls, controls, due, gives, hands, impossible, leaves, operates, pushed, raises, with_heap, with_some}
+use Rattle.source_meaning.specs.Steps.{Next, calls, controls, due, gives, hands, impossible, leaves, operates, pushed, raises, with_control, with_heap, with_some}
 use Rattle.source_meaning.specs.Trees.{are_simple}
 
 -- ---- hosts: an object among the arguments is a TypeError, and no event. The place is that of the call expression
@@ -36,7 +36,7 @@ reply_of (reply.Throw p) = Throws (of_prim p)
 abbrev pub asks_host : ℕ → State → Option (List Primitive) → Next
 asks_host n st None = raises TypeError st
 asks_host n st (Some args) =
-    Asks (record { host = n; args = args; site = st.context.place }) (λ reply. record st { control = Hand (reply_of reply) })
+    Asks (record { host = n; args = args; site = st.context.place }) (λ reply. with_control (Hand (reply_of reply)) st)
 
 abbrev pub call_host : ℕ → List Value → State → Next
 call_host n args st = asks_host n st (to_prims args)

@@ -16,13 +16,14 @@ use Rattle.es6_ast.specs.declared.tree.ClassMember.{ClassMember, out-ClassMember
 use Rattle.es6_ast.specs.declared.tree.Expression.{Expression}
 use Rattle.es6_ast.specs.declared.tree.Identifier.{Identifier}
 use Rattle.es6_ast.specs.declared.tree.Method.{out-Method}
+use Rattle.source_state.specs.Members.{other_members}
 use Rattle.source_meaning.specs.Environments.{initialized, with_bindings}
 use Rattle.source_meaning.specs.Functions.{closure_in, function_parameters, with_closure}
 use Rattle.source_meaning.specs.Objects.{define_method}
 use Rattle.source_meaning.specs.References.{with_key}
 use Rattle.source_meaning.specs.State.{ConstructorCode, Defining, Heritage, HeritagePrototype, OfMember, Restore, State, Static, Uninitialized}
 use Rattle.source_meaning.specs.Steps.{Next, begins, gives, impossible, operates, pushed, with_heap}
-use Rattle.source_meaning.specs.Trees.{constructor_in, expected_count, optional_name, other_members}
+use Rattle.source_meaning.specs.Trees.{constructor_in, expected_count, optional_name}
 
 -- ---- the static members that a class inherits are fixed when it is defined: those that the parent's definition made and the parent
 -- still has, and those that were recorded for the parent

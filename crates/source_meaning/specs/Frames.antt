@@ -10,13 +10,14 @@ use Rattle.es_calls.specs.declared.call.Resumption.{Resumption}
 use Rattle.es_calls.specs.declared.call.Resumption.TheVariants as resumption
 use Rattle.es_operations.specs.Numbers as number
 use Rattle.es_operations.specs.Steps.{drops_throw}
+use Rattle.source_state.specs.Parts.{arguments_parts}
 use Rattle.source_meaning.specs.Calls.{constructed, derived_given, making, parameters_bound, parameters_rest}
 use Rattle.source_meaning.specs.Classes.{heritage_given, heritage_valued, member_named}
 use Rattle.source_meaning.specs.Environments.{bind_this, initialized, this_of}
 use Rattle.source_meaning.specs.Expressions.{assign_referred, assign_right, deleted, operands_on, operate, sequence_on, super_keyed, super_named, template_texted, template_valued, unary_valued, update_numbered, update_read, update_referred}
 use Rattle.source_meaning.specs.Functions.{parameter_matched}
 use Rattle.source_meaning.specs.Generators.{arrives, delegate, delegate_done, delegate_given, delegate_turn, delegate_value, generated, generator_made, starts, yields}
-use Rattle.source_meaning.specs.Lists.{arguments_parts, indexed, linked, list_on, list_valued, passes, spread_part, spread_step, spread_stepped, spread_valued}
+use Rattle.source_meaning.specs.Lists.{indexed, linked, list_on, list_valued, passes, spread_part, spread_step, spread_stepped, spread_valued}
 use Rattle.source_meaning.specs.Loops.{for_of_jumped, for_of_step, for_of_stepped, for_of_valued, loop_begun, loop_continued, loop_on, loop_tested, subject_valued, test_loop}
 use Rattle.source_meaning.specs.Objects.{method_named, property_valued, value_named}
 use Rattle.source_meaning.specs.Patterns.{closes_unless, element_referred, element_stepped, element_valued, elements_on, elements_rest, member_referred, member_valued, members_on, part_named, put_referred, rest_referred, rest_stepped, rest_valued, settled, skipped}

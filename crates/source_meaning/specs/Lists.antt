@@ -14,14 +14,14 @@ use Rattle.es_calls.specs.Making.{with_element}
 use Rattle.es_operations.specs.Making.{made_template}
 use Rattle.es_operations.specs.Numbers as number
 use Rattle.es6_ast.specs.Spans.{Open}
-use Rattle.es6_ast.specs.declared.tree.Argument.{Argument, out-Argument, roll-Argument}
+use Rattle.es6_ast.specs.declared.tree.Argument.{Argument, out-Argument}
 use Rattle.es6_ast.specs.declared.tree.Argument.TheOpen as layer
-use Rattle.es6_ast.specs.declared.tree.Argument.TheOpen.{Argument-F, Element-F, Link-F}
-use Rattle.es6_ast.specs.declared.tree.Element.{Element, out-Element}
+use Rattle.es6_ast.specs.declared.tree.Argument.TheOpen.{Argument-F, Link-F}
 use Rattle.es6_ast.specs.declared.tree.Expression.{Expression}
 use Rattle.es6_ast.specs.declared.tree.Link.{Link, out-Link}
 use Rattle.es6_ast.specs.declared.tree.Template.{Template, out-Template}
 use Rattle.es6_ast.specs.declared.tree.TemplatePart.{out-TemplatePart}
+use Rattle.source_state.specs.Parts.{arguments_parts, values_parts}
 use Rattle.source_meaning.specs.Calls.{call_host, construct, construct_parent}
 use Rattle.source_meaning.specs.Environments.{host_named}
 use Rattle.source_meaning.specs.References.{get_value, is_iterator_key, reads}
@@ -39,16 +39,6 @@ add_element heap id v = with_element heap id (length_at heap id) v
 
 abbrev pub add_hole : Heap → ObjId → Heap
 add_hole heap id = (set_length heap id (pos (suc (length_at heap id)))).after
-
-abbrev pub element_argument : Open Element-F → Option Argument
-element_argument layer.Hole = None
-element_argument (layer.Present a) = Some a
-
-abbrev pub elements_parts : List Element → List (Option Argument)
-elements_parts es = map (λ e. element_argument (out-Element e)) es
-
-abbrev pub arguments_parts : List Argument → List (Option Argument)
-arguments_parts xs = map (λ a. Some a) xs
 
 -- ---- a list that is whole: the array, the call, `new` (12.3.3.1.1), or `super(..)`
 
@@ -135,7 +125,7 @@ with_template t st f = template_by t st f (template_in st.templates (raw_texts t
 -- ---- what is passed to a callee (12.3.4.2, 12.3.7.1): of a template its object and its values
 
 abbrev pub template_values : Template → List (Option Argument)
-template_values t = map (λ p. Some (roll-Argument (layer.Single (out-TemplatePart p).value))) (out-Template t).rest
+template_values t = values_parts (out-Template t).rest
 
 abbrev pub passes : Callee → Passing → Bool → List Link → State → Next
 passes callee (PassesArguments xs) wanted links st =

@@ -34,8 +34,8 @@ use Rattle.es6_static_semantics.specs.Findings.{joined}
 use Rattle.module_order.specs.Order.{evaluation_order}
 use Rattle.source_meaning.specs.Environments.{held_by, initialized, read_held, unbound}
 use Rattle.source_meaning.specs.Functions.{closed, named_given, undefined_binding}
-use Rattle.source_meaning.specs.State.{Binding, Context, Done, Due, EnvironmentRecord, Exported, Hand, Held, Imported, OfHost, PlainCode, State, Uninitialized}
-use Rattle.source_meaning.specs.Steps.{Next, gives, with_heap}
+use Rattle.source_meaning.specs.State.{Binding, Configuration, Context, Done, Due, EnvironmentRecord, Exported, Hand, Held, Imported, OfHost, PlainCode, State, Uninitialized}
+use Rattle.source_meaning.specs.Steps.{Next, gives, with_control, with_heap}
 use Rattle.source_meaning.specs.Trees.{functions_in, lexical, lexicals_in, name_units, optional_name, variables_in}
 
 abbrev pub module_at : Graph → ℕ → Option LoadedModule
@@ -299,12 +299,11 @@ bare g = record {
   statics = [];
   context = bare_context;
   callers = [];
-  control = Hand Done;
   due = joined (due_of g) (evaluation_order (map request_homes g.modules) 0);
 }
 
-abbrev pub start : Graph → State
-start g = instantiated g 0 g.modules (bare g)
+abbrev pub start : Graph → Configuration
+start g = with_control (Hand Done) (instantiated g 0 g.modules (bare g))
 
 -- ---- namespace objects are read (9.4.6.7, 9.4.6.8): a binding, or only whether the name is there
 

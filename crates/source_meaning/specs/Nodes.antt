@@ -20,11 +20,12 @@ use Rattle.es6_ast.specs.declared.tree.Pattern.{out-Pattern}
 use Rattle.es6_ast.specs.declared.tree.Identifier.{Identifier}
 use Rattle.es6_ast.specs.declared.tree.Statement.{Statement, out-Statement}
 use Rattle.es6_ast.specs.declared.tree.Template.{out-Template}
+use Rattle.source_state.specs.Parts.{arguments_parts, elements_parts}
 use Rattle.source_meaning.specs.Classes.{begin_class}
 use Rattle.source_meaning.specs.Environments.{read_name, with_this}
 use Rattle.source_meaning.specs.Expressions.{begin_assignment, template_on}
 use Rattle.source_meaning.specs.Functions.{Given, closed, function_expression}
-use Rattle.source_meaning.specs.Lists.{arguments_parts, elements_parts, list_on}
+use Rattle.source_meaning.specs.Lists.{list_on}
 use Rattle.source_meaning.specs.Loops.{for_loop, for_of, plain_loop, run_turn, test_loop}
 use Rattle.source_meaning.specs.Modules.{default_name, name_or_default}
 use Rattle.source_meaning.specs.Objects.{properties_on}

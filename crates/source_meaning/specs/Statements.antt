@@ -15,11 +15,12 @@ use Rattle.es6_ast.specs.declared.tree.Expression.{Expression}
 use Rattle.es6_ast.specs.declared.tree.Part.{Part, out-Part}
 use Rattle.es6_ast.specs.declared.tree.Pattern.{Pattern}
 use Rattle.es6_ast.specs.declared.tree.Statement.{Statement}
+use Rattle.source_state.specs.Bodies.{case_statements}
 use Rattle.source_meaning.specs.Environments.{unbound, with_bindings}
 use Rattle.source_meaning.specs.Functions.{with_functions}
 use Rattle.source_meaning.specs.State.{Assigns, Binds, Breaks, CatchBlock, Catching, Chosen, Completion, Destructure, Done, Finishing, Initializes, Matching, Pending, Restore, Returning, Returns, Run, Start, State, SwitchBody, VariableValue, VariablesRest}
 use Rattle.source_meaning.specs.Steps.{Next, begins, controls, hands, impossible, pushed}
-use Rattle.source_meaning.specs.Trees.{Lexical, block_lexicals, case_statements, functions_in, lexical, pattern_names}
+use Rattle.source_meaning.specs.Trees.{Lexical, block_lexicals, functions_in, lexical, pattern_names}
 
 -- ---- blocks (13.2.13, 13.2.14): a record where they declare names; their functions are made first
 

@@ -19,7 +19,7 @@ use Rattle.source_meaning.specs.Generators.{resume}
 use Rattle.source_meaning.specs.Modules.{read_out, start, within_module}
 use Rattle.source_meaning.specs.Nodes.{begin, refer, run_items, run_statements, start_statement}
 use Rattle.source_meaning.specs.Patterns.{destructure}
-use Rattle.source_meaning.specs.State.{Begin, Calls, Completion, Context, Control, Destructure, Done, Due, Frame, Hand, Operation, Refer, Returns, Run, RunItems, Start, State, Throws, Turn}
+use Rattle.source_meaning.specs.State.{Begin, Calls, Completion, Configuration, Context, Control, Destructure, Done, Due, Frame, Hand, Operation, Refer, Returns, Run, RunItems, Start, State, Throws, Turn}
 use Rattle.source_meaning.specs.Steps.{Next, at_place, calls, controls, due, gives, hands, impossible, leaves, pushed, raises, with_frames, with_heap}
 
 -- ---- a turn of an operation or of a function of the library
@@ -77,8 +77,8 @@ step_by st (Turn c) = turn c st
 step_by st (Calls c) = call_value c st c.function
 step_by st (Hand c) = hand st c st.context.frames
 
-unfoldable pub step : State → Next
-step st = step_by st st.control
+unfoldable pub step : Configuration → Next
+step c = step_by c.state c.control
 
 -- what a linked graph does under the answers of hosts
 abbrev pub run6 : Graph → ProgramBehaviour

@@ -12,10 +12,10 @@ use Rattle.es_realm.specs.Errors.{with_error}
 use Rattle.es_realm.specs.declared.errors.ErrorKind.{ErrorKind}
 use Rattle.es_operations.specs.Steps.{operation}
 use Rattle.es6_ast.specs.declared.tree.Expression.{Expression}
-use Rattle.source_meaning.specs.State.{Begin, Call, Calls, Completion, Control, Environment, Frame, Gives, Hand, Refer, Reference, Refers, State, Throws, Turn, Work}
+use Rattle.source_meaning.specs.State.{Begin, Call, Calls, Completion, Configuration, Control, Environment, Frame, Gives, Hand, Refer, Reference, Refers, State, Throws, Turn, Work}
 
 abbrev pub Next : Type 0
-Next = Step State Event Reply Finish Exit
+Next = Step Configuration Event Reply Finish Exit
 
 -- ---- the running context
 
@@ -41,8 +41,11 @@ with_heap heap st = record st { heap = heap }
 
 -- ---- steps
 
+abbrev pub with_control : Control → State → Configuration
+with_control control st = record { state = st; control = control }
+
 abbrev pub controls : Control → State → Next
-controls control st = Goes (record st { control = control })
+controls control st = Goes (with_control control st)
 
 abbrev pub hands : Completion → State → Next
 hands completion st = controls (Hand completion) st

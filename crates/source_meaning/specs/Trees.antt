@@ -1,27 +1,23 @@
 -- What the rows ask of the tree: the names that its parts declare, and what the parameters of a function are (ECMA-262, 6th
 -- edition, 9.2.12, 13.2, 13.3, 14.1, 14.5.3).
 use Rattle.std.specs.Char.Escape.{encode_utf16}
-use Rattle.std.specs.List.{filter, flat_map, list_all, list_any}
-use Rattle.std.specs.Prelude.{Bool, List, None, Option, Some, [], codes, cond, false, if◌then◌else◌, is_none, map, not, suc, true, ℕ, ◌&&◌, ◌++◌, ◌||◌, ◌∷◌}
+use Rattle.std.specs.List.{flat_map, list_all, list_any}
+use Rattle.std.specs.Prelude.{Bool, List, None, Option, Some, [], codes, cond, false, if◌then◌else◌, is_none, map, suc, true, ℕ, ◌&&◌, ◌++◌, ◌||◌, ◌∷◌}
 use Rattle.std.specs.Str.{bytes_eq, chars}
 use Rattle.es_value.specs.declared.value.Value.{Value}
 use Rattle.es_value.specs.declared.value.Value.TheVariants as value
 use Rattle.es6_ast.specs.Spans.{Open}
 use Rattle.es6_ast.specs.declared.operators.Literal.{Literal}
 use Rattle.es6_ast.specs.declared.operators.Literal.TheVariants as literals
-use Rattle.es6_ast.specs.declared.operators.MethodKind.{MethodKind}
-use Rattle.es6_ast.specs.declared.operators.MethodKind.TheVariants.{PlainMethod}
 use Rattle.es6_ast.specs.declared.operators.VariableKind.{VariableKind}
 use Rattle.es6_ast.specs.declared.operators.VariableKind.TheVariants as variable
 use Rattle.es6_ast.specs.declared.tree.Argument.TheOpen as layer
-use Rattle.es6_ast.specs.declared.tree.Argument.TheOpen.{Expression-F, Key-F, Link-F, Parameter-F, Pattern-F, Statement-F}
-use Rattle.es6_ast.specs.declared.tree.Case.{Case, out-Case}
+use Rattle.es6_ast.specs.declared.tree.Argument.TheOpen.{Expression-F, Link-F, Parameter-F, Pattern-F, Statement-F}
 use Rattle.es6_ast.specs.declared.tree.Class.{out-Class}
 use Rattle.es6_ast.specs.declared.tree.ClassMember.{ClassMember, out-ClassMember}
 use Rattle.es6_ast.specs.declared.tree.Expression.{out-Expression}
 use Rattle.es6_ast.specs.declared.tree.Function.{Function, out-Function}
 use Rattle.es6_ast.specs.declared.tree.Identifier.{Identifier}
-use Rattle.es6_ast.specs.declared.tree.Key.{out-Key}
 use Rattle.es6_ast.specs.declared.tree.Link.{Link, out-Link}
 use Rattle.es6_ast.specs.declared.tree.Method.{out-Method}
 use Rattle.es6_ast.specs.declared.tree.Parameter.{Parameter, out-Parameter}
@@ -36,6 +32,7 @@ use Rattle.scope_rules.specs.declared.kinds.Kind.TheVariants as kind
 use Rattle.scope_rules.specs.declared.kinds.Role.TheVariants as role
 use Rattle.scope_rules.specs.declared.mark.Mark.{Mark}
 use Rattle.scope_rules.specs.declared.mark.Mark.TheVariants as mark
+use Rattle.source_state.specs.Members.{is_constructor}
 
 -- ---- names, which are kept in UTF-8, and literals
 
@@ -125,9 +122,6 @@ last_ones [] = []
 last_ones (f ∷ fs) =
     if list_any (has_name (function_names fs)) (function_names (f ∷ [])) then last_ones fs else f ∷ last_ones fs
 
-abbrev pub case_statements : List Case → List Statement
-case_statements cs = joined (λ c. (out-Case c).body) cs
-
 -- ---- parameters (9.2.12, 14.1.6, 14.1.12)
 
 -- a name without a default
@@ -185,28 +179,11 @@ abbrev pub mentions_arguments : List Parameter → List Statement → Bool
 mentions_arguments ps ss =
     mentions None (joined (λ p. (parameter_marked p).marks (role.Declared kind.Parameter 0)) ps ++ joined statement_marked ss)
 
--- ---- classes: the constructor, and the other members (14.5.3, 14.5.6)
-
-abbrev pub is_plain_method : MethodKind → Bool
-is_plain_method PlainMethod = true
-is_plain_method k = false
-
-abbrev pub is_constructor_key : Open Key-F → Bool
-is_constructor_key (layer.WordKey span name) = bytes_eq (codes "constructor") name
-is_constructor_key (layer.TextKey span units) = bytes_eq (codes "constructor") units
-is_constructor_key k = false
-
-abbrev pub is_constructor : ClassMember → Bool
-is_constructor m =
-    not (out-ClassMember m).is_static && is_plain_method (out-Method (out-ClassMember m).method).kind
-    && is_constructor_key (out-Key (out-Method (out-ClassMember m).method).key)
+-- ---- classes: the constructor (14.5.3)
 
 abbrev pub constructor_in : List ClassMember → Option Function
 constructor_in [] = None
 constructor_in (m ∷ ms) = if is_constructor m then Some (out-Method (out-ClassMember m).method).function else constructor_in ms
-
-abbrev pub other_members : List ClassMember → List ClassMember
-other_members ms = filter (λ m. not (is_constructor m)) ms
 
 -- ---- [Symbol.iterator] as a key, where no scope has the name Symbol
 

@@ -1,0 +1,4 @@
+mod Builds
+mod Chain
+mod Keeping
+mod Read

@@ -1,0 +1,5 @@
+pub mod Building
+pub mod Files
+pub mod Keeping
+pub mod Opening
+pub mod Shelves

@@ -1,0 +1,4 @@
+pub mod Bodies
+pub mod Members
+pub mod Parts
+pub mod Taken
