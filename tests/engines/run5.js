@@ -23,8 +23,8 @@ function statusOf(line) {
 
 // How the run of a row's script differs from the row's lines; its modules are those of the row, or lie in the folder that it names.
 function rowFault(row, folder) {
-  if (!row.at) for (const [name, text] of Object.entries(row.files || { 'main.js': host + row.text })) fs.writeFileSync(path.join(folder, name), text);
-  const built = run(row.at || folder, ['build', 'main.js']);
+  if (!row.lies) for (const [name, text] of Object.entries(row.files || { 'main.js': host + row.text })) fs.writeFileSync(path.join(folder, name), text);
+  const built = run(row.lies || folder, ['build', 'main.js']);
   if (built.status !== 0) return `it isn't built: ${built.stderr}`;
   fs.writeFileSync(path.join(folder, 'script.js'), built.stdout);
   const { status, stdout, stderr } = run(folder, ['run5', '--steps', '100000000', 'script.js']);
@@ -40,8 +40,8 @@ const leaving = ['const_assignments', 'expressions_powers', 'modules_live_bindin
 const programs = path.join(__dirname, 'programs');
 
 function programOf(name) {
-  const at = path.join(programs, name);
-  return { name, at, lines: fs.readFileSync(path.join(at, 'expected'), 'utf8').trimEnd().split('\n'), isLeft: leaving.includes(name) };
+  const lies = path.join(programs, name);
+  return { name, lies, lines: fs.readFileSync(path.join(lies, 'expected'), 'utf8').trimEnd().split('\n'), isLeft: leaving.includes(name) };
 }
 
 // How the run of a folder's script differs from the expected lines.
