@@ -6,3 +6,4 @@ mod heads;
 mod var_names;
 
 pub use declared::declared_names;
+pub use var_names::add_var_names;

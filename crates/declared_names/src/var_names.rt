@@ -14,7 +14,7 @@ use std::alloc::AllocError;
 
 /// Adds the names that `var` declares in a statement.
 #[cycle(vars)]
-pub(crate) fn add_var_names<'a>(
+pub fn add_var_names<'a>(
     names: &mut Vec<PlacedName<'a>>,
     statement: &'a Statement,
 ) -> Result<(), AllocError>

@@ -1,4 +1,5 @@
-//! The marks of a module, by a walk that borrows its tree and is as deep as its constructs stand in one another.
+//! The marks of a module, of its statements and of its patterns, by a walk that borrows the tree and is as deep as its constructs stand
+//! in one another.
 #![tactic(auto)]
 
 mod expressions;
@@ -9,3 +10,5 @@ mod patterns;
 mod statements;
 
 pub use module::module_marks;
+pub use patterns::{part, targets};
+pub use statements::statement;

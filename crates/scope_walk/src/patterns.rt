@@ -10,9 +10,9 @@ use scope_heads::declare_target;
 use scope_rules::{Kind, Marks, Role};
 use std::alloc::AllocError;
 
-/// What declares names, or is assigned.
+/// The marks of a pattern, which declares names or is assigned.
 #[cycle(walk)]
-pub(crate) fn targets<'a>(
+pub fn targets<'a>(
     marks: &mut Marks<'a>,
     pattern: &'a Pattern,
     role: Role,
@@ -96,10 +96,10 @@ fn object_part<'a>(
     }
 }
 
-/// A pattern with the value that it has by default.
+/// The marks of a pattern with the value that it has by default.
 #[cycle(walk)]
 #[tactic(auto, using(crate::proofs::Layers::part_out))]
-pub(crate) fn part<'a>(marks: &mut Marks<'a>, item: &'a Part, role: Role) -> Result<(), AllocError>
+pub fn part<'a>(marks: &mut Marks<'a>, item: &'a Part, role: Role) -> Result<(), AllocError>
     ensures { OnOk result (marks.new ≡ marks.old ++ (part_marked item.now).marks role) }
 {
     targets(marks, &item.pattern, role)?;

@@ -18,8 +18,9 @@ use scope_rules::{Kind, Marks, Role, ScopeKind};
 use sqlite_items::Boxed;
 use std::alloc::AllocError;
 
+/// The marks of a statement.
 #[cycle(walk)]
-pub(crate) fn statement<'a>(marks: &mut Marks<'a>, node: &'a Statement) -> Result<(), AllocError>
+pub fn statement<'a>(marks: &mut Marks<'a>, node: &'a Statement) -> Result<(), AllocError>
     ensures { OnOk result (marks.new ≡ marks.old ++ statement_marked node.now) }
 {
     match node {
