@@ -35,3 +35,12 @@ pub enum Ending {
     Threw(Seen),
     Left { exit: u8, site: Site },
 }
+
+/// What a step of a run answers: the run goes on, asks a host and awaits its reply, or is over.
+#[derive(Debug, Drop)]
+pub enum Step {
+    Running,
+    Asks { event: Event },
+    Is(Ending),
+    OutOfMemory,
+}

@@ -1,9 +1,11 @@
-ghost use Rattle.std.specs.Prelude.{◌≡◌, MatchResult, IfNone, IfSome, IfOk, length, slice_get, option_copied};
+ghost use Rattle.std.specs.Prelude.{◌≡◌, ◌<◌, ◌≤◌, false, option_map, MatchResult, IfNone, IfSome, IfOk, length, slice_get, option_copied};
 ghost use Rattle.es_outside.specs.NamedList.{names_of, IsNamed, NoneNamed};
+ghost use Rattle.es_outside.specs.Counts.{CountRose};
+ghost use Rattle.es_outside.specs.Talk.{talk_after};
 ghost use Rattle.es_outside.specs.Refusals.{AreHostNames, IsRefused};
 
 use crate::named::{BAD_HOST_NAME, DUPLICATE_HOST, first_refusal, position_of};
-use crate::{Host, HostNames};
+use crate::{Host, HostAnswer, HostNames, Prim};
 use std::alloc::{AllocError, Global};
 
 /// The hosts that a program may call, each with its name.
@@ -31,6 +33,7 @@ impl HostsRefused {
 }
 
 impl Hosts {
+    ghost use Rattle.es_outside.specs.Asked.{IsAsked};
     ghost use Rattle.es_outside.specs.HostList.{names, entries};
 
     /// The hosts of this list, or the list with the first name that can't stand. It takes no memory.
@@ -82,6 +85,15 @@ impl Hosts {
         Ok(HostNames { list })
     }
 
+    /// Asks the host with this number; no other changes.
+    pub fn ask(&mut self, alloc: Global, index: usize, args: &[Prim]) -> HostAnswer
+        requires { index < length (names self.old) }
+        ensures { IsAsked (λ b. (⟦<dyn Host as Host>⟧ b.vtable).talk b.value) (λ b. (⟦<dyn Host as Host>⟧ b.vtable).faults b.value)
+            (λ b. (⟦<dyn Host as Host>⟧ b.vtable).sure b.value) index args.now result (entries self.old) (entries self.new) }
+    {
+        ask_one(alloc, &mut self.list[index], args)
+    }
+
     /// The list that the hosts were made of.
     pub fn into_list(self) -> Vec<(String, Box<dyn Host>)>
         ensures { result.items ≡ entries self }
@@ -89,4 +101,15 @@ impl Hosts {
         let Hosts { list } = self;
         list
     }
+}
+
+fn ask_one(alloc: Global, entry: &mut (String, Box<dyn Host>), args: &[Prim]) -> HostAnswer
+    ensures name { entry.new.0 ≡ entry.old.0 }
+    ensures told { talk entry.new.1 ≡ option_map (talk_after args.now result) (talk entry.old.1) }
+    ensures no_fall { faults entry.old.1 ≤ faults entry.new.1 }
+    ensures failed { result ≡ HostAnswer.Failed → CountRose (faults entry.old.1) (faults entry.new.1) }
+    ensures mark { sure entry.new.1 ≡ sure entry.old.1 }
+    ensures unsure { result ≡ HostAnswer.Failed → sure entry.old.1 ≡ false }
+{
+    entry.1.answer(alloc, args)
 }

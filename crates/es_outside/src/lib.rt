@@ -17,7 +17,7 @@ mod primitive;
 mod sink;
 mod talk;
 
-pub use events::{Ending, Event, Seen, Site};
+pub use events::{Ending, Event, Seen, Site, Step};
 pub use fault_count::FaultCount;
 pub use files::{FileAnswer, Files};
 pub use host::{Host, HostAnswer, Reply};

@@ -12,8 +12,8 @@ use Rattle.es_outside.specs.declared.events.Ending.{Ending}
 use Rattle.es_outside.specs.declared.events.Ending.TheVariants.{Ended, Left, Threw}
 use Rattle.program_runs.specs.Positions.{Position, Steps}
 use Rattle.program_runs.specs.Positions as position
-use Rattle.program_runs.specs.declared.program_run.Step.{Step}
-use Rattle.program_runs.specs.declared.program_run.Step.TheVariants as status
+use Rattle.es_outside.specs.declared.events.Step.{Step}
+use Rattle.es_outside.specs.declared.events.Step.TheVariants as status
 use Rattle.script_core.specs.Meaning.{ScriptState, script_sorts, script_step}
 use Rattle.script_core.specs.declared.nothing.Nothing.{Nothing}
 use Rattle.eval5_step.specs.declared.stage.Stage.{Stage}

@@ -5,6 +5,7 @@ mod copies;
 mod run5;
 mod stage;
 
-pub use program_runs::{ProgramRun, Step};
+pub use es_outside::Step;
+pub use program_runs::ProgramRun;
 pub use run5::Run5;
 pub use stage::Stage;

@@ -3,7 +3,7 @@ use Rattle.std.proofs.Common.{◌≡◌, refl, sym, subst}
 use Rattle.runs.specs.Run.{Goes, Asks}
 use Rattle.es_outside.specs.declared.events.Event.{Event}
 use Rattle.es_outside.specs.declared.host.Reply.{Reply}
-use Rattle.program_runs.specs.declared.program_run.Step.TheVariants as answer
+use Rattle.es_outside.specs.declared.events.Step.TheVariants as answer
 use Rattle.program_runs.specs.Positions.{Position, At, Awaits, Over, IsAt, IsAwaiting, Next, Steps}
 
 pub at_state : {S : Type 0} (p : Position S) → IsAt p → (state : S) × (p ≡ At state)

@@ -7,8 +7,8 @@ use Rattle.es_outside.specs.declared.events.Event.{Event}
 use Rattle.es_outside.specs.declared.events.Ending.{Ending}
 use Rattle.es_outside.specs.declared.events.Ending.TheVariants.{Ended, Threw, Left}
 use Rattle.es_outside.specs.declared.host.Reply.{Reply}
-use Rattle.program_runs.specs.declared.program_run.Step.{Step as Answer}
-use Rattle.program_runs.specs.declared.program_run.Step.TheVariants as answer
+use Rattle.es_outside.specs.declared.events.Step.{Step as Answer}
+use Rattle.es_outside.specs.declared.events.Step.TheVariants as answer
 
 -- what a machine of programs does next
 abbrev pub Next : Type 0 → Type 0

@@ -13,5 +13,5 @@ mod turn;
 
 pub use end::RunEnd;
 pub use places::Places;
-pub use program_run::{ProgramRun, Step};
+pub use program_run::ProgramRun;
 pub use running::{run_out, run_out_with};

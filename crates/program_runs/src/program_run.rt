@@ -2,20 +2,8 @@
 
 ghost use Rattle.std.specs.Prelude.{◌≡◌, OnOk};
 
-use es_outside::{Ending, Event, Reply};
+use es_outside::{Reply, Step};
 use std::alloc::AllocError;
-
-/// What a step answers.
-#[derive(Debug, Drop)]
-pub enum Step {
-    /// The run goes on.
-    Running,
-    /// The run asks a host, and awaits its reply.
-    Asks { event: Event },
-    /// The run is over.
-    Is(Ending),
-    OutOfMemory,
-}
 
 /// A run of a machine that some definition of a language has.
 ///

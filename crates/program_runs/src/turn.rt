@@ -8,9 +8,9 @@ ghost use Rattle.program_runs.specs.Turns.{Tells, Turns};
 
 use crate::asking::reply;
 use crate::end::Halt;
-use crate::program_run::{ProgramRun, Step};
+use crate::program_run::ProgramRun;
 use crate::telling::tell;
-use es_outside::{Ending, Event, Host, Sink};
+use es_outside::{Ending, Event, Host, Sink, Step};
 use std::alloc::Global;
 
 /// Does a step, writes the line of the event that it may have, and asks the event's host, if it is to be asked.
