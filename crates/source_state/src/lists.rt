@@ -64,12 +64,13 @@ impl<'a> ListParts<'a> {
         }
     }
 
-    pub fn of_arguments(arguments: &'a Items<Argument>) -> ListParts<'a>
-        ensures { result ≡ arguments_parts arguments.now }
+    /// The arguments that are left.
+    pub fn of_arguments(arguments: Nodes<'a, Argument>) -> ListParts<'a>
+        ensures { result ≡ arguments_parts arguments.entry }
     {
         ListParts {
             elements: Nodes::none(),
-            arguments: Nodes::of(arguments),
+            arguments,
             values: Nodes::none(),
         }
     }
