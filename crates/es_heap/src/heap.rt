@@ -227,6 +227,16 @@ impl Heap {
         object.record_key(key)
     }
 
+    /// The object's list of recorded keys.
+    pub fn recorded(&self, id: ObjId) -> &[Key]
+        ensures { result.now ≡ (object_at self.now id).recorded }
+    {
+        match self.objects.get(id.0) {
+            Some(object) => object.recorded(),
+            None => &[],
+        }
+    }
+
     /// Whether the key is in the object's list of recorded keys.
     pub fn is_recorded(&self, id: ObjId, key: &Key) -> bool
         ensures { result ≡ list_any (same_key key.now) (object_at self.now id).recorded }

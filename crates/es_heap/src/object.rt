@@ -108,6 +108,12 @@ impl Object {
         Ok(())
     }
 
+    pub(crate) fn recorded(&self) -> &[Key]
+        ensures { result.now ≡ self.now.recorded }
+    {
+        self.recorded.as_slice()
+    }
+
     pub(crate) fn is_recorded(&self, key: &Key) -> bool
         ensures { result ≡ list_any (same_key key.now) self.now.recorded }
     {
