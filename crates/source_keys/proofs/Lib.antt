@@ -1,0 +1,3 @@
+pub mod FoundKeys
+pub mod Lengths
+pub mod Units
