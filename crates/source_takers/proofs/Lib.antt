@@ -1,0 +1,2 @@
+pub mod OtherRows
+pub mod ValueRows

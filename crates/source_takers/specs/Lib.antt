@@ -1,0 +1,4 @@
+pub mod ExpressionNodes
+pub mod Rows
+pub mod StatementNodes
+pub mod Takers
