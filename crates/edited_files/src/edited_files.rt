@@ -55,6 +55,15 @@ impl<'a, F: Files> EditedFiles<'a, F> {
         self.edits.insert(path, None)?;
         Ok(())
     }
+
+    /// Ends the loan: the files that are lent.
+    pub fn into_base(self) -> &'a mut F
+        ensures now { result.now ≡ (base_of self.entry).now }
+        ensures same_base { result.ghost_name ≡ (base_of self.entry).ghost_name }
+    {
+        let EditedFiles { base, .. } = self;
+        base
+    }
 }
 
 impl<'a, F: Files> Files for EditedFiles<'a, F> {

@@ -1,0 +1,3 @@
+mod Contents
+pub mod Laws
+mod TakenFiles
