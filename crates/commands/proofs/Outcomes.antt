@@ -13,7 +13,7 @@ use Rattle.es_outside.specs.Sinks.{Adds}
 use Rattle.commands.specs.declared.status.Status.{Status}
 use Rattle.commands.specs.declared.status.Status.TheVariants as status
 use Rattle.commands.specs.declared.fault.Fault.{Fault}
-use Rattle.commands.specs.declared.fault.Fault.TheVariants.{Missing, ReadFailed, FileTooLong, InGraph, InScript, BadMap, Unbuilt}
+use Rattle.commands.specs.declared.fault.Fault.TheVariants.{Missing, ReadFailed, FileTooLong, InGraph, InScript, InEdits, BadMap, Unbuilt}
 use Rattle.es_outside.specs.Files.{read_of}
 use Rattle.first_trees.specs.declared.Module.{Module}
 use Rattle.first_forms.specs.Lexing.{tokens_of}
@@ -33,6 +33,17 @@ use Rattle.source_map.specs.Line.{map_text_of}
 use Rattle.source_map.specs.Outcome.{◌>>=◌, Fails}
 use Rattle.source_map.specs.declared.fault.MapFault.{MapFault}
 use Rattle.source_map.specs.declared.fault.MapFault.TheVariants as map_fault
+use Rattle.edit_reading.specs.Lines as edits_fault
+use Rattle.edit_reading.specs.Reading as of_edits
+use Rattle.edit_reading.specs.Reading.{AreEdits}
+use Rattle.edit_reading.specs.declared.fault.EditsFault.{EditsFault}
+use Rattle.edit_reading.specs.declared.fault.EditsFault.TheVariants as in_edits
+use Rattle.edit_reading.specs.declared.fault.Unread.{Unread as UnreadList}
+use Rattle.edit_reading.specs.declared.fault.Unread.TheVariants as unread_list
+use Rattle.edit_reading.proofs.Laws as edits_laws
+use Rattle.listed_builds.specs.Doing.{IfUnread, IsUnread, ReadsIn, Step}
+use Rattle.listed_builds.specs.declared.fault.BuildFault.{BuildFault}
+use Rattle.listed_builds.specs.declared.fault.BuildFault.TheVariants as build_fault
 use Rattle.module_loading.specs.Files.{Holds}
 use Rattle.graph_refusals.specs.Lines.{is_limit, is_placed_limit}
 use Rattle.graph_refusals.specs.declared.fault.FileFault.{FileFault}
@@ -40,6 +51,7 @@ use Rattle.graph_refusals.specs.declared.fault.FileFault.TheVariants as in_file
 use Rattle.graph_refusals.specs.declared.fault.GraphFault.{GraphFault}
 use Rattle.graph_refusals.specs.declared.fault.GraphFault.TheVariants as graph_fault
 use Rattle.graph_refusals.specs.declared.fault.Refusal.{Refusal}
+use Rattle.module_linker.specs.graph_checks.Builds.{ReadsNext, WritesAll}
 use Rattle.module_linker.specs.graph_checks.Checks.{HasGraphFault, IsRefusedFor, Passes, Refuses, by_files, by_reading}
 use Rattle.module_linker.proofs.graph_checks.Entry.{entry_missing, entry_too_long, entry_unread}
 use Rattle.module_linker.specs.Checking.{IsMadeOf}
@@ -56,9 +68,9 @@ use Rattle.script_runs.specs.declared.unread.Unread.{Unread}
 use Rattle.script_runs.specs.declared.unread.Unread.TheVariants as unread
 use Rattle.script_runs.specs.Scripts as of_script
 use Rattle.script_runs.proofs.Laws as script_laws
-use Rattle.commands.specs.Lines.{graph_status_of, line_of, script_status_of, status_of, usage_line}
-use Rattle.commands.specs.Outcome.{max_module_bytes, max_script_bytes, IsBuilt, IsSplitGraph, IsNoForm, RefusesEntry, in_graph, HasMap, HasNoMap, no_script, script_too_long, bad_map, IsMapText, OnFile, HasFault, HasScriptFault, GraphCause, ScriptCause, IsToCome, Cause, subject, Written, HasAdded, Call, HasTalked, IsAnswered, IsEnded, IsSaid, said, cut_off, unsaid, after, before, Makes, script, whole, scripts, map, IsLine, usage, refusal, IsReported, cut_output, cut_line, IsOutcome, IsCalm, IsDue, ComesWhenDue}
-use Rattle.commands.specs.Parts.{map_fault_of, graph_fault_of, entry_refusal, IsEntryFault, IsBytesScript, formed, unformed, RefusesBytes, bytes_too_long, FitsBytes, IsBytesMap, FitsScript, Fits, IsFileScript, of_module, of_graph, IsFileMap, MadeBy, IsAnswer, IsToldOf, TalksBy, IsMisuseOutcome, IsFailOutcome, IsWritten, IsCommandOutcome, wrote, failed}
+use Rattle.commands.specs.Lines.{edits_status_of, graph_status_of, line_of, script_status_of, status_of, usage_line}
+use Rattle.commands.specs.Outcome.{max_module_bytes, max_script_bytes, IsBuilt, IsRebuilt, IsSplitGraph, IsUndone, untaken, unbuilt, EditsCause, IsNoForm, RefusesEntry, in_graph, HasMap, HasNoMap, no_script, script_too_long, bad_map, IsMapText, OnFile, HasEditsFault, HasFault, HasScriptFault, GraphCause, ScriptCause, IsToCome, Cause, subject, Written, HasAdded, Call, HasTalked, IsAnswered, IsEnded, IsSaid, said, cut_off, unsaid, after, before, Makes, script, whole, scripts, rebuilt, map, IsLine, usage, refusal, IsReported, cut_output, cut_line, IsOutcome, IsCalm, IsDue, ComesWhenDue}
+use Rattle.commands.specs.Parts.{map_fault_of, graph_fault_of, edits_fault_of, build_fault_of, entry_refusal, IsEntryFault, IsBytesScript, formed, unformed, RefusesBytes, bytes_too_long, FitsBytes, IsBytesMap, FitsScript, Fits, IsFileScript, of_module, of_graph, IsFileMap, MadeBy, IsAnswer, IsToldOf, TalksBy, IsMisuseOutcome, IsFailOutcome, IsWritten, IsCommandOutcome, wrote, failed}
 
 same_some : {A : Type 0} {x y : A} → Some x ≡ Some y → x ≡ y
 same_some e = cc
@@ -202,6 +214,7 @@ fits_from hosts told entry old middle new (Err (Refused ReadFailed)) le h = rose
 fits_from hosts told entry old middle new (Err (Refused FileTooLong)) le h = h
 fits_from hosts told entry old middle new (Err (Refused (InGraph r))) le h = refused_from told hosts entry old middle new r le h
 fits_from hosts told entry old middle new (Err (Refused (InScript fault))) le h = h
+fits_from hosts told entry old middle new (Err (Refused (InEdits fault))) le h = h
 fits_from hosts told entry old middle new (Err (Refused (BadMap fault))) le h = h
 fits_from hosts told entry old middle new (Err (Refused Unbuilt)) le h = h
 
@@ -234,6 +247,7 @@ found_map files path old new read (Err OutOfMemory) told b = tt
 found_map files path old new read (Err (Refused Missing)) told b = elim b [ ]
 found_map files path old new read (Err (Refused (InGraph r))) told b = elim b [ ]
 found_map files path old new read (Err (Refused (InScript f))) told b = elim b [ ]
+found_map files path old new read (Err (Refused (InEdits f))) told b = elim b [ ]
 found_map files path old new read (Err (Refused ReadFailed)) told b = elim b [ ]
 found_map files path old new read (Err (Refused Unbuilt)) told b = elim b [ ]
 found_map files path old new read (Err (Refused FileTooLong)) told b = if_some_map files (λ file e. unmapped_file (file path) read FileTooLong e b) told
@@ -293,12 +307,22 @@ by_script_status P (in_script.At place finding) refused unread limit = by_limit 
     by_limit true = limit
     by_limit false = refused
 
+by_edits_status : (P : Status → Type 0) (fault : EditsFault) → P status.Refused → P status.ReadFault → P status.Limit → P (edits_status_of fault)
+by_edits_status P in_edits.Missing refused unread limit = refused
+by_edits_status P in_edits.ReadFailed refused unread limit = unread
+by_edits_status P in_edits.FileTooLong refused unread limit = limit
+by_edits_status P (in_edits.NotUtf8 at) refused unread limit = refused
+by_edits_status P (in_edits.BadEdit line) refused unread limit = refused
+by_edits_status P (in_edits.MissingFile line from) refused unread limit = refused
+by_edits_status P (in_edits.UnreadFile path) refused unread limit = unread
+
 report_of : (c : Call) (fault : Fault) → IsReported c (status_of fault) → IsAnswered c (status_of fault)
 report_of c Missing r = r
 report_of c ReadFailed r = r
 report_of c FileTooLong r = r
 report_of c (InGraph r) reported = by_graph_status (λ (s : Status). IsReported c s → IsAnswered c s) r.fault (λ x. x) (λ x. x) (λ x. x) reported
 report_of c (InScript f) reported = by_script_status (λ (s : Status). IsReported c s → IsAnswered c s) f (λ x. x) (λ x. x) (λ x. x) reported
+report_of c (InEdits f) reported = by_edits_status (λ (s : Status). IsReported c s → IsAnswered c s) f (λ x. x) (λ x. x) (λ x. x) reported
 report_of c (BadMap fault) r = r
 report_of c Unbuilt r = r
 
@@ -326,7 +350,7 @@ makes : (c : Call) (a : Asked) (bytes : List ℕ) → command_of c.words ≡ Som
 makes c (asked.build entry) bytes command f = makes_script c entry bytes command f
 makes c (asked.map_of path) bytes command f = subst (λ (b : List ℕ). Makes c b) (sym f.line_is) (map f.text path command f.accepted f.is_map)
 makes c (asked.split entry) bytes command f = scripts entry command f
-makes c (asked.rebuild entry list) bytes command f = absurd f
+makes c (asked.rebuild entry list) bytes command f = rebuilt entry list command f
 makes c (asked.run entry steps) bytes command f = absurd f
 makes c (asked.run5 path steps) bytes command f = absurd f
 makes c (asked.sample n) bytes command f = absurd f
@@ -437,14 +461,55 @@ one_script_status file path (InScript f) Missing a b = absurd b
 one_script_status file path (InScript f) ReadFailed a b = absurd b
 one_script_status file path (InScript f) FileTooLong a b = absurd b
 one_script_status file path (InScript f) (InGraph g) a b = absurd b
+one_script_status file path (InScript f) (InEdits g) a b = absurd b
 one_script_status file path (InScript f) (BadMap g) a b = absurd b
 one_script_status file path (InScript f) Unbuilt a b = absurd b
 one_script_status file path Missing g a b = absurd a
 one_script_status file path ReadFailed g a b = absurd a
 one_script_status file path FileTooLong g a b = absurd a
 one_script_status file path (InGraph f) g a b = absurd a
+one_script_status file path (InEdits f) g a b = absurd a
 one_script_status file path (BadMap f) g a b = absurd a
 one_script_status file path Unbuilt g a b = absurd a
+
+edits_status : (file : List ℕ → Option (List ℕ)) (list : List ℕ) (f : EditsFault) → of_edits.HasFault (Some file) list f → edits_status_of f ≡ cond (edits_fault.is_limit f) status.Limit status.Refused
+edits_status file list in_edits.Missing h = refl
+edits_status file list in_edits.ReadFailed h = absurd h.2
+edits_status file list in_edits.FileTooLong h = refl
+edits_status file list (in_edits.NotUtf8 at) h = refl
+edits_status file list (in_edits.BadEdit line) h = refl
+edits_status file list (in_edits.MissingFile line from) h = refl
+edits_status file list (in_edits.UnreadFile path) h = absurd h.2
+
+-- and those of a list of edits
+one_edits_status : (file : List ℕ → Option (List ℕ)) (list : List ℕ) (f g : Fault) → HasEditsFault (Some file) list f → HasEditsFault (Some file) list g → status_of f ≡ status_of g
+one_edits_status file list (InEdits f) (InEdits g) a b =
+    edits_status file list f a ∙ ap (λ b. cond b status.Limit status.Refused) (edits_laws.one_status file list f g a b) ∙ sym (edits_status file list g b)
+one_edits_status file list (InEdits f) Missing a b = absurd b
+one_edits_status file list (InEdits f) ReadFailed a b = absurd b
+one_edits_status file list (InEdits f) FileTooLong a b = absurd b
+one_edits_status file list (InEdits f) (InGraph g) a b = absurd b
+one_edits_status file list (InEdits f) (InScript g) a b = absurd b
+one_edits_status file list (InEdits f) (BadMap g) a b = absurd b
+one_edits_status file list (InEdits f) Unbuilt a b = absurd b
+one_edits_status file list Missing g a b = absurd a
+one_edits_status file list ReadFailed g a b = absurd a
+one_edits_status file list FileTooLong g a b = absurd a
+one_edits_status file list (InGraph f) g a b = absurd a
+one_edits_status file list (InScript f) g a b = absurd a
+one_edits_status file list (BadMap f) g a b = absurd a
+one_edits_status file list Unbuilt g a b = absurd a
+
+-- edits that are read have none
+edits_alone : (file : List ℕ → Option (List ℕ)) (list : List ℕ) (steps : List Step) (f : Fault) → AreEdits (Some file) list steps → HasEditsFault (Some file) list f → ⊥
+edits_alone file list steps (InEdits f) a h = edits_laws.read_has_no_fault file list steps f a h
+edits_alone file list steps Missing a h = h
+edits_alone file list steps ReadFailed a h = h
+edits_alone file list steps FileTooLong a h = h
+edits_alone file list steps (InGraph f) a h = h
+edits_alone file list steps (InScript f) a h = h
+edits_alone file list steps (BadMap f) a h = h
+edits_alone file list steps Unbuilt a h = h
 
 -- the file of a script that is run has none
 run_alone : (hosts : List (List ℕ)) (file : List ℕ → Option (List ℕ)) (path : List ℕ) (steps : ℕ) (old new : Around) (e : RunEnd) (f : Fault) → HasRun (Some file) path steps old new e → HasFault hosts (asked.run5 path steps) (Some file) f → ⊥
@@ -453,6 +518,7 @@ run_alone hosts file path steps old new e Missing r h = h
 run_alone hosts file path steps old new e ReadFailed r h = h
 run_alone hosts file path steps old new e FileTooLong r h = h
 run_alone hosts file path steps old new e (InGraph f) r h = h
+run_alone hosts file path steps old new e (InEdits f) r h = h
 run_alone hosts file path steps old new e (BadMap f) r h = h
 run_alone hosts file path steps old new e Unbuilt r h = h
 
@@ -460,10 +526,29 @@ same_fault : (hosts : List (List ℕ)) (a : Asked) (file : List ℕ → Option (
 same_fault hosts (asked.build entry) file f g = one_status hosts file entry f g
 same_fault hosts (asked.map_of path) file f g = one_map_status (file path) f g
 same_fault hosts (asked.split entry) file f g = one_status hosts file entry f g
-same_fault hosts (asked.rebuild entry list) file f g = unbuilt_status f g
+same_fault hosts (asked.rebuild entry list) file f g = one_edits_status file list f g
 same_fault hosts (asked.run entry steps) file f g = unbuilt_status f g
 same_fault hosts (asked.run5 path steps) file f g = one_script_status file path f g
 same_fault hosts (asked.sample n) file f g = unbuilt_status f g
+
+untaken_told : (told : Option (List ℕ → Option (List ℕ))) (list : List ℕ) (old new : ℕ) (f : EditsFault) → (CountRose old new → ⊥) → of_edits.Cause told list old new (unread_list.Refused f) → of_edits.HasFault told list f
+untaken_told told list old new in_edits.Missing calm h = h
+untaken_told told list old new in_edits.ReadFailed calm h = absurd (calm h)
+untaken_told told list old new in_edits.FileTooLong calm h = h
+untaken_told told list old new (in_edits.NotUtf8 at) calm h = h
+untaken_told told list old new (in_edits.BadEdit line) calm h = h
+untaken_told told list old new (in_edits.MissingFile line from) calm h = h
+untaken_told told list old new (in_edits.UnreadFile path) calm h = absurd (calm h.2.rose)
+
+edits_fault_told : (hosts : List (List ℕ)) (a : Asked) (told : Option (List ℕ → Option (List ℕ))) (old new : ℕ) (f : EditsFault) → (CountRose old new → ⊥) → EditsCause a told old new f → HasFault hosts a told (InEdits f)
+edits_fault_told hosts (asked.build entry) told old new f calm h = absurd h
+edits_fault_told hosts (asked.map_of path) told old new f calm h = absurd h
+edits_fault_told hosts (asked.split entry) told old new f calm h = absurd h
+edits_fault_told hosts (asked.rebuild entry list) told old new f calm (untaken h) = untaken_told told list old new f calm h
+edits_fault_told hosts (asked.rebuild entry list) told old new _ calm (unbuilt steps edits reads rose) = absurd (calm rose)
+edits_fault_told hosts (asked.run entry steps) told old new f calm h = absurd h
+edits_fault_told hosts (asked.run5 path steps) told old new f calm h = absurd h
+edits_fault_told hosts (asked.sample n) told old new f calm h = absurd h
 
 script_fault_told : (hosts : List (List ℕ)) (a : Asked) (told : Option (List ℕ → Option (List ℕ))) (old new : ℕ) (f : ScriptFault) → (CountRose old new → ⊥) → ScriptCause a told old new f → HasFault hosts a told (InScript f)
 script_fault_told hosts (asked.build entry) told old new f calm h = absurd h
@@ -496,7 +581,7 @@ to_come : (hosts : List (List ℕ)) (a : Asked) (told : Option (List ℕ → Opt
 to_come hosts (asked.build entry) told h = absurd h
 to_come hosts (asked.map_of path) told h = absurd h
 to_come hosts (asked.split entry) told h = absurd h
-to_come hosts (asked.rebuild entry list) told h = refl
+to_come hosts (asked.rebuild entry list) told h = absurd h
 to_come hosts (asked.run entry steps) told h = refl
 to_come hosts (asked.run5 path steps) told h = absurd h
 to_come hosts (asked.sample n) told h = refl
@@ -507,6 +592,7 @@ fault_told hosts a told old new ReadFailed calm h = absurd (calm h)
 fault_told hosts a told old new FileTooLong calm h = h
 fault_told hosts a told old new (InGraph r) calm h = graph_fault_told hosts a told old new r calm h
 fault_told hosts a told old new (InScript f) calm h = script_fault_told hosts a told old new f calm h
+fault_told hosts a told old new (InEdits f) calm h = edits_fault_told hosts a told old new f calm h
 fault_told hosts a told old new (BadMap fault) calm h = h
 fault_told hosts a told old new Unbuilt calm h = to_come hosts a told h
 
@@ -524,6 +610,7 @@ module _ (c : Call) (file : List ℕ → Option (List ℕ)) (told : c.files ≡ 
     no_command = λ none. absurd (cc);
     accepted = λ entry2 command2 p. refl;
     split = λ entry2 command2 p. refl;
+    rebuilt = λ entry2 list steps command2 edits. refl;
     mapped = λ path text command2 h is. refl;
     refused = λ a fault command2 r. absurd (one_finding c.hosts file entry fault here (fault_here (asked.build entry) a fault command command2 r));
   }
@@ -533,8 +620,19 @@ module _ (c : Call) (file : List ℕ → Option (List ℕ)) (told : c.files ≡ 
     no_command = λ none. absurd (cc);
     accepted = λ entry2 command2 p. refl;
     split = λ entry2 command2 p. refl;
+    rebuilt = λ entry2 list steps command2 edits. refl;
     mapped = λ path text command2 h is. refl;
     refused = λ a fault command2 r. absurd (one_finding c.hosts file entry fault here (fault_here (asked.split entry) a fault command command2 r));
+  }
+
+  rebuilt_is_due : (entry list : List ℕ) (steps : List Step) → command_of c.words ≡ Some (asked.rebuild entry list) → AreEdits (Some file) list steps → IsDue c file status.Done
+  rebuilt_is_due entry list steps command edits = record {
+    no_command = λ none. absurd (cc);
+    accepted = λ entry2 command2 p. refl;
+    split = λ entry2 command2 p. refl;
+    rebuilt = λ entry2 list2 steps2 command2 edits2. refl;
+    mapped = λ path text command2 h is. refl;
+    refused = λ a fault command2 r. absurd (edits_alone file list steps fault edits (fault_here (asked.rebuild entry list) a fault command command2 r));
   }
 
   made_is_due : (bytes : List ℕ) → Makes c bytes → IsDue c file status.Done
@@ -544,12 +642,15 @@ module _ (c : Call) (file : List ℕ → Option (List ℕ)) (told : c.files ≡ 
       built_is_due entry command (at_file (λ t. Passes t c.hosts entry) (passes_built g.built))
   made_is_due bytes (scripts entry command g) =
       split_is_due entry command (at_file (λ t. Passes t c.hosts entry) (passes_split g))
+  made_is_due bytes (rebuilt entry list command r) =
+      rebuilt_is_due entry list r.steps command (at_file (λ t. AreEdits t list r.steps) r.edits)
   made_is_due bytes (map text path command has is) =
       let here = at_file (λ t. OnFile t path (λ f. HasMap f text)) has in
       record {
         no_command = λ none. absurd (cc);
         accepted = λ entry command2 p. refl;
         split = λ entry command2 p. refl;
+        rebuilt = λ entry list steps command2 edits. refl;
         mapped = λ path2 text2 command2 h is2. refl;
         refused = λ a fault command2 r. absurd (one_map (file path) text fault here is (fault_here (asked.map_of path) a fault command command2 r));
       }
@@ -559,6 +660,7 @@ module _ (c : Call) (file : List ℕ → Option (List ℕ)) (told : c.files ≡ 
     no_command = λ none. absurd (cc);
     accepted = λ entry command2 p. absurd (one_finding c.hosts file entry fault p (fault_here (asked.build entry) a fault command2 command r));
     split = λ entry command2 p. absurd (one_finding c.hosts file entry fault p (fault_here (asked.split entry) a fault command2 command r));
+    rebuilt = λ entry list steps command2 edits. absurd (edits_alone file list steps fault edits (fault_here (asked.rebuild entry list) a fault command2 command r));
     mapped = λ path text command2 h is. absurd (one_map (file path) text fault h is (fault_here (asked.map_of path) a fault command2 command r));
     refused = λ b fault2 command2 r2. same_fault c.hosts a file fault fault2 r (fault_here a b fault2 command command2 r2);
   }
@@ -568,6 +670,7 @@ module _ (c : Call) (file : List ℕ → Option (List ℕ)) (told : c.files ≡ 
     no_command = λ n. refl;
     accepted = λ entry command p. absurd (cc);
     split = λ entry command p. absurd (cc);
+    rebuilt = λ entry list steps command edits. absurd (cc);
     mapped = λ path text command h is. absurd (cc);
     refused = λ a fault command r. absurd (cc);
   }
@@ -596,6 +699,7 @@ module _ (c : Call) (file : List ℕ → Option (List ℕ)) (told : c.files ≡ 
         no_command = λ none. absurd (cc);
         accepted = λ entry command p. absurd (cc);
         split = λ entry command p. absurd (cc);
+        rebuilt = λ entry list steps command edits. absurd (cc);
         mapped = λ path text command h is. absurd (cc);
         refused = λ a fault command r. absurd (run_alone c.hosts file t.path t.steps (before c.hosts_old c.out) (after c.hosts_new c.out) t.end fault here (fault_here (asked.run5 t.path t.steps) a fault mine command r));
       }
@@ -610,6 +714,29 @@ comes_when_due c s o calm memory = by_files c.files refl
     by_files : (files : Option (List ℕ → Option (List ℕ))) → c.files ≡ files → IfSome files (λ file. IsDue c file s)
     by_files None e = tt
     by_files (Some file) e = outcome_is_due c file e s calm memory o
+
+-- what the edits of a list aren't read for
+pub edits_fit : (hosts : List (List ℕ)) (told : Option (List ℕ → Option (List ℕ))) (entry list : List ℕ) (old new : ℕ) (fault : UnreadList) → of_edits.Cause told list old new fault → Fits hosts (asked.rebuild entry list) told old new (edits_fault_of fault)
+edits_fit hosts told entry list old new unread_list.OutOfMemory h = tt
+edits_fit hosts told entry list old new (unread_list.Refused f) h = untaken h
+
+-- what ends builds, by what files tell once the edits are read
+pub builds_fit : (hosts : List (List ℕ)) (told after : Option (List ℕ → Option (List ℕ))) (entry list : List ℕ) (old middle new : ℕ) (steps : List Step) (fault : BuildFault) (T : Type 0) (result : Result T BuildFault)
+    → result ≡ Err fault → after ≡ told → old ≤ middle → AreEdits told list steps → IfUnread result (ReadsIn (ReadsNext entry) after steps) → (IsUnread result → CountRose middle new)
+    → Fits hosts (asked.rebuild entry list) told old new (build_fault_of fault)
+builds_fit hosts told after entry list old middle new steps build_fault.OutOfMemory T result is same le edits reads rises = tt
+builds_fit hosts told after entry list old middle new steps (build_fault.Unread path) T result is same le edits reads rises =
+    let here : ReadsIn (ReadsNext entry) after steps path = subst (λ (r : Result T BuildFault). IfUnread r (ReadsIn (ReadsNext entry) after steps)) is reads in
+    unbuilt steps edits (subst (λ (t : Option (List ℕ → Option (List ℕ))). ReadsIn (ReadsNext entry) t steps path) same here) (rose_from old middle new le (rises (path, is)))
+
+-- what the builds write, for a list of the hosts' names and for what files tell once the edits are read
+pub rebuilt_at : (hosts list : List (List ℕ)) (told after : Option (List ℕ → Option (List ℕ))) (entry path : List ℕ) (steps : List Step) (bytes : List ℕ) → list ≡ hosts → after ≡ told → AreEdits told path steps
+    → WritesAll IsCompiled entry list after steps bytes → IsRebuilt hosts told entry path bytes
+rebuilt_at hosts list told after entry path steps bytes e f edits w = record {
+  steps = steps;
+  edits = edits;
+  written = subst (λ (h : List (List ℕ)). WritesAll IsCompiled entry h told steps bytes) e (subst (λ (t : Option (List ℕ → Option (List ℕ))). WritesAll IsCompiled entry list t steps bytes) f w);
+}
 
 -- the list of the hosts' names, one by one
 pub one_more_name : (names items : List (List ℕ)) (n : ℕ) (name : List ℕ) → items ≡ take n names → slice_get names n ≡ Some name → items ++ name ∷ [] ≡ take (n + 1) names

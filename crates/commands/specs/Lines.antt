@@ -4,7 +4,10 @@ use Rattle.std.specs.Fmt.{decimal}
 use Rattle.commands.specs.declared.status.Status.{Status}
 use Rattle.commands.specs.declared.status.Status.TheVariants as status
 use Rattle.commands.specs.declared.fault.Fault.{Fault}
-use Rattle.commands.specs.declared.fault.Fault.TheVariants.{Missing, ReadFailed, FileTooLong, InGraph, InScript, BadMap, Unbuilt}
+use Rattle.commands.specs.declared.fault.Fault.TheVariants.{Missing, ReadFailed, FileTooLong, InGraph, InScript, InEdits, BadMap, Unbuilt}
+use Rattle.edit_reading.specs.Lines as edits
+use Rattle.edit_reading.specs.Lines.{is_read_fault}
+use Rattle.edit_reading.specs.declared.fault.EditsFault.{EditsFault}
 use Rattle.graph_refusals.specs.declared.fault.FileFault.{FileFault}
 use Rattle.graph_refusals.specs.declared.fault.FileFault.TheVariants as in_file
 use Rattle.graph_refusals.specs.Lines as graph
@@ -47,6 +50,7 @@ line_of path ReadFailed = path ++ (codes ": read fault" ++ 10 ∷ [])
 line_of path FileTooLong = path ++ (codes ": file too long" ++ 10 ∷ [])
 line_of path (InGraph refusal) = graph.line_of refusal
 line_of path (InScript fault) = script_line path fault
+line_of path (InEdits fault) = edits.line_of path fault
 line_of path (BadMap fault) = map_fault_line path fault
 line_of path Unbuilt = path ++ (codes ": not built" ++ 10 ∷ [])
 
@@ -64,11 +68,15 @@ abbrev pub script_status_of : ScriptFault → Status
 script_status_of in_script.ReadFailed = status.ReadFault
 script_status_of fault = (if script.is_limit fault then status.Limit else status.Refused)
 
+abbrev pub edits_status_of : EditsFault → Status
+edits_status_of fault = (if is_read_fault fault then status.ReadFault else if edits.is_limit fault then status.Limit else status.Refused)
+
 abbrev pub status_of : Fault → Status
 status_of Missing = status.Refused
 status_of ReadFailed = status.ReadFault
 status_of FileTooLong = status.Limit
 status_of (InGraph refusal) = graph_status_of refusal.fault
 status_of (InScript fault) = script_status_of fault
+status_of (InEdits fault) = edits_status_of fault
 status_of (BadMap fault) = status.Refused
 status_of Unbuilt = status.Refused

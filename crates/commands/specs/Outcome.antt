@@ -13,8 +13,15 @@ use Rattle.source_map.specs.declared.map.Map.{Map}
 use Rattle.source_map.specs.declared.fault.MapFault.{MapFault}
 use Rattle.command_words.specs.Words.{Asked, command_of}
 use Rattle.command_words.specs.Words as asked
+use Rattle.edit_reading.specs.Reading as of_edits
+use Rattle.edit_reading.specs.Reading.{AreEdits}
+use Rattle.edit_reading.specs.declared.fault.EditsFault.{EditsFault}
+use Rattle.edit_reading.specs.declared.fault.EditsFault.TheVariants.{UnreadFile}
+use Rattle.edit_reading.specs.declared.fault.Unread.TheVariants as unread_list
+use Rattle.listed_builds.specs.Doing.{ReadsIn, Step}
 use Rattle.module_loading.specs.Files.{Holds, Told}
 use Rattle.graph_refusals.specs.declared.fault.Refusal.{Refusal}
+use Rattle.module_linker.specs.graph_checks.Builds.{ReadsNext, WritesAll}
 use Rattle.module_linker.specs.graph_checks.Checks.{Passes, Refuses, IsRefusedFor}
 use Rattle.es6_ast.specs.declared.graph.Graph.{Graph}
 use Rattle.module_linker.specs.Linking.{IsRelinked}
@@ -32,7 +39,7 @@ use Rattle.script_runs.specs.declared.unread.Unread.TheVariants as unread
 use Rattle.commands.specs.declared.status.Status.{Status}
 use Rattle.commands.specs.declared.status.Status.TheVariants as status
 use Rattle.commands.specs.declared.fault.Fault.{Fault}
-use Rattle.commands.specs.declared.fault.Fault.TheVariants.{Missing, ReadFailed, FileTooLong, InGraph, InScript, BadMap, Unbuilt}
+use Rattle.commands.specs.declared.fault.Fault.TheVariants.{Missing, ReadFailed, FileTooLong, InGraph, InScript, InEdits, BadMap, Unbuilt}
 use Rattle.commands.specs.Lines.{line_of, status_of, usage_line}
 
 -- the most bytes of a module
@@ -78,6 +85,13 @@ pub record IsSplitGraph (hosts : List (List ℕ)) (told : Told) (entry bytes : L
   pub relinked : IsRelinked graph hosts linked
   pub split : IsSplitText linked hosts bytes
 
+-- The edits of the list are read, and these bytes are what the builds of the entry among them write: each of the files as edited up to it, by
+-- the modules that earlier ones loaded.
+pub record IsRebuilt (hosts : List (List ℕ)) (told : Told) (entry list bytes : List ℕ) : Type 0 where
+  pub steps : List Step
+  pub edits : AreEdits told list steps
+  pub written : WritesAll IsCompiled entry hosts told steps bytes
+
 -- The graph of the entry has this fault.
 pub data RefusesEntry (hosts : List (List ℕ)) (told : Told) (entry : List ℕ) : Fault → Type 0 where
   in_graph : {refusal : Refusal} → Refuses told hosts entry refusal → RefusesEntry hosts told entry (InGraph refusal)
@@ -108,7 +122,7 @@ abbrev pub subject : Asked → List ℕ
 subject (asked.build entry) = entry
 subject (asked.map_of script) = script
 subject (asked.split entry) = entry
-subject (asked.rebuild entry list) = codes "rebuild"
+subject (asked.rebuild entry list) = list
 subject (asked.run entry steps) = codes "run"
 subject (asked.run5 path steps) = path
 subject (asked.sample n) = codes "sample"
@@ -122,10 +136,16 @@ abbrev pub HasScriptFault : Told → List ℕ → Fault → Type 0
 HasScriptFault told path (InScript fault) = of_script.HasFault told path fault
 HasScriptFault told path _ = ⊥
 
+-- what is wrong with the edits of a command
+abbrev pub HasEditsFault : Told → List ℕ → Fault → Type 0
+HasEditsFault told list (InEdits fault) = of_edits.HasFault told list fault
+HasEditsFault told list _ = ⊥
+
 -- a command's fault, by what its files tell
 abbrev pub HasFault : List (List ℕ) → Asked → Told → Fault → Type 0
 HasFault hosts (asked.build entry) told fault = RefusesEntry hosts told entry fault
 HasFault hosts (asked.split entry) told fault = RefusesEntry hosts told entry fault
+HasFault hosts (asked.rebuild entry list) told fault = HasEditsFault told list fault
 HasFault hosts (asked.map_of path) told fault = OnFile told path (λ file. HasNoMap file fault)
 HasFault hosts (asked.run5 path steps) told fault = HasScriptFault told path fault
 HasFault hosts _ told fault = fault ≡ Unbuilt
@@ -134,6 +154,7 @@ HasFault hosts _ told fault = fault ≡ Unbuilt
 abbrev pub IsToCome : Asked → Type 0
 IsToCome (asked.build entry) = ⊥
 IsToCome (asked.split entry) = ⊥
+IsToCome (asked.rebuild entry list) = ⊥
 IsToCome (asked.map_of path) = ⊥
 IsToCome (asked.run5 path steps) = ⊥
 IsToCome _ = Unit {0}
@@ -158,12 +179,23 @@ abbrev pub ScriptCause : Asked → Told → ℕ → ℕ → ScriptFault → Type
 ScriptCause (asked.run5 path steps) told old new fault = of_script.Cause told path old new (unread.Refused fault)
 ScriptCause _ told old new fault = ⊥
 
+-- What edits aren't done for: their list or a file that they put; or a file that a build of the files as edited up to it reads, and that
+-- couldn't be read, so that the count of faults rose.
+pub data IsUndone (told : Told) (entry list : List ℕ) (old new : ℕ) : EditsFault → Type 0 where
+  untaken : {fault : EditsFault} → of_edits.Cause told list old new (unread_list.Refused fault) → IsUndone told entry list old new fault
+  unbuilt : {path : List ℕ} (steps : List Step) → AreEdits told list steps → ReadsIn (ReadsNext entry) told steps path → CountRose old new → IsUndone told entry list old new (UnreadFile path)
+
+abbrev pub EditsCause : Asked → Told → ℕ → ℕ → EditsFault → Type 0
+EditsCause (asked.rebuild entry list) told old new fault = IsUndone told entry list old new fault
+EditsCause _ told old new fault = ⊥
+
 -- What a fault comes from: a read that failed, so that the count of faults rose, a command that isn't built, or what the files hold.
 abbrev pub Cause : List (List ℕ) → Asked → Told → ℕ → ℕ → Fault → Type 0
 Cause hosts a told old new ReadFailed = CountRose old new
 Cause hosts a told old new Unbuilt = IsToCome a
 Cause hosts a told old new (InGraph refusal) = GraphCause hosts a told old new refusal
 Cause hosts a told old new (InScript fault) = ScriptCause a told old new fault
+Cause hosts a told old new (InEdits fault) = EditsCause a told old new fault
 Cause hosts a told old new fault = HasFault hosts a told fault
 
 -- A sink before and after a call: the bytes that it tells, and its count of faults.
@@ -203,11 +235,12 @@ call_of files faults words hosts_old hosts_new old new out err =
     record { words = words; hosts = hosts_old.names; hosts_old = hosts_old; hosts_new = hosts_new; files = files old; faults_old = faults old; faults_new = faults new; out = out; err = err }
 
 -- What the call is to write, on the output: the script of the entry's module where that is in one of the first forms, else that of its
--- graph; the scripts of the entry's graph; or the text of a script's map.
+-- graph; the scripts of the entry's graph; what its builds write among the edits of a list; or the text of a script's map.
 pub data Makes (c : Call) : List ℕ → Type 0 where
   script : {bytes : List ℕ} (entry : List ℕ) (m : Module) → command_of c.words ≡ Some (asked.build entry) → IsAccepted c.hosts c.files entry m → IsScriptOf c.hosts m bytes → Makes c bytes
   whole : {bytes : List ℕ} (entry : List ℕ) → command_of c.words ≡ Some (asked.build entry) → IsGraphScript c.hosts c.files entry bytes → Makes c bytes
   scripts : {bytes : List ℕ} (entry : List ℕ) → command_of c.words ≡ Some (asked.split entry) → IsSplitGraph c.hosts c.files entry bytes → Makes c bytes
+  rebuilt : {bytes : List ℕ} (entry list : List ℕ) → command_of c.words ≡ Some (asked.rebuild entry list) → IsRebuilt c.hosts c.files entry list bytes → Makes c bytes
   map : (text path : List ℕ) → command_of c.words ≡ Some (asked.map_of path) → OnFile c.files path (λ file. HasMap file text) → IsMapText text → Makes c (map_line text)
 
 -- The call has this line for this fault.
@@ -292,6 +325,7 @@ pub record IsDue (c : Call) (file : List ℕ → Option (List ℕ)) (s : Status)
   pub no_command : command_of c.words ≡ None → s ≡ status.Usage
   pub accepted : (entry : List ℕ) → command_of c.words ≡ Some (asked.build entry) → Passes (Some file) c.hosts entry → s ≡ status.Done
   pub split : (entry : List ℕ) → command_of c.words ≡ Some (asked.split entry) → Passes (Some file) c.hosts entry → s ≡ status.Done
+  pub rebuilt : (entry list : List ℕ) (steps : List Step) → command_of c.words ≡ Some (asked.rebuild entry list) → AreEdits (Some file) list steps → s ≡ status.Done
   pub mapped : (path text : List ℕ) → command_of c.words ≡ Some (asked.map_of path) → HasMap (file path) text → IsMapText text → s ≡ status.Done
   pub refused : (a : Asked) (fault : Fault) → command_of c.words ≡ Some a → HasFault c.hosts a (Some file) fault → s ≡ status_of fault
 

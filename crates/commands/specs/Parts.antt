@@ -11,6 +11,11 @@ use Rattle.command_words.specs.Words.{Asked}
 use Rattle.command_words.specs.Words as asked
 use Rattle.command_words.specs.declared.command.WordsFault.{WordsFault}
 use Rattle.command_words.specs.declared.command.WordsFault.TheVariants as words
+use Rattle.edit_reading.specs.declared.fault.EditsFault.TheVariants.{UnreadFile}
+use Rattle.edit_reading.specs.declared.fault.Unread.{Unread as UnreadList}
+use Rattle.edit_reading.specs.declared.fault.Unread.TheVariants as unread_list
+use Rattle.listed_builds.specs.declared.fault.BuildFault.{BuildFault}
+use Rattle.listed_builds.specs.declared.fault.BuildFault.TheVariants as build_fault
 use Rattle.module_loading.specs.Files.{Told}
 use Rattle.graph_refusals.specs.declared.fault.GraphFault.{GraphFault}
 use Rattle.graph_refusals.specs.declared.fault.GraphFault.TheVariants as graph_fault
@@ -24,11 +29,11 @@ use Rattle.script_runs.specs.declared.unread.Unread.TheVariants as unread
 use Rattle.commands.specs.declared.status.Status.{Status}
 use Rattle.commands.specs.declared.status.Status.TheVariants as status
 use Rattle.commands.specs.declared.fault.Fault.{Fault}
-use Rattle.commands.specs.declared.fault.Fault.TheVariants.{InGraph, InScript, BadMap}
+use Rattle.commands.specs.declared.fault.Fault.TheVariants.{InGraph, InScript, InEdits, BadMap}
 use Rattle.commands.specs.declared.fault.CommandFault.{CommandFault}
 use Rattle.commands.specs.declared.fault.CommandFault.TheVariants.{Refused, OutOfMemory}
 use Rattle.commands.specs.Lines.{line_of, status_of, usage_line}
-use Rattle.commands.specs.Outcome.{max_module_bytes, max_script_bytes, IsAccepted, IsGraphScript, IsSplitGraph, IsNoForm, HasMap, HasNoMap, IsMapText, map_line, OnFile, Cause, subject, Written, HasAdded, HasFailed, IsEnded, IsSaid, after, before}
+use Rattle.commands.specs.Outcome.{max_module_bytes, max_script_bytes, IsAccepted, IsGraphScript, IsRebuilt, IsSplitGraph, IsNoForm, HasMap, HasNoMap, IsMapText, map_line, OnFile, Cause, subject, Written, HasAdded, HasFailed, IsEnded, IsSaid, after, before}
 
 abbrev pub map_fault_of : MapFault → CommandFault
 map_fault_of map_fault.OutOfMemory = OutOfMemory
@@ -37,6 +42,14 @@ map_fault_of fault = Refused (BadMap fault)
 abbrev pub graph_fault_of : GraphFault → CommandFault
 graph_fault_of graph_fault.OutOfMemory = OutOfMemory
 graph_fault_of (graph_fault.Refused refusal) = Refused (InGraph refusal)
+
+abbrev pub edits_fault_of : UnreadList → CommandFault
+edits_fault_of unread_list.OutOfMemory = OutOfMemory
+edits_fault_of (unread_list.Refused fault) = Refused (InEdits fault)
+
+abbrev pub build_fault_of : BuildFault → CommandFault
+build_fault_of build_fault.OutOfMemory = OutOfMemory
+build_fault_of (build_fault.Unread path) = Refused (InEdits (UnreadFile path))
 
 -- what the entry itself is refused for
 abbrev pub entry_refusal : List ℕ → FileFault → Fault
@@ -108,6 +121,7 @@ pub record IsFileMap (told : Told) (path line : List ℕ) : Type 0 where
 abbrev pub MadeBy : List (List ℕ) → Asked → Told → List ℕ → Type 0
 MadeBy hosts (asked.build entry) told bytes = IsFileScript hosts told entry bytes
 MadeBy hosts (asked.split entry) told bytes = IsSplitGraph hosts told entry bytes
+MadeBy hosts (asked.rebuild entry list) told bytes = IsRebuilt hosts told entry list bytes
 MadeBy hosts (asked.map_of path) told bytes = IsFileMap told path bytes
 MadeBy hosts _ told bytes = ⊥
 

@@ -11,6 +11,7 @@ ghost use Rattle.commands.specs.Lines.{line_of, status_of};
 use crate::build::build;
 use crate::fault::{CommandFault, Fault};
 use crate::map::map_of;
+use crate::rebuilding::rebuild;
 use crate::run5::run5;
 use crate::split::split;
 use crate::status::Status;
@@ -103,6 +104,9 @@ fn made<F: Files>(
     match command {
         Command::Build { entry } => build(alloc, entry.as_str(), files, hosts),
         Command::Split { entry } => split(alloc, entry.as_str(), files, hosts),
+        Command::Rebuild { entry, list } => {
+            rebuild(alloc, entry.as_str(), list.as_str(), files, hosts)
+        }
         Command::Map { script } => map_of(alloc, script.as_str(), files),
         _ => Err(CommandFault::Refused(Fault::Unbuilt)),
     }
@@ -115,7 +119,7 @@ fn subject(command: &Command) -> &str
     match command {
         Command::Build { entry } | Command::Split { entry } => entry.as_str(),
         Command::Map { script } => script.as_str(),
-        Command::Rebuild { .. } => "rebuild",
+        Command::Rebuild { list, .. } => list.as_str(),
         Command::Run { .. } => "run",
         Command::Run5 { script, .. } => script.as_str(),
         Command::Sample { .. } => "sample",

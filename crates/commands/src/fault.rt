@@ -2,9 +2,10 @@
 
 ghost use Rattle.std.specs.Prelude.{◌≡◌, [], ◌∷◌, ◌++◌, IfOk, OnOk};
 ghost use Rattle.std.specs.Fmt.{decimal};
-ghost use Rattle.commands.specs.Lines.{line_of, status_of, graph_status_of, map_fault_line, script_status_of};
+ghost use Rattle.commands.specs.Lines.{line_of, status_of, edits_status_of, graph_status_of, map_fault_line, script_status_of};
 
 use crate::status::Status;
+use edit_reading::{EditsFault, Unread, edits_line};
 use graph_refusals::{FileFault, GraphFault, Refusal};
 use run_lines::{ScriptFault, script_line};
 use source_map::MapFault;
@@ -23,6 +24,8 @@ pub enum Fault {
     InGraph(Refusal),
     /// The script isn't run for this.
     InScript(ScriptFault),
+    /// The edits of the list aren't done for this.
+    InEdits(EditsFault),
     /// The script holds no map.
     BadMap(MapFault),
     /// The command isn't built yet.
@@ -72,6 +75,19 @@ impl From<GraphFault> for CommandFault {
     }
 }
 
+impl From<Unread> for CommandFault {
+    ghost use Rattle.commands.specs.Parts.{edits_fault_of};
+
+    ghost from_gives = { λ error fault. fault ≡ edits_fault_of error };
+
+    fn from(error: Unread) -> CommandFault {
+        match error {
+            Unread::OutOfMemory => CommandFault::OutOfMemory,
+            Unread::Refused(fault) => CommandFault::Refused(Fault::InEdits(fault)),
+        }
+    }
+}
+
 impl Fault {
     pub fn status(&self) -> Status
         ensures { result ≡ status_of self.now }
@@ -82,6 +98,7 @@ impl Fault {
             Fault::FileTooLong => Status::Limit,
             Fault::InGraph(refusal) => graph_status(&refusal.fault),
             Fault::InScript(fault) => script_status(fault),
+            Fault::InEdits(fault) => edits_status(fault),
         }
     }
 
@@ -95,6 +112,7 @@ impl Fault {
             Fault::FileTooLong => line_about_file(alloc, path, ": file too long\n"),
             Fault::InGraph(refusal) => refusal.line(alloc),
             Fault::InScript(fault) => script_line(alloc, path, fault),
+            Fault::InEdits(fault) => edits_line(alloc, path, fault),
             Fault::BadMap(fault) => line_about_map(alloc, path, fault),
             Fault::Unbuilt => line_about_file(alloc, path, ": not built\n"),
         }
@@ -119,6 +137,19 @@ fn script_status(fault: &ScriptFault) -> Status
     ensures { result ≡ script_status_of fault.now }
 {
     if matches!(fault, ScriptFault::ReadFailed) {
+        Status::ReadFault
+    } else if fault.is_limit() {
+        Status::Limit
+    } else {
+        Status::Refused
+    }
+}
+
+/// The status of a fault of a list of edits.
+fn edits_status(fault: &EditsFault) -> Status
+    ensures { result ≡ edits_status_of fault.now }
+{
+    if fault.is_read_fault() {
         Status::ReadFault
     } else if fault.is_limit() {
         Status::Limit

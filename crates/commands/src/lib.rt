@@ -5,6 +5,7 @@ mod build;
 mod command;
 mod fault;
 mod map;
+mod rebuilding;
 mod run5;
 mod split;
 mod status;

@@ -1,3 +1,4 @@
+pub mod Written
 pub mod Entry
 pub mod Laws
 pub mod Linked

@@ -4,3 +4,4 @@ pub mod Checking
 pub mod Linking
 pub mod Loading
 pub mod Reading
+pub mod Rebuilding

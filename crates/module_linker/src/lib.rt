@@ -8,6 +8,7 @@ mod linking;
 mod loading;
 pub mod module_checks;
 mod reading;
+mod rebuilding;
 
 pub use crate::module_checks::ModuleFault;
 pub use checking::{CheckFault, UsesGraph, check};
@@ -16,3 +17,4 @@ pub use loading::{Modules, load};
 pub use module_links::LinkFault;
 pub use module_loading::LoadFault;
 pub use reading::read_module;
+pub use rebuilding::Rebuild;
