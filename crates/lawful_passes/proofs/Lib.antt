@@ -1,0 +1,16 @@
+pub mod Far
+pub mod Labels
+pub mod Places
+pub mod Spilling
+pub mod Cases
+pub mod Turned
+pub mod Weights
+pub mod WeightCounts
+pub mod WeightYields
+pub mod WeightOut
+pub mod Tallies
+pub mod Rebound
+pub mod Bounds
+pub mod Mentioned
+pub mod Kept
+pub mod Scoping

@@ -1,0 +1,15 @@
+//! Laws of what the passes make of lawful cores. Each is the contract of a function that does nothing.
+#![tactic(auto)]
+
+ghost use Rattle.lawful_passes.specs.Laws.{BothKeepLaw, ScopesKeepLabels, YieldsKeepLaw};
+
+/// A lawful core is lawful behind the flattening of yields, for as many hosts, if its labels differ.
+pub fn lawful_cores_stay_lawful_without_yields()
+    ensures { YieldsKeepLaw }
+{}
+
+/// Labels that differ do so behind the flattening of scopes, so a lawful core is lawful behind both flattenings.
+pub fn lawful_cores_stay_lawful_without_scopes_and_yields()
+    ensures labels { ScopesKeepLabels }
+    ensures both { BothKeepLaw }
+{}
