@@ -1,0 +1,11 @@
+pub mod Layers
+pub mod Good
+pub mod Operators
+pub mod Ready
+pub mod Acts
+pub mod Texts
+pub mod Stats
+pub mod Walk
+pub mod Names
+pub mod Functions
+pub mod Script
