@@ -65,7 +65,7 @@ module _ (R : Config → Config → Type 0) (B : Along → Along → Type 0) (U 
   either_way true x y x2 y2 h j = h
   either_way false x y x2 y2 h j = j
 
-  an_object : (c : Current Mark) (s u : CoreState) (f g : ObjId → CoreNext) → ((id : ObjId) → A (f id) (g id)) → A (with_object c s f) (with_object c u g)
+  pub an_object : (c : Current Mark) (s u : CoreState) (f g : ObjId → CoreNext) → ((id : ObjId) → A (f id) (g id)) → A (with_object c s f) (with_object c u g)
   an_object (Has (User (value.Object id))) s u f g h = h id
   an_object c s u f g h = tt
 
@@ -84,28 +84,28 @@ module _ (R : Config → Config → Type 0) (B : Along → Along → Type 0) (U 
   pub went_heap : (p q : Along) (c : Current Mark) (h : Heap) → B p q → A (goes c p.links (with_heap h p.state)) (goes c q.links (with_heap h q.state))
   went_heap p q c h b = went (along_heap h p) (along_heap h q) c (k.heaps p q h b)
 
-  raised : (p q : Along) (kind : ErrorKind) → B p q → A (raises kind p.state) (raises kind q.state)
+  pub raised : (p q : Along) (kind : ErrorKind) → B p q → A (raises kind p.state) (raises kind q.state)
   raised p q kind b = at_heap p q b (raises kind p.state) (λ h. hands (Throws (value.Object (next_id h))) (with_heap (with_error h kind) q.state))
       (_, refl, k.throws (along_heap (with_error p.state.heap kind) p) (along_heap (with_error p.state.heap kind) q) (value.Object (next_id p.state.heap)) (k.heaps p q (with_error p.state.heap kind) b))
 
-  under_raised : (s u : CoreState) (kind : ErrorKind) → U s u → A (raises kind s) (raises kind u)
+  pub under_raised : (s u : CoreState) (kind : ErrorKind) → U s u → A (raises kind s) (raises kind u)
   under_raised s u kind b = under_at_heap s u b (raises kind s) (λ h. hands (Throws (value.Object (next_id h))) (with_heap (with_error h kind) u))
       (_, refl, k.under_throws (with_heap (with_error s.heap kind) s) (with_heap (with_error s.heap kind) u) (value.Object (next_id s.heap)) (k.under_heaps s u (with_error s.heap kind) b))
 
   pub operated : (p q : Along) (f : LinkFrame) (n : ℕ) (base : Value) (vs : List Value) → B p q → A (operates (link_frame f p.links) n base vs p.state) (operates (link_frame f q.links) n base vs q.state)
   operated p q f n base vs b = (_, refl, k.turns _ _ None (operation n base vs) (k.frames p q f b))
 
-  gave : (p q : Along) (f : LinkFrame) (v : CoreValue Mark) → B p q → A (hands (Gives v) (pushed (link_frame f p.links) p.state)) (hands (Gives v) (pushed (link_frame f q.links) q.state))
+  pub gave : (p q : Along) (f : LinkFrame) (v : CoreValue Mark) → B p q → A (hands (Gives v) (pushed (link_frame f p.links) p.state)) (hands (Gives v) (pushed (link_frame f q.links) q.state))
   gave p q f v b = (_, refl, k.gives _ _ v (k.frames p q f b))
 
-  called : (p q : Along) (c : Call) → B p q → A (calls (link_frame OfAfter p.links) c p.state) (calls (link_frame OfAfter q.links) c q.state)
+  pub called : (p q : Along) (c : Call) → B p q → A (calls (link_frame OfAfter p.links) c p.state) (calls (link_frame OfAfter q.links) c q.state)
   called p q c b = (_, refl, k.calls _ _ c (k.frames p q OfAfter b))
 
-  reply_given : (s u : CoreState) (r : Reply) → U s u → R (with_control (Hand (reply_of r)) s) (with_control (Hand (reply_of r)) u)
+  pub reply_given : (s u : CoreState) (r : Reply) → U s u → R (with_control (Hand (reply_of r)) s) (with_control (Hand (reply_of r)) u)
   reply_given s u (reply.Give p) b = k.gives s u (User (of_prim p)) b
   reply_given s u (reply.Throw p) b = k.under_throws s u (of_prim p) b
 
-  hosted : (s u : CoreState) (n : ℕ) (site : Option Site) (o : Option (List Primitive)) → U s u → A (asks_host n (or_else site (place_of s)) s o) (asks_host n (or_else site (place_of u)) u o)
+  pub hosted : (s u : CoreState) (n : ℕ) (site : Option Site) (o : Option (List Primitive)) → U s u → A (asks_host n (or_else site (place_of s)) s o) (asks_host n (or_else site (place_of u)) u o)
   hosted s u n site None b = under_raised s u TypeError b
   hosted s u n site (Some args) b =
       (_, ap (λ at. asks_host n (or_else site at) u (Some args)) (k.under_place s u b), λ r. reply_given s u r b)
@@ -144,7 +144,7 @@ module _ (R : Config → Config → Type 0) (B : Along → Along → Type 0) (U 
 
   -- ---- calls and constructions
 
-  call_alike : (p q : Along) (o : CoreOp) (site : Option Site) (c d : Current Mark) (vs : List (CoreValue Mark)) (xs : List CoreExpr) (args : List Value) → B p q
+  pub call_alike : (p q : Along) (o : CoreOp) (site : Option Site) (c d : Current Mark) (vs : List (CoreValue Mark)) (xs : List CoreExpr) (args : List Value) → B p q
       → A (call_current (strict o site d vs xs p.links) p.state args c) (call_current (strict o site d vs xs q.links) q.state args c)
   call_alike p q o site (Has (User f)) d vs xs args b = called p q (due f value.Undefined args site) b
   call_alike p q o site (Method f receiver) d vs xs args b = called p q (due f receiver args site) b
@@ -165,7 +165,7 @@ module _ (R : Config → Config → Type 0) (B : Along → Along → Type 0) (U 
   with_alike p q o site c vs xs (receiver ∷ args) b =
       maybe (user_at c) p.state q.state (due_at receiver args site p) (due_at receiver args site q) (λ f. called p q (due f receiver args site) b)
 
-  construct_alike : (s u : CoreState) (f : Value) (args : List Value) (site : Option Site) (c : Constructor) → U s u → A (construct_by f args site s c) (construct_by f args site u c)
+  pub construct_alike : (s u : CoreState) (f : Value) (args : List Value) (site : Option Site) (c : Constructor) → U s u → A (construct_by f args site s c) (construct_by f args site u c)
   unfolding construct_by
   construct_alike s u f args site (constructor.Runs id) b =
       (_, refl, k.turns (pushed (Making f args f) s) (pushed (Making f args f) u) None (operation number.prototype_of_number f (value.Object object_prototype ∷ [])) (k.under_frames s u (Making f args f) tt b))

@@ -16,8 +16,7 @@ use Rattle.cells_keep_runs.proofs.Passed.{places}
 states_heap : (owners : List ℕ) (seats : Seats) (s t : CoreState) (h : Heap) → States owners seats s t → States owners seats (with_heap h s) (with_heap h t)
 states_heap owners seats s t h x = record {
   heap = refl;
-  seated = x.seated;
-  names = x.names;
+  memory = x.memory;
   closures = x.closures;
   callers = x.callers;
   ahead = x.ahead;
@@ -31,8 +30,7 @@ states_heap owners seats s t h x = record {
 states_pushed : (owners : List ℕ) (seats : Seats) (s t : CoreState) (f g : Frame Mark CoreWork) → States owners seats s t → States owners seats (pushed f s) (pushed g t)
 states_pushed owners seats s t f g x = record {
   heap = x.heap;
-  seated = x.seated;
-  names = x.names;
+  memory = x.memory;
   closures = x.closures;
   callers = x.callers;
   ahead = x.ahead;
@@ -63,12 +61,33 @@ stand_pushed owners seats s t f g x = record {
   own = x.own;
 }
 
+-- the source with a frame more
+pub stand_source : (owners : List ℕ) (seats : Seats) (s t : CoreState) (f : Frame Mark CoreWork) → Stand owners seats s t → Stand owners seats (pushed f s) t
+stand_source owners seats s t f x = record {
+  states = record {
+    heap = x.states.heap;
+    memory = x.states.memory;
+    closures = x.states.closures;
+    callers = x.states.callers;
+    ahead = x.states.ahead;
+    this_values = x.states.this_values;
+    generators = x.states.generators;
+    namespaces = x.states.namespaces;
+    templates = x.states.templates;
+    statics = x.states.statics;
+  };
+  environment = x.environment;
+  below = x.below;
+  receiver = x.receiver;
+  site = x.site;
+  own = x.own;
+}
+
 -- the target with more frames
 states_frames : (owners : List ℕ) (seats : Seats) (s t : CoreState) (fs : List (Frame Mark CoreWork)) → States owners seats s t → States owners seats s (with_more_frames fs t)
 states_frames owners seats s t fs x = record {
   heap = x.heap;
-  seated = x.seated;
-  names = x.names;
+  memory = x.memory;
   closures = x.closures;
   callers = x.callers;
   ahead = x.ahead;
@@ -144,7 +163,7 @@ module _ (owners : List ℕ) (seats : Seats) where
     heap = λ p q b. b.0.states.heap;
     heaps = λ p q h b. (stand_heap owners seats p.state q.state h b.0, b.1, b.2);
     goes = λ p q c b. went p q c b;
-    throws = λ p q v b. past_cells v p.links b.0 b.1;
+    throws = λ p q v b. past_cells (Throws v) p.links tt b.0 b.1;
     frames = λ p q f b. (stand_pushed owners seats p.state q.state (link_frame f p.links) (link_frame f q.links) b.0, pushed_frames p q f b);
     under_heap = λ s u b. b.0.states.heap;
     under_heaps = λ s u h b. (stand_heap owners seats s u h b.0, b.1);

@@ -69,7 +69,7 @@ module _ (core core2 : Core) (owners : List ℕ) (seats : Seats) where
   step_alike p q u base k (value.Number n) b = result_alike p q u n base k (stepped u n) b
   step_alike p q u base k v b = tt
 
-  link_given : (p q : Along) (f : LinkFrame) (v : CoreValue Mark) → B owners seats p q → A (given (rows core) core v p.state (link_frame f p.links)) (given (rows core2) core2 v q.state (link_frame f q.links))
+  pub link_given : (p q : Along) (f : LinkFrame) (v : CoreValue Mark) → B owners seats p q → A (given (rows core) core v p.state (link_frame f p.links)) (given (rows core2) core2 v q.state (link_frame f q.links))
   unfolding given
   link_given p q OfAfter v b = went R (B owners seats) (U owners seats) (carries owners seats) p q (Has v) b
   link_given p q (OfBehind w) v b = went R (B owners seats) (U owners seats) (carries owners seats) p q (Has w) b
@@ -97,7 +97,7 @@ module _ (core core2 : Core) (owners : List ℕ) (seats : Seats) where
       )
   making_alike s t f args target v b = tt
 
-  plain_given : (s t : CoreState) (f : Frame Mark CoreWork) (v : CoreValue Mark) → IsPlain f → U owners seats s t → A (given (rows core) core v s f) (given (rows core2) core2 v t f)
+  pub plain_given : (s t : CoreState) (f : Frame Mark CoreWork) (v : CoreValue Mark) → IsPlain f → U owners seats s t → A (given (rows core) core v s f) (given (rows core2) core2 v t f)
   unfolding given
   plain_given s t (Operation site c) (User v) is b = (_, refl, at_same (Turn site (received c v)) tt b.0 b.1)
   plain_given s t (Operation site c) (Extra m) is b = tt
@@ -109,7 +109,7 @@ module _ (core core2 : Core) (owners : List ℕ) (seats : Seats) where
 
   -- ---- statements
 
-  stat_given : (s t : CoreState) (f g : Frame Mark CoreWork) (v : CoreValue Mark) → StatFrames owners f g → U owners seats s t → A (given (rows core) core v s f) (given (rows core2) core2 v t g)
+  pub stat_given : (s t : CoreState) (f g : Frame Mark CoreWork) (v : CoreValue Mark) → StatFrames owners f g → U owners seats s t → A (given (rows core) core v s f) (given (rows core2) core2 v t g)
   unfolding given
   stat_given s t f g (User v) (of_choice body cases) b =
       either_way R (B owners seats) (U owners seats) (carries owners seats) (truth_of v) (controls (Run body) s) (choose cases s) (controls (Run (stats_flat owners body)) t) (choose (map (case_flat owners) cases) t)

@@ -31,18 +31,18 @@ use Rattle.pass_rules.specs.Scopes.{expr_flat, stats_flat}
 use Rattle.cells_keep_runs.specs.Alike.{Alike, Along, Config, IsUntouched, OfAfter, strict}
 use Rattle.cells_keep_runs.specs.Links.{IsUntouchedLink, UntouchedLinksKeepRelated}
 use Rattle.cells_keep_runs.specs.Opened.{link_in, opened, opened_by, write_in, written_by}
-use Rattle.cells_keep_runs.specs.Related.{Frames, Related, Seats, WaitsAfter, at_expression, at_same, at_statements, cell_along, fetch, no_scope, part, same_current, waits}
+use Rattle.cells_keep_runs.specs.Related.{Frames, Related, Seats, WaitsAfter, at_expression, at_same, at_statements, cell_along, fetch, no_scope, part, same_part, waits}
 use Rattle.cells_keep_runs.specs.Shapes.{option_flat}
 use Rattle.cells_keep_runs.proofs.Alike.{acts, either_way, maybe, went}
 use Rattle.cells_keep_runs.proofs.Carried.{B, U, carries, pushed_frames, stand_pushed}
 
 -- a layer with its parts flattened
-abbrev flat_layer : List ℕ → CoreLink-F CoreLink CoreStat CoreCase CoreExpr → CoreLink-F CoreLink CoreStat CoreCase CoreExpr
+abbrev pub flat_layer : List ℕ → CoreLink-F CoreLink CoreStat CoreCase CoreExpr → CoreLink-F CoreLink CoreStat CoreCase CoreExpr
 flat_layer owners (layer.Strict o xs site) = layer.Strict o (map (expr_flat owners) xs) site
 flat_layer owners (layer.Lazy w taken other) = layer.Lazy w (expr_flat owners taken) (option_flat owners other)
 flat_layer owners (layer.Run body) = layer.Run (stats_flat owners body)
 
-layer_of : (owners : List ℕ) (y : CoreLink-F CoreLink CoreStat CoreCase CoreExpr) → out-CoreLink (link_in owners y) ≡ flat_layer owners y
+pub layer_of : (owners : List ℕ) (y : CoreLink-F CoreLink CoreStat CoreCase CoreExpr) → out-CoreLink (link_in owners y) ≡ flat_layer owners y
 layer_of owners (layer.Strict o xs site) = link.outs-Strict o (map (expr_flat owners) xs) site
 layer_of owners (layer.Lazy w taken other) = link.outs-Lazy w (expr_flat owners taken) (option_flat owners other)
 layer_of owners (layer.Run body) = link.outs-Run (stats_flat owners body)
@@ -82,14 +82,14 @@ module _ (core core2 : Core) (owners : List ℕ) (seats : Seats) where
 
   -- ---- the parts of an operation
 
-  abbrev PartFrames : Along → Along → CoreOp → Option Site → Current Mark → List (CoreValue Mark) → List CoreExpr → Type 0
+  abbrev pub PartFrames : Along → Along → CoreOp → Option Site → Current Mark → List (CoreValue Mark) → List CoreExpr → Type 0
   PartFrames p q o site c vs xs = Frames owners seats p.state.context.environment
       (Part (strict o site c vs xs p.links) ∷ p.state.context.frames) (Part (strict o site c vs (map (expr_flat owners) xs) q.links) ∷ q.state.context.frames)
 
-  part_frames : (p q : Along) (o : CoreOp) (site : Option Site) (c : Current Mark) (vs : List (CoreValue Mark)) (xs : List CoreExpr) → B owners seats p q → PartFrames p q o site c vs xs
+  pub part_frames : (p q : Along) (o : CoreOp) (site : Option Site) (c : Current Mark) (vs : List (CoreValue Mark)) (xs : List CoreExpr) → B owners seats p q → PartFrames p q o site c vs xs
   part_frames p q o site c vs xs (stand, (gs, r, below), is) =
       let o2 = opened owners (cells p.state) p.links in
-      let w : Frames owners seats p.state.context.environment (Part (strict o site c vs xs p.links) ∷ p.state.context.frames) (Part (strict o site c vs (map (expr_flat owners) xs) o2.links) ∷ (o2.frames ++ gs)) = part (strict o site c vs xs p.links) same_current r in
+      let w : Frames owners seats p.state.context.environment (Part (strict o site c vs xs p.links) ∷ p.state.context.frames) (Part (strict o site c vs (map (expr_flat owners) xs) o2.links) ∷ (o2.frames ++ gs)) = part (strict o site c vs xs p.links) (same_part refl) r in
       let a = subst (λ ls. Frames owners seats p.state.context.environment (Part (strict o site c vs xs p.links) ∷ p.state.context.frames) (Part (strict o site c vs (map (expr_flat owners) xs) ls) ∷ (o2.frames ++ gs))) (sym is) w in
       subst (λ hs. Frames owners seats p.state.context.environment (Part (strict o site c vs xs p.links) ∷ p.state.context.frames) (Part (strict o site c vs (map (expr_flat owners) xs) q.links) ∷ hs)) (sym below) a
 
@@ -126,11 +126,11 @@ module _ (core core2 : Core) (owners : List ℕ) (seats : Seats) where
   abbrev reads_by : Frame Mark CoreWork → Value → Key → CoreState → Config
   reads_by f base k st = with_control (Turn None (operation get_number base (key_operand k ∷ []))) (pushed f st)
 
-  abbrev AfterFrames : Along → Along → CoreLink → CoreLink → Type 0
+  abbrev pub AfterFrames : Along → Along → CoreLink → CoreLink → Type 0
   AfterFrames p q l l2 = Frames owners seats p.state.context.environment
       (After (l ∷ p.links) ∷ p.state.context.frames) (After (l2 ∷ q.links) ∷ q.state.context.frames)
 
-  after_frames : (p q : Along) (l : CoreLink) → write_in owners (out-CoreLink l) ≡ None → B owners seats p q → AfterFrames p q l (link_in owners (out-CoreLink l))
+  pub after_frames : (p q : Along) (l : CoreLink) → write_in owners (out-CoreLink l) ≡ None → B owners seats p q → AfterFrames p q l (link_in owners (out-CoreLink l))
   after_frames p q l nothing (stand, (gs, r, below), is) =
       let o2 = opened owners (cells p.state) p.links in
       let l2 = link_in owners (out-CoreLink l) in
@@ -145,11 +145,11 @@ module _ (core core2 : Core) (owners : List ℕ) (seats : Seats) where
   read_after p q l base k nothing b =
       at_same _ tt (stand_pushed owners seats p.state q.state (After (l ∷ p.links)) (After (link_in owners (out-CoreLink l) ∷ q.links)) b.0) (after_frames p q l nothing b)
 
-  abbrev FetchFrames : Along → Along → Value → Key → CoreOp → Option Site → Current Mark → List CoreExpr → Type 0
+  abbrev pub FetchFrames : Along → Along → Value → Key → CoreOp → Option Site → Current Mark → List CoreExpr → Type 0
   FetchFrames p q base k o site c xs = Frames owners seats p.state.context.environment
       (Fetch base k (strict o site c [] xs p.links) ∷ p.state.context.frames) (Fetch base k (strict o site c [] (map (expr_flat owners) xs) q.links) ∷ q.state.context.frames)
 
-  fetch_frames : (p q : Along) (base : Value) (k : Key) (o : CoreOp) (site : Option Site) (c : Current Mark) (xs : List CoreExpr) → B owners seats p q → FetchFrames p q base k o site c xs
+  pub fetch_frames : (p q : Along) (base : Value) (k : Key) (o : CoreOp) (site : Option Site) (c : Current Mark) (xs : List CoreExpr) → B owners seats p q → FetchFrames p q base k o site c xs
   fetch_frames p q base k o site c xs (stand, (gs, r, below), is) =
       let o2 = opened owners (cells p.state) p.links in
       let fs : List (Frame Mark CoreWork) = Fetch base k (strict o site c [] xs p.links) ∷ p.state.context.frames in

@@ -102,7 +102,7 @@ places owners seats e fs gs site (plain {f = f} h r) = ap (λ at. or_else (site_
 places owners seats e fs gs site (waits {e = e2} {fs = fs2} {gs = gs2} w ls r) =
     let o = opened owners (cell_along seats e2) ls in
     waiting_place w o.links (o.frames ++ gs2) site ∙ opened_place owners _ ls gs2 site ∙ places owners seats _ _ _ site r ∙ sym (waiting_place w ls fs2 site)
-places owners seats e fs gs site (waits_for_cell {gs = gs2} ls h r) = opened_place owners _ ls gs2 site ∙ places owners seats _ _ _ site r
+places owners seats e fs gs site (waits_for_cell {gs = gs2} x l ls h r) = opened_place owners _ ls gs2 site ∙ places owners seats _ _ _ site r
 places owners seats e fs gs site (part {gs = gs2} p h r) = ap (λ at. or_else p.site at) (opened_place owners _ p.links gs2 site ∙ places owners seats _ _ _ site r)
 places owners seats e fs gs site (fetch {gs = gs2} base k p r) = opened_place owners _ p.links gs2 site ∙ places owners seats _ _ _ site r
 places owners seats e fs gs site (rest xs tail r) = places owners seats _ _ _ site r ∙ sym (tail_place owners seats _ _ _ _ _ site tail)

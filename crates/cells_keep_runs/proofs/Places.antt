@@ -26,7 +26,7 @@ and_true : (s t : Bool) → s ≡ true → t ≡ true → (s && t) ≡ true
 and_true s t h k = ap (λ b. b && t) h ∙ k
 
 module _ {M : Type 0} where
-  abbrev valued : CoreValue M → Binding M → Binding M
+  abbrev pub valued : CoreValue M → Binding M → Binding M
   valued v b = record b { value = v }
 
   -- ---- one record
@@ -37,7 +37,7 @@ module _ {M : Type 0} where
   same_at b bs x v true e h = ap (λ t. if t then Some (valued v b) else binding_in bs x) e
   same_at b bs x v false e h = ap (λ t. if t then Some b else binding_in (with_value bs x v) x) e ∙ h
 
-  same_name : (bs : EnvironmentRecord M) (x : Var) (v : CoreValue M) → binding_in (with_value bs x v) x ≡ option_map (valued v) (binding_in bs x)
+  pub same_name : (bs : EnvironmentRecord M) (x : Var) (v : CoreValue M) → binding_in (with_value bs x v) x ≡ option_map (valued v) (binding_in bs x)
   same_name [] x v = refl
   same_name (b ∷ bs) x v = same_at b bs x v (nat_eq b.var.0 x.0) refl (same_name bs x v)
 
@@ -49,11 +49,11 @@ module _ {M : Type 0} where
       ap (λ t. if t then Some (valued v b) else binding_in bs y) f ∙ sym (ap (λ t. if t then Some b else binding_in bs y) f)
   other_at b bs x y v false e ne h = ap (λ o. if nat_eq b.var.0 y.0 then Some b else o) h
 
-  other_name : (bs : EnvironmentRecord M) (x y : Var) (v : CoreValue M) → (y.0 ≡ x.0 → ⊥) → binding_in (with_value bs x v) y ≡ binding_in bs y
+  pub other_name : (bs : EnvironmentRecord M) (x y : Var) (v : CoreValue M) → (y.0 ≡ x.0 → ⊥) → binding_in (with_value bs x v) y ≡ binding_in bs y
   other_name [] x y v ne = refl
   other_name (b ∷ bs) x y v ne = other_at b bs x y v (nat_eq b.var.0 x.0) refl ne (other_name bs x y v ne)
 
-  equal_name : (bs : EnvironmentRecord M) (x y : Var) (v : CoreValue M) → y.0 ≡ x.0 → binding_in (with_value bs x v) y ≡ option_map (valued v) (binding_in bs y)
+  pub equal_name : (bs : EnvironmentRecord M) (x y : Var) (v : CoreValue M) → y.0 ≡ x.0 → binding_in (with_value bs x v) y ≡ option_map (valued v) (binding_in bs y)
   unfolding var_of
   equal_name bs x y v p = subst (λ n. binding_in (with_value bs x v) (var_of n) ≡ option_map (valued v) (binding_in bs (var_of n))) (sym p) (same_name bs x v)
 
@@ -65,10 +65,10 @@ module _ {M : Type 0} where
       let l : length (written n x v records) ≡ length records = length-set records n (with_value (record_at records n) x v) in
       get_or_past (written n x v records) n [] (omega arith) ∙ sym (ap (λ r. with_value r x v) (get_or_past records n [] le))
 
-  same_record : (records : List (EnvironmentRecord M)) (n : ℕ) (x : Var) (v : CoreValue M) → record_at (written n x v records) n ≡ with_value (record_at records n) x v
+  pub same_record : (records : List (EnvironmentRecord M)) (n : ℕ) (x : Var) (v : CoreValue M) → record_at (written n x v records) n ≡ with_value (record_at records n) x v
   same_record records n x v = same_by records n x v (cases_lt n (length records))
 
-  other_record : (records : List (EnvironmentRecord M)) (n m : ℕ) (x : Var) (v : CoreValue M) → (m ≡ n → ⊥) → record_at (written n x v records) m ≡ record_at records m
+  pub other_record : (records : List (EnvironmentRecord M)) (n m : ℕ) (x : Var) (v : CoreValue M) → (m ≡ n → ⊥) → record_at (written n x v records) m ≡ record_at records m
   other_record records n m x v ne = get_or-set_other records n m (with_value (record_at records n) x v) [] ne
 
   -- ---- an environment

@@ -71,7 +71,7 @@ case_at : (owners : List ℕ) (test : Option CoreExpr) (body : List CoreStat) �
 case_at owners None body = out-roll-CoreCase (flat_case owners None body)
 case_at owners (Some x) body = out-roll-CoreCase (flat_case owners (Some x) body)
 
-case_is : (owners : List ℕ) (c : CoreCase) → out-CoreCase (case_flat owners c) ≡ flat_case owners (out-CoreCase c).test (out-CoreCase c).body
+pub case_is : (owners : List ℕ) (c : CoreCase) → out-CoreCase (case_flat owners c) ≡ flat_case owners (out-CoreCase c).test (out-CoreCase c).body
 case_is owners c =
     ap (λ d. out-CoreCase d) (fold_out-CoreCase (Extends CoreExpr) (Extends (List CoreStat)) CoreCase CoreExpr (link_step owners) stat_step case_step (expr_step owners) c)
     ∙ case_at owners (out-CoreCase c).test (out-CoreCase c).body
@@ -91,7 +91,7 @@ module _ (core core2 : Core) (owners : List ℕ) (seats : Seats) where
       subst (λ xs. R (with_control (Run body) s) (with_control (Run xs) t)) (append-nil (stats_flat owners body))
       (at_statements body stand (s.context.environment, s.context.frames, no_scope, r))
 
-  begins_at : (s t : CoreState) (f g : Frame Mark CoreWork) (x : CoreExpr) → Stand owners seats s t → At s (f ∷ s.context.frames) (g ∷ t.context.frames) → A (begins f x s) (begins g (expr_flat owners x) t)
+  pub begins_at : (s t : CoreState) (f g : Frame Mark CoreWork) (x : CoreExpr) → Stand owners seats s t → At s (f ∷ s.context.frames) (g ∷ t.context.frames) → A (begins f x s) (begins g (expr_flat owners x) t)
   begins_at s t f g x stand r = (_, refl, at_expression x (stand_pushed owners seats s t f g stand) r)
 
   pub runs_at : (s t : CoreState) (f g : Frame Mark CoreWork) (body : List CoreStat) → Stand owners seats s t → At s (f ∷ s.context.frames) (g ∷ t.context.frames) → A (runs f body s) (runs g (stats_flat owners body) t)

@@ -91,11 +91,11 @@ module _ (core : Core) where
 
   -- ---- single steps
 
-  begin_at : (site : Option Site) (h : CoreHead) (ls : List CoreLink) (st : CoreState) → core_step core (with_control (Begin (expression site h ls)) st) ≡ begin_head (rows core) core h ls st
+  pub begin_at : (site : Option Site) (h : CoreHead) (ls : List CoreLink) (st : CoreState) → core_step core (with_control (Begin (expression site h ls)) st) ≡ begin_head (rows core) core h ls st
   unfolding step
   begin_at site h ls st = ap (λ y. begin_head (rows core) core y.head y.links st) (out-roll-CoreExpr (record { site = site; head = h; links = ls }))
 
-  begin_read : (site : Option Site) (x : Var) (ls : List CoreLink) (st : CoreState) (r : Resolved Mark) (v : CoreValue Mark) → resolve st x ≡ Some r → r.binding.value ≡ v → core_step core (with_control (Begin (expression site (head.Variable x) ls)) st) ≡ controls (Go (Has v) ls) st
+  pub begin_read : (site : Option Site) (x : Var) (ls : List CoreLink) (st : CoreState) (r : Resolved Mark) (v : CoreValue Mark) → resolve st x ≡ Some r → r.binding.value ≡ v → core_step core (with_control (Begin (expression site (head.Variable x) ls)) st) ≡ controls (Go (Has v) ls) st
   unfolding begin_head
   begin_read site x ls st r v e is = begin_at site (head.Variable x) ls st ∙ ap (λ o. read_found (rows core) x ls st o) e ∙ ap (λ w. controls (Go (Has w) ls) st) is
 
@@ -107,7 +107,7 @@ module _ (core : Core) where
   unfolding step go
   go_strict v o xs site ls st = ap (λ y. go_value (rows core) core (Has v) ls st y) (link.outs-Strict o xs site)
 
-  go_end : (v : CoreValue Mark) (st : CoreState) → core_step core (with_control (Go (Has v) []) st) ≡ controls (Hand (Gives v)) st
+  pub go_end : (v : CoreValue Mark) (st : CoreState) → core_step core (with_control (Go (Has v) []) st) ≡ controls (Hand (Gives v)) st
   unfolding step go
   go_end v st = refl
 
@@ -133,7 +133,7 @@ module _ (core : Core) where
   unfolding act_by
   go_init x v ls st = go_strict v (op.Init x) [] None ls st
 
-  stored_is : (x : Var) (v : CoreValue Mark) (st : CoreState) (r : Resolved Mark) → resolve st x ≡ Some r → stored_at r.at x v st ≡ initialized x v st
+  pub stored_is : (x : Var) (v : CoreValue Mark) (st : CoreState) (r : Resolved Mark) → resolve st x ≡ Some r → stored_at r.at x v st ≡ initialized x v st
   unfolding initialized
   stored_is x v st r e = ap (λ o. initialize_found x v st o) (sym e)
 

@@ -1,23 +1,17 @@
 -- When a state before the flattening of scopes and one behind it belong together. Heaps are equal, and closures, generators and all that
--- is stored but cells have the same numbers.
---
--- A record of a call, of a module or of a handler has an image, a record of the target. That of a scope, or a copy of one, has none:
--- its names stand in the first record of its activation, its home. An environment is that of the source with images in the place of
--- records, and without those that have none.
---
--- A shared name of a scope is a cell, one for each record that has it. The home has the cell of the newest record, and the record of a
--- call has those that its closure keeps. An unshared name stands in the home as the newest record has it: no code looks at an older one,
--- if a name that comes anew in each turn of a loop and that a function mentions is a shared one.
+-- is stored but cells have the same numbers. An environment is that of the source with images in the place of records, and without those
+-- that have none.
 --
 -- Frames are those of the source, flattened, but for three things. A scope has left a Restore and a Rest on the source's stack, whose
 -- statements stand behind those of the target's Rest. A shared name that an expression writes waits as a frame of its own. And where
 -- a frame would wait with no links but for such a name, there may be none.
-use Rattle.std.specs.List.{list_any}
-use Rattle.std.specs.Prelude.{◌≡◌, ◌≤◌, true, false, List, [], ◌∷◌, ◌++◌, map, Option, None, Some, if◌then◌else◌, length, nat_eq, slice_get, ℕ}
+use Rattle.std.specs.Prelude.{◌≡◌, List, [], ◌∷◌, ◌++◌, map, Option, Some, length, ℕ}
 use Rattle.es_value.specs.declared.value.Value.{Value}
 use Rattle.es_value.specs.declared.value.Value.TheVariants as value
 use Rattle.es_heap.specs.declared.key.Key.{Key}
 use Rattle.es_calls.specs.declared.call.Resumption.{Resumption}
+use Rattle.core_ast.specs.declared.parts.CoreOp.{CoreOp}
+use Rattle.core_ast.specs.declared.parts.CoreOp.TheVariants as op
 use Rattle.core_ast.specs.declared.parts.FunctionId.{FunctionId}
 use Rattle.core_ast.specs.declared.parts.Label.{Label}
 use Rattle.core_ast.specs.declared.parts.ScopedName.{ScopedName}
@@ -25,64 +19,18 @@ use Rattle.core_ast.specs.declared.parts.Update.{Update}
 use Rattle.core_ast.specs.declared.parts.Var.{Var}
 use Rattle.core_ast.specs.declared.tree.CoreCase.{CoreCase}
 use Rattle.core_ast.specs.declared.tree.CoreExpr.{CoreExpr}
-use Rattle.core_ast.specs.declared.tree.CoreLink.{CoreLink}
+use Rattle.core_ast.specs.declared.tree.CoreLink.{CoreLink, out-CoreLink}
 use Rattle.core_ast.specs.declared.tree.CoreStat.{CoreStat}
-use Rattle.core_meaning.specs.Marks.{AtStart, AtYield, Cell, Completed, CoreList, CoreState, CoreStore, CoreStrict, CoreWork, DelegateDone, DelegateStart, DelegateTurn, DelegateValue, Delegates, Derived, Executing, Generator, Heritage, Instantiates, KeptCell, Mark, Own, Prototype, PrototypeFor, Resumes, SpreadStart, SpreadStep, SpreadValue, Starts, YieldsIn, sorts, value_in}
-use Rattle.core_meaning.specs.Names.{binding_in, record_at}
+use Rattle.core_meaning.specs.Marks.{AtStart, AtYield, Cell, Completed, CoreList, CoreState, CoreStore, CoreStrict, CoreWork, DelegateDone, DelegateStart, DelegateTurn, DelegateValue, Delegates, Derived, Executing, Generator, Heritage, Instantiates, KeptCell, Mark, Own, Prototype, PrototypeFor, Resumes, SpreadStart, SpreadStep, SpreadValue, Starts, YieldsIn, sorts}
 use Rattle.core_meaning.specs.Rows.{with_control}
-use Rattle.core_meaning.specs.State.{After, Begin, Behind, Binding, Calls, Catching, Choice, Closure, Completion, Configuration, Context, Control, CoreValue, Current, Done, Environment, EnvironmentRecord, Extra, Fetch, Finishing, Frame, Gives, Go, Hand, Has, Keyed, Loop, LoopBody, LoopTest, LoopUpdate, Matching, Part, Pending, Rest, Restore, Returning, Run, StepAt, Store, Subject, Target, Throwing, Throws, Turn, User, Work}
+use Rattle.core_meaning.specs.State.{After, Begin, Behind, Calls, Catching, Choice, Closure, Completion, Configuration, Context, Control, CoreValue, Current, Environment, Extra, Fetch, Finishing, Frame, Gives, Go, Hand, Has, Keyed, Loop, LoopBody, LoopTest, LoopUpdate, Matching, Part, Pending, Rest, Restore, Returning, Run, StepAt, Store, Subject, Target, Throwing, Turn, User, Work}
 use Rattle.pass_rules.specs.Scopes.{case_flat, expr_flat, reset, stats_flat}
 use Rattle.cells_keep_runs.specs.Alike.{IsPlain}
-use Rattle.cells_keep_runs.specs.Opened.{opened}
+pub use Rattle.cells_keep_runs.specs.Memory.{IsScope, Memory, Seat, Seats, cell_along, cell_found, cells_in, image_in, images, or_outer, with_image}
+use Rattle.cells_keep_runs.specs.Opened.{opened, write_in}
 use Rattle.cells_keep_runs.specs.Places.{Below}
 use Rattle.cells_keep_runs.specs.Shapes.{option_flat}
-use Rattle.cells_keep_runs.specs.Ways.{IsAbrupt}
-
--- ---- records
-
--- what stands for a record of the source: its image, if it has one, its home, and the cells of its shared names
-pub record Seat : Type 0 where
-  pub image : Option ℕ
-  pub home : ℕ
-  pub scoped : List Var
-  pub cells : List KeptCell
-
--- by the number of the record
-abbrev pub Seats : Type 0
-Seats = List Seat
-
-abbrev pub image_in : Option Seat → Option ℕ
-image_in None = None
-image_in (Some seat) = seat.image
-
-abbrev pub with_image : Option ℕ → Environment → Environment
-with_image None e = e
-with_image (Some m) e = m ∷ e
-
-abbrev pub images : Seats → Environment → Environment
-images seats [] = []
-images seats (n ∷ e) = with_image (image_in (slice_get seats n)) (images seats e)
-
--- the record is that of a scope, or a copy
-abbrev pub IsScope : Seats → ℕ → Type 0
-IsScope seats n = (seat : Seat) × (slice_get seats n ≡ Some seat) × (seat.image ≡ None)
-
-abbrev pub cell_found : List KeptCell → Var → Option ℕ
-cell_found [] x = None
-cell_found (k ∷ ks) x = if nat_eq k.var.0 x.0 then Some k.cell else cell_found ks x
-
-abbrev pub cells_in : Option Seat → List KeptCell
-cells_in None = []
-cells_in (Some seat) = seat.cells
-
-abbrev pub or_outer : Option ℕ → ℕ → ℕ
-or_outer None n = n
-or_outer (Some m) n = m
-
--- the cell of a shared name, as it is seen along an environment
-abbrev pub cell_along : Seats → Environment → Var → ℕ
-cell_along seats [] x = 0
-cell_along seats (n ∷ e) x = or_outer (cell_found (cells_in (slice_get seats n)) x) (cell_along seats e x)
+use Rattle.cells_keep_runs.specs.Ways.{IsAbrupt, writing}
 
 -- ---- pending work of the language
 
@@ -144,6 +92,11 @@ pub data Currents : Current Mark → Current Mark → Type 0 where
   same_current : {c : Current Mark} → Currents c c
   behind_copy : {n : ℕ} → Currents (Has (User value.Undefined)) (Has (Extra (Cell n)))
 
+-- so does an operation whose parts are evaluated, if it drops it
+pub data PartCurrents (o : CoreOp) (c d : Current Mark) : Type 0 where
+  same_part : d ≡ c → PartCurrents o c d
+  then_part : (n : ℕ) → o ≡ op.Then → d ≡ Has (Extra (Cell n)) → PartCurrents o c d
+
 abbrev pub part_flat : List ℕ → CoreStrict → Current Mark → List CoreLink → CoreStrict
 part_flat owners p c links = record {
   op = p.op;
@@ -163,12 +116,13 @@ pub data Frames (owners : List ℕ) (seats : Seats) : Environment → List (Fram
       → Frames owners seats e fs gs
       → Frames owners seats e (waiting w ls ∷ fs)
       (waiting w (opened owners (cell_along seats e) ls).links ∷ ((opened owners (cell_along seats e) ls).frames ++ gs))
-  -- where a reference is read for a shared name alone, its value goes to the cell at once
-  waits_for_cell : {e : Environment} {fs gs : List (Frame Mark CoreWork)} (ls : List CoreLink)
-      → (opened owners (cell_along seats e) ls).links ≡ [] → Frames owners seats e fs gs
-      → Frames owners seats e (After ls ∷ fs) ((opened owners (cell_along seats e) ls).frames ++ gs)
+  -- where a reference is read for a shared name, its value goes to the cell at once
+  waits_for_cell : {e : Environment} {fs gs : List (Frame Mark CoreWork)} (x : Var) (l : CoreLink) (ls : List CoreLink)
+      → write_in owners (out-CoreLink l) ≡ Some x → Frames owners seats e fs gs
+      → Frames owners seats e (After (l ∷ ls) ∷ fs)
+      (Part (writing (cell_along seats e x) (opened owners (cell_along seats e) ls).links) ∷ ((opened owners (cell_along seats e) ls).frames ++ gs))
   part : {e : Environment} {fs gs : List (Frame Mark CoreWork)} {c : Current Mark} (p : CoreStrict)
-      → Currents p.current c → Frames owners seats e fs gs
+      → PartCurrents p.op p.current c → Frames owners seats e fs gs
       → Frames owners seats e (Part p ∷ fs)
       (Part (part_flat owners p c (opened owners (cell_along seats e) p.links).links) ∷ ((opened owners (cell_along seats e) p.links).frames ++ gs))
   fetch : {e : Environment} {fs gs : List (Frame Mark CoreWork)} (base : Value) (k : Key) (p : CoreStrict)
@@ -237,6 +191,7 @@ pub record Owns (a b : Own) : Type 0 where
 
 pub record Contexts (owners : List ℕ) (seats : Seats) (a b : Context Mark Own CoreWork) : Type 0 where
   pub environment : b.environment ≡ images seats a.environment
+  pub below : Below (length seats) a.environment
   pub receiver : b.receiver ≡ a.receiver
   pub site : b.site ≡ a.site
   pub own : Owns a.own b.own
@@ -250,6 +205,7 @@ Kept seats e (k ∷ ks) = (cell_along seats e k.var ≡ k.cell) × Kept seats e 
 pub record Closures (seats : Seats) (a b : Closure Own) : Type 0 where
   pub function : b.function ≡ a.function
   pub environment : b.environment ≡ images seats a.environment
+  pub below : Below (length seats) a.environment
   pub own : Owns a.own b.own
   pub cells : Kept seats a.environment b.own.cells
 
@@ -265,43 +221,11 @@ All R [] [] = Unit {0}
 All R (x ∷ xs) (y ∷ ys) = R x y × All R xs ys
 All R xs ys = ⊥
 
--- ---- names
-
--- a binding of the source, and that of the target, which has the same value
-pub record Bindings (a b : Binding Mark) : Type 0 where
-  pub value : b.value ≡ a.value
-  pub mutable : b.mutable ≡ a.mutable
-
--- no later record of the same home has the name
-abbrev pub IsNewest : Seats → ℕ → Var → Type 0
-IsNewest seats n x = (m : ℕ) (here there : Seat) → slice_get seats n ≡ Some here → slice_get seats m ≡ Some there
-    → there.home ≡ here.home → list_any (λ y. nat_eq y.0 x.0) there.scoped ≡ true → m ≤ n
-
--- What the target has, in these records and cells, of a name of this record: its image has it, or it is a shared name of a scope and a
--- cell has its value, or it is an unshared one and the home has it while no newer record does.
-pub data Names (seats : Seats) (records : List (EnvironmentRecord Mark)) (cells : List (Option Value)) (n : ℕ) (b : Binding Mark) : Type 0 where
-  in_image : (seat : Seat) (m : ℕ) (c : Binding Mark) → slice_get seats n ≡ Some seat → seat.image ≡ Some m
-      → list_any (λ y. nat_eq y.0 b.var.0) seat.scoped ≡ false
-      → binding_in (record_at records m) b.var ≡ Some c → Bindings b c → Names seats records cells n b
-  in_cell : (seat : Seat) (m : ℕ) → slice_get seats n ≡ Some seat → cell_found seat.cells b.var ≡ Some m
-      → slice_get cells m ≡ Some (value_in b.value)
-      → (IsNewest seats n b.var → (c : Binding Mark) × (binding_in (record_at records seat.home) b.var ≡ Some c) × (c.value ≡ Extra (Cell m)))
-      → Names seats records cells n b
-  in_home : (seat : Seat) → slice_get seats n ≡ Some seat
-      → list_any (λ y. nat_eq y.0 b.var.0) seat.scoped ≡ true → cell_found seat.cells b.var ≡ None
-      → (IsNewest seats n b.var → (c : Binding Mark) × (binding_in (record_at records seat.home) b.var ≡ Some c) × (c.value ≡ b.value))
-      → Names seats records cells n b
-
-abbrev pub AllNames : Seats → List (EnvironmentRecord Mark) → List (Option Value) → ℕ → EnvironmentRecord Mark → Type 0
-AllNames seats records cells n [] = Unit {0}
-AllNames seats records cells n (b ∷ bs) = Names seats records cells n b × AllNames seats records cells n bs
-
 -- ---- states
 
 pub record States (owners : List ℕ) (seats : Seats) (s t : CoreState) : Type 0 where
   pub heap : t.heap ≡ s.heap
-  pub seated : length seats ≡ length s.records
-  pub names : (n : ℕ) → AllNames seats t.records t.store.cells n (record_at s.records n)
+  pub memory : Memory owners seats s.records t.records t.store.cells
   pub closures : All (Closures seats) s.closures t.closures
   pub callers : All (Contexts owners seats) s.callers t.callers
   pub ahead : t.ahead ≡ map (stats_flat owners) s.ahead
@@ -341,7 +265,6 @@ IsBare (Calls c) = Unit {0}
 IsBare (Hand c) = Unit {0}
 IsBare c = ⊥
 
--- The source is at a completion in a scope, and the target has gone on, or stands at the same below it.
 pub data Related (owners : List ℕ) (seats : Seats) : Configuration sorts CoreStore → Configuration sorts CoreStore → Type 0 where
   at_same : {s t : CoreState} (c : Control Mark) → IsBare c → Stand owners seats s t
       → Frames owners seats s.context.environment s.context.frames t.context.frames
@@ -360,19 +283,9 @@ pub data Related (owners : List ℕ) (seats : Seats) : Configuration sorts CoreS
   at_statements : {s t : CoreState} {ys : List CoreStat} (xs : List CoreStat) → Stand owners seats s t
       → BelowScopes owners seats s s.context.frames ys t
       → Related owners seats (with_control (Run xs) s) (with_control (Run (stats_flat owners xs ++ ys)) t)
-  -- the source is at the end of a scope, whose last statement is done, and then behind its environment
-  at_end : {s t : CoreState} {ys : List CoreStat} → Stand owners seats s t
-      → BelowScopes owners seats s s.context.frames ys t
-      → Related owners seats (with_control (Hand Done) s) (with_control (Run ys) t)
-  behind_end : {s t : CoreState} {fs : List (Frame Mark CoreWork)} {ys : List CoreStat} (xs : List CoreStat) → Stand owners seats s t
-      → s.context.frames ≡ Rest xs ∷ fs → BelowScopes owners seats s fs ys t
-      → Related owners seats (with_control (Hand Done) s) (with_control (Run (stats_flat owners xs ++ ys)) t)
-  -- what ends statements early stands in a scope, and then behind its environment
+  -- what ends statements early stands in a scope
   at_exit : {s t : CoreState} {ys : List CoreStat} (c : Completion Mark) → IsAbrupt c → Stand owners seats s t
       → BelowScopes owners seats s s.context.frames ys t → Related owners seats (with_control (Hand c) s) (with_control (Hand c) t)
-  behind_exit : {s t : CoreState} {fs : List (Frame Mark CoreWork)} {ys : List CoreStat} (c : Completion Mark) (xs : List CoreStat)
-      → IsAbrupt c → Stand owners seats s t → s.context.frames ≡ Rest xs ∷ fs → BelowScopes owners seats s fs ys t
+  -- it goes past the cells that wait
+  past_cells : {s t : CoreState} (c : Completion Mark) (ls : List CoreLink) → IsAbrupt c → Stand owners seats s t → BelowCells owners seats s ls t
       → Related owners seats (with_control (Hand c) s) (with_control (Hand c) t)
-  -- a throw goes past the cells that wait
-  past_cells : {s t : CoreState} (v : Value) (ls : List CoreLink) → Stand owners seats s t → BelowCells owners seats s ls t
-      → Related owners seats (with_control (Hand (Throws v)) s) (with_control (Hand (Throws v)) t)

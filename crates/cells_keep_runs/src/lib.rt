@@ -2,15 +2,32 @@
 //! that does nothing.
 #![tactic(auto)]
 
+ghost use Rattle.cells_keep_runs.specs.Acted.{OperationsActAlike};
 ghost use Rattle.cells_keep_runs.specs.Alike.{UntouchedAreAlike};
 ghost use Rattle.cells_keep_runs.specs.Passed.{CopiesAreTaken, PlacesAreKept, ScopesAreEntered, ScopesAreLeft, ScopesEnd};
 ghost use Rattle.cells_keep_runs.specs.Begun.{UntouchedHeadsKeepRelated};
+ghost use Rattle.cells_keep_runs.specs.Called.{CallsEnterAlike};
 ghost use Rattle.cells_keep_runs.specs.Carried.{UntouchedKeepRelated};
+ghost use Rattle.cells_keep_runs.specs.Classed.{ClassesAreMadeAlike, HeritagesAreTakenAlike, MembersArePutAlike};
+ghost use Rattle.cells_keep_runs.specs.Closed.{ClosuresAreMadeAlike};
+ghost use Rattle.cells_keep_runs.specs.Copied.{CopiesBeginAlike};
+ghost use Rattle.cells_keep_runs.specs.Ended.{AbruptEndsAlike, CellsArePassed, ScopesArePassed, StatementsEndAlike};
+ghost use Rattle.cells_keep_runs.specs.Entered.{ScopesAreEnteredAlike};
+ghost use Rattle.cells_keep_runs.specs.Entries.{CallsAreRemembered};
 ghost use Rattle.cells_keep_runs.specs.Given.{LinksTakeValues, PlainFramesTakeValues, StatementsTakeValues};
+ghost use Rattle.cells_keep_runs.specs.Going.{OperationsGoOnAlike, PrimitivesBeginAlike};
 ghost use Rattle.cells_keep_runs.specs.Grown.{CellsStay, EnvironmentsStay, FramesStay};
+ghost use Rattle.cells_keep_runs.specs.Handled.{HandlersTakeThrows, ParametersAreRemembered};
+ghost use Rattle.cells_keep_runs.specs.Linked.{CellsTakeReads, CopiesAreDropped, CopiesGoOnAlike, LinksEndAlike, ReferencesAreReadAlike};
 ghost use Rattle.cells_keep_runs.specs.Links.{UntouchedLinksKeepRelated};
 ghost use Rattle.cells_keep_runs.specs.Opened.{BeginsOpenCells, CopiesAreMade};
 ghost use Rattle.cells_keep_runs.specs.Places.{NewRecordsComeFirst, NewRecordsHideNothing, WritesAreSeen};
+ghost use Rattle.cells_keep_runs.specs.Renewed.{ScopesAreRemembered};
+ghost use Rattle.cells_keep_runs.specs.Seen.{NamesAreRead, NamesAreWritten};
+ghost use Rattle.cells_keep_runs.specs.Started.{BeginningsAreRelated};
+ghost use Rattle.cells_keep_runs.specs.Taken.{ValuesAreTakenAlike};
+ghost use Rattle.cells_keep_runs.specs.Turned.{ContextsEndAlike, ListsRunOut, OtherCallsAreAlike, TurnsAreAlike};
+ghost use Rattle.cells_keep_runs.specs.Writes.{SharedAreWritten, UnsharedAreWritten};
 ghost use Rattle.cells_keep_runs.specs.Ways.{CopiesHaveTheirOwn, ReadsOpenCells, ResetsAreMade, WritesAreLeft, WritesBeginAtCells, WritesFillCells};
 ghost use Rattle.cells_keep_runs.specs.Statements.{UntouchedStatementsKeepRelated};
 ghost use Rattle.cells_keep_runs.specs.Shapes.{ExpressionsAreBegunAndLinked, ListsAreFlattenedByParts, StatementsBecome};
@@ -119,4 +136,109 @@ pub fn values_keep_the_relation()
     ensures links { LinksTakeValues }
     ensures plain { PlainFramesTakeValues }
     ensures statements { StatementsTakeValues }
+{}
+
+/// Writes, the records of scopes and their copies, of calls and of handlers leave each name of the source where it should be in the target.
+pub fn names_are_where_they_should_be()
+    ensures unshared { UnsharedAreWritten }
+    ensures shared { SharedAreWritten }
+    ensures scopes { ScopesAreRemembered }
+    ensures calls { CallsAreRemembered }
+    ensures handlers { ParametersAreRemembered }
+{}
+
+/// A name that both machines find is read and written alike, an unshared one where it stands, a shared one in its cell.
+pub fn names_are_read_and_written_alike()
+    ensures read { NamesAreRead }
+    ensures written { NamesAreWritten }
+{}
+
+/// The source enters a scope in a step, and the target resets its names: what they come to is related, with the scope's record more.
+pub fn scopes_are_entered_alike()
+    ensures { ScopesAreEnteredAlike }
+{}
+
+/// A copy begins in both machines, and comes to related states, with the new record more.
+pub fn copies_begin_alike()
+    ensures { CopiesBeginAlike }
+{}
+
+/// A call of a closure begins alike, and comes to related states, with its record more.
+pub fn calls_enter_alike()
+    ensures { CallsEnterAlike }
+{}
+
+/// A call of a function of the library or of a host does the same in both, and so does one of what is no function.
+pub fn other_calls_are_alike()
+    ensures { OtherCallsAreAlike }
+{}
+
+/// A closure is made alike, with the cells of the names that it keeps.
+pub fn closures_are_made_alike()
+    ensures { ClosuresAreMadeAlike }
+{}
+
+/// A class is made alike, whether or not it has a heritage, and so are its members.
+pub fn classes_are_made_alike()
+    ensures classes { ClassesAreMadeAlike }
+    ensures heritages { HeritagesAreTakenAlike }
+    ensures members { MembersArePutAlike }
+{}
+
+/// A handler takes a throw in both: the target makes a record for the parameter and resets the names of the pattern, and there is the new
+/// record more.
+pub fn handlers_take_throws_alike()
+    ensures { HandlersTakeThrows }
+{}
+
+/// An expression that begins with a primitive begins alike.
+pub fn primitives_begin_alike()
+    ensures { PrimitivesBeginAlike }
+{}
+
+/// An operation on no name and no cell, which makes no cell, class or member, does the same in both, and a value goes on to it alike.
+pub fn operations_act_alike()
+    ensures acted { OperationsActAlike }
+    ensures gone { OperationsGoOnAlike }
+{}
+
+/// At the end of links both machines hand the value on. What a copy gives is dropped. A reference is read alike for a name, and a shared
+/// name takes what was read.
+pub fn links_end_alike()
+    ensures ended { LinksEndAlike }
+    ensures dropped { CopiesAreDropped }
+    ensures followed { CopiesGoOnAlike }
+    ensures read { ReferencesAreReadAlike }
+    ensures taken { CellsTakeReads }
+{}
+
+/// The top frame takes a value alike, but where a shared name waits for it or a class or a generator's states are made.
+pub fn values_are_taken_alike()
+    ensures { ValuesAreTakenAlike }
+{}
+
+/// A turn of an operation does the same in both, with what it asks of namespaces and generators.
+pub fn turns_are_alike()
+    ensures { TurnsAreAlike }
+{}
+
+/// A context ends alike: a call gives what it returns, and behind the outermost context the next body runs, or the run ends. A list of
+/// statements that has run out ends in both, or the source comes to what stands behind its scope.
+pub fn contexts_end_alike()
+    ensures contexts { ContextsEndAlike }
+    ensures lists { ListsRunOut }
+{}
+
+/// The end of statements does the same in both, and so does a throw, a return or a jump, but for a throw at a handler and the end of a
+/// context. In the target these go past the cells that wait, and in the source past the scopes round them.
+pub fn statements_end_alike()
+    ensures ended { StatementsEndAlike }
+    ensures abrupt { AbruptEndsAlike }
+    ensures cells { CellsArePassed }
+    ensures scopes { ScopesArePassed }
+{}
+
+/// The beginnings of a core's run and of that behind the flattening are related, if no name of a module's scopes is one of its own.
+pub fn beginnings_are_related()
+    ensures { BeginningsAreRelated }
 {}
