@@ -1,5 +1,6 @@
 // Whether the cores of the programs of tests/engines/programs are lawful at each level, as their model lowers them and behind each pass, and whether their
-// scripts may be printed; and the same of random cores that are lawful, but for operations on cells, which there are from the first pass on.
+// scripts may be printed; whether they are writable at each level, and their labels differ until yields are flattened, as the laws of emission_laws and
+// lawful_passes ask; and the same of random cores that are lawful, but for operations on cells, which there are from the first pass on.
 // Usage: node --expose-internals lawful.js [SEED COUNT]
 'use strict';
 const fs = require('fs');
@@ -11,8 +12,10 @@ const { randomCore } = require('./random_cores.js');
 
 const passes = ['pass_rules/Scopes/without_scopes', 'pass_rules/yield_rules/Yields/with_yields_flat', 'pass_rules/state_rules/States/with_machines'];
 const tests = ['functions_lawful', 'part_lawful', 'declarations', 'held', 'all_differ'].map((name) => `core_ast/Lawful/${name}`);
-const definitions = load([...passes, ...tests, 'emission_rules/Functions/emitted', 'es5_printable/Printable/is_printable']);
+const asked = ['emission_laws/Writable/function_fits', 'emission_laws/Writable/part_fits', 'lawful_passes/Told/function_told', 'lawful_passes/Told/part_told', 'lawful_passes/Told/tells_apart'];
+const definitions = load([...passes, ...tests, ...asked, 'emission_rules/Functions/emitted', 'es5_printable/Printable/is_printable']);
 const [functionsLawful, partLawful, declarations, held, allDiffer] = tests.map((name) => definitions[name]);
+const [functionFits, partFits, functionTold, partTold, tellsApart] = asked.map((name) => definitions[name]);
 const hosts = ['print', 'read', 'count'].map((name) => [...name].map((c) => c.charCodeAt(0)));
 
 function faultOf(core) {
@@ -23,12 +26,16 @@ function faultOf(core) {
   if (!allDiffer(declarations(core))) return 'a name that is declared twice';
   return allDiffer(held(core)) ? null : 'a function that is held twice';
 }
+const isWritable = (core) => core.functions.every((f) => functionFits(f)) && core.parts.every((part) => partFits(part));
+const labelsDiffer = (core) => core.functions.every((f) => tellsApart(functionTold(f))) && core.parts.every((part) => tellsApart(partTold(part)));
 function faultsOf(core) {
   const faults = [];
   for (let level = 0; level <= passes.length; level++) {
     if (level > 0) core = definitions[passes[level - 1]](core);
     const fault = faultOf(core);
     if (fault) faults.push(`level ${level} isn't lawful: ${fault}`);
+    if (!isWritable(core)) faults.push(`level ${level} isn't writable`);
+    if (level < 2 && !labelsDiffer(core)) faults.push(`level ${level} has a label twice`);
   }
   if (!definitions['es5_printable/Printable/is_printable'](definitions['emission_rules/Functions/emitted'](core, hosts, helpers()))) faults.push("its script can't be printed");
   return faults;

@@ -1,0 +1,4 @@
+pub mod Constructions
+pub mod Resumptions
+pub mod Saved
+pub mod Yields

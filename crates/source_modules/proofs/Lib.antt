@@ -1,0 +1,5 @@
+pub mod Endings
+pub mod Held
+pub mod Joins
+pub mod Numbered
+pub mod Starts

@@ -1,0 +1,5 @@
+pub mod Bindings
+pub mod Found
+pub mod Importing
+pub mod Instances
+pub mod Ones

@@ -1,0 +1,4 @@
+pub mod Entered
+pub mod Labels
+pub mod Switched
+pub mod Variables
