@@ -14,7 +14,7 @@ use Rattle.module_endings.specs.declared.place.Place.{Place}
 use Rattle.module_endings.specs.declared.summary.Export.{Export}
 use Rattle.module_endings.specs.declared.summary.Summary.{Summary}
 use Rattle.module_endings.proofs.Gets.{contains-get, contains-same, get-contains, get-left, one-contained, one-there, some-same}
-use Rattle.module_links.proofs.Lists.{take-one}
+use Rattle.module_summaries.proofs.Growing.{take-one}
 use Rattle.graph_namespaces.specs.Asked.{Asks, KeepsAll, KeepsKeys, Visits, asked_names, name_at}
 
 get-some : {A : Type 0} (xs : List A) (i : ℕ) → i < length xs → (x : A) × (slice_get xs i ≡ Some x)

@@ -1,33 +1,19 @@
--- Outcomes that are shared out among the modules, and what is known of one module more.
+-- Outcomes that are shared out among the modules.
 use Rattle.std.proofs.Common.{◌≡◌, ℕ, suc, ◌+◌, ◌-◌, ◌<◌, ◌≤◌, List, [], ◌∷◌, ◌++◌, drop, length, take, Some, sym, ap, ◌∙◌, subst, inl, inr, arith, add-one, length-append}
 use Rattle.std.specs.Prelude.{slice_get}
 use Rattle.std.proofs.lemmas.Bool.{cases_lt}
 use Rattle.std.proofs.lemmas.Option.{slice_get_within}
-use Rattle.es6_ast.specs.declared.graph.LoadedModule.{LoadedModule}
 use Rattle.module_endings.specs.declared.answers.Outcome.{Outcome}
 use Rattle.module_endings.specs.declared.summary.Summary.{Summary}
 use Rattle.module_endings.specs.Ends.{AreOutcomes, all_wants}
 use Rattle.module_endings.proofs.Gets.{get-push_cases, one-there}
 use Rattle.module_endings.proofs.Sourcing.{drop-at}
-use Rattle.module_links.proofs.Lists.{each-more, length-push, length-taken, take-one}
 use Rattle.module_links.proofs.Resolved.{first-outcomes, next-outcomes}
 use Rattle.module_links.proofs.Shared.{rest-size}
 use Rattle.module_lowering.specs.declared.meaning.NamespaceEntries.{NamespaceEntries}
-use Rattle.module_resolution.specs.Summaries.{AreSummaries, summary_of}
+use Rattle.module_summaries.proofs.Growing.{length-push}
 use Rattle.graph_namespaces.specs.Asked.{IsAsk}
 use Rattle.graph_namespaces.specs.Entries.{AddsNamespace, AreSharedOut, IsShared}
-
--- one summary more
-pub summaries-more : (ms : List LoadedModule) (i : ℕ) (m : LoadedModule) (old new : List Summary) (s : Summary) → slice_get ms i ≡ Some m → AreSummaries (take i ms) old → s ≡ summary_of i m → new ≡ old ++ s ∷ [] → AreSummaries (take (i + 1) ms) new
-summaries-more ms i m old new s there before is grown =
-    let xs : List LoadedModule = take i ms in
-    let at : length xs ≡ i = length-taken ms i m there in
-    let P : List LoadedModule → Type 0 = λ list. AreSummaries list new in
-    let S : List Summary → Type 0 = λ list. AreSummaries (xs ++ m ∷ []) list in
-    subst P (sym (take-one ms i m there)) (subst S (sym grown) (record {
-      size = length-push old s ∙ ap suc before.size ∙ sym (length-push xs m);
-      each = each-more summary_of xs old m s before.size before.each (is ∙ ap (λ k. summary_of k m) (sym at));
-    }))
 
 -- what is asked of the first modules
 pub record AskTo (known : List Summary) (i : ℕ) (asked : List Summary) : Type 0 where

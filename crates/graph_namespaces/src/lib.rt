@@ -4,7 +4,6 @@
 mod asked;
 mod entries;
 mod hosts;
-mod known;
 mod namespaces;
 mod reached;
 

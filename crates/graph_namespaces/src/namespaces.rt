@@ -10,12 +10,11 @@ ghost use Rattle.graph_namespaces.specs.Entries.{AddsNamespace, AreSharedOut};
 use crate::asked::asked_of;
 use crate::entries::entries_of;
 use crate::hosts::names_of;
-use crate::known::summaries_of;
 use es_outside::HostNames;
 use es6_ast::Graph;
 use module_endings::{Outcome, Place, Summary, outcomes};
 use module_lowering::NamespaceEntries;
-use module_summaries::Declares;
+use module_summaries::{Declares, summaries_of};
 use sqlite_items::Items;
 use std::alloc::{AllocError, Global};
 

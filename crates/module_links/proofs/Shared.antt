@@ -23,7 +23,7 @@ use Rattle.module_links.specs.declared.fault.LinkFault.{LinkFault}
 use Rattle.module_links.specs.declared.fault.LinkFault.TheVariants as faults
 use Rattle.module_links.specs.declared.summaries.Summaries.{Summaries}
 use Rattle.module_links.specs.Links.{AreLinked, AreSummed, IsFirstOf, IsLinkable, IsRefusal, IsTold, OwnLinks, Tells, graph_of}
-use Rattle.module_links.proofs.Lists.{length-push, take-one}
+use Rattle.module_summaries.proofs.Growing.{length-push, take-one}
 use Rattle.module_links.proofs.Resolved.{all-resolved, first-outcomes, first-refused, next-outcomes, targets_of}
 use Rattle.module_resolution.specs.Summaries.{summary_of}
 

@@ -5,8 +5,8 @@ use Rattle.es6_ast.specs.declared.graph.LoadedModule.{LoadedModule}
 use Rattle.es6_static_semantics.specs.Endings.{wants}
 use Rattle.module_endings.specs.declared.summary.Summary.{Summary}
 use Rattle.module_links.specs.Links.{AreSummed}
-use Rattle.module_links.proofs.Lists.{each-more, length-push, length-taken, take-one}
 use Rattle.module_resolution.specs.Summaries.{AreSummaries, summary_of}
+use Rattle.module_summaries.proofs.Growing.{each-more, length-push, length-taken, take-one}
 
 pub summed-more : (ms : List LoadedModule) (i : ℕ) (m : LoadedModule) (sums sums2 : List Summary) (offs offs2 : List (List ℕ)) (s : Summary) (o : List ℕ) → slice_get ms i ≡ Some m
     → AreSummed (take i ms) (record { summaries = sums; offsets = offs }) → s ≡ summary_of i m → o ≡ map (λ w. w.at) (wants m.tree) → sums2 ≡ sums ++ s ∷ [] → offs2 ≡ offs ++ o ∷ []

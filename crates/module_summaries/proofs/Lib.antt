@@ -1,3 +1,4 @@
+pub mod Growing
 pub mod Looking
 pub mod Maps
 pub mod Summing

@@ -6,8 +6,10 @@ mod exports;
 mod homes;
 mod imports;
 mod stars;
+mod summaries;
 mod summary;
 mod wants;
 
 pub use declares::Declares;
+pub use summaries::summaries_of;
 pub use summary::{Summarized, summary_of};

@@ -7,6 +7,6 @@ mod running;
 mod unread;
 
 pub use program_runs::RunEnd;
-pub use reading::{ReadScript, read_script};
+pub use reading::{ReadScript, read_script, script_of};
 pub use running::run_script;
 pub use unread::Unread;

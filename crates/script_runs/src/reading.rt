@@ -41,7 +41,7 @@ pub fn read_script<F: Files>(alloc: Global, path: &str, files: &mut F) -> Result
 }
 
 /// The script that these bytes are.
-fn script_of(alloc: Global, bytes: &[u8]) -> Result<ReadScript, Unread>
+pub fn script_of(alloc: Global, bytes: &[u8]) -> Result<ReadScript, Unread>
     ensures { MatchResult result
         (λ read. AreScript bytes.now read.script × (read.lines ≡ chars bytes.now))
         (IsUnread bytes.now) }

@@ -1,6 +1,7 @@
 use Rattle.std.proofs.Common.{◌≡◌, suc, ◌∷◌, ◌++◌, [], length, reverse, sym, ap, ◌∙◌, arith}
 use Rattle.module_links.specs.Zips.{zipped}
-use Rattle.module_links.proofs.Lists.{length-push, zipped-moved}
+use Rattle.module_links.proofs.Lists.{zipped-moved}
+use Rattle.module_summaries.proofs.Growing.{length-push}
 use Rattle.module_links.proofs.putting.relink.Goals as goal
 
 pub loop-module-preserved-in-Some-pop : goal.loop-module-preserved-in-Some-pop

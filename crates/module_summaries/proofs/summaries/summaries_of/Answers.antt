@@ -1,7 +1,7 @@
 use Rattle.std.proofs.Common.{Some, sym, ap, ◌∙◌, arith}
 use Rattle.std.proofs.lemmas.Option.{slice_get-get_or}
-use Rattle.graph_namespaces.proofs.Sharing.{summaries-more}
-use Rattle.graph_namespaces.proofs.known.summaries_of.Goals as goal
+use Rattle.module_summaries.proofs.Growing.{summaries-more}
+use Rattle.module_summaries.proofs.summaries.summaries_of.Goals as goal
 
 pub loop-index-preserved : goal.loop-index-preserved
 loop-index-preserved g c =

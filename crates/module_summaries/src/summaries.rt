@@ -1,16 +1,17 @@
-//! What is known of the modules: their summaries.
+//! The summaries of a graph's modules.
 
 ghost use Rattle.std.specs.Prelude.{◌≤◌, length, IfOk};
 ghost use Rattle.module_resolution.specs.Summaries.{AreSummaries};
 
+use crate::declares::Declares;
+use crate::summary::{Summarized, summary_of};
 use es6_ast::LoadedModule;
 use module_endings::Summary;
-use module_summaries::{Declares, Summarized, summary_of};
 use sqlite_items::Items;
 use std::alloc::{AllocError, Global};
 
-/// The summaries of the modules, in their order.
-pub(crate) fn summaries_of<D: Declares>(
+/// The summaries of the modules of a graph, in their order.
+pub fn summaries_of<D: Declares>(
     alloc: Global,
     modules: &[LoadedModule],
 ) -> Result<Items<Summary>, AllocError>
