@@ -40,7 +40,7 @@ drawn_size : (k : ℕ) (fresh : Fresh) → size (s.drawn k fresh).fresh ≡ size
 drawn_size zero fresh = omega arith
 drawn_size (suc k) fresh = let a = drawn_size k fresh in let b = length-append (s.drawn k fresh).fresh.hints (None ∷ []) in omega arith
 
-abbrev VarsBelow : ℕ → List Var → Type 0
+abbrev pub VarsBelow : ℕ → List Var → Type 0
 VarsBelow top xs = list_all (λ (x : Var). nat_lt x.0 top) xs ≡ true
 
 vars_one : (top : ℕ) (xs : List Var) (x : Var) → VarsBelow top xs → nat_lt x.0 top ≡ true → VarsBelow top (xs ++ x ∷ [])
@@ -74,7 +74,7 @@ between_both i lo mid hi c d l m h k = by_side (nat_lt i mid) refl
     by_side true e = let a = k.before (ltb-true i mid e) in let o = h.once in record { once = omega arith; before = λ n. (let z = h.before n in omega arith); behind = λ n. (let y = ltb-true i mid e in let z : ⊥ = omega arith in absurd z) }
     by_side false e = let a = h.behind (ltb-false i mid e) in let o = k.once in record { once = omega arith; before = λ n. (let y = ltb-false i mid e in let z : ⊥ = omega arith in absurd z); behind = λ n. (let z = k.behind n in omega arith) }
 
-numbers_more : (xs ys : List Var) → numbers (xs ++ ys) ≡ numbers xs ++ numbers ys
+pub numbers_more : (xs ys : List Var) → numbers (xs ++ ys) ≡ numbers xs ++ numbers ys
 numbers_more [] ys = refl
 numbers_more (x ∷ xs) ys = ap (λ ns. x.0 ∷ ns) (numbers_more xs ys)
 
@@ -131,23 +131,23 @@ turned ss round p top a f l n differ few under h b =
 
 -- ## Functions
 
-all_raised : (names top : ℕ) (is : List ℕ) → names ≤ top → list_all (λ i. nat_lt i names) is ≡ true → list_all (λ i. nat_lt i top) is ≡ true
+pub all_raised : (names top : ℕ) (is : List ℕ) → names ≤ top → list_all (λ i. nat_lt i names) is ≡ true → list_all (λ i. nat_lt i top) is ≡ true
 all_raised names top [] l h = refl
 all_raised names top (i ∷ is) l h = both (let a = ltb-true i names (left _ _ h) in lt-ltb i top (omega arith)) (all_raised names top is l (right _ _ h))
 
-all_left : (top : ℕ) (is js : List ℕ) → list_all (λ i. nat_lt i top) (is ++ js) ≡ true → list_all (λ i. nat_lt i top) is ≡ true
+pub all_left : (top : ℕ) (is js : List ℕ) → list_all (λ i. nat_lt i top) (is ++ js) ≡ true → list_all (λ i. nat_lt i top) is ≡ true
 all_left top [] js h = refl
 all_left top (i ∷ is) js h = both (left _ _ h) (all_left top is js (right _ _ h))
 
-all_right : (top : ℕ) (is js : List ℕ) → list_all (λ i. nat_lt i top) (is ++ js) ≡ true → list_all (λ i. nat_lt i top) js ≡ true
+pub all_right : (top : ℕ) (is js : List ℕ) → list_all (λ i. nat_lt i top) (is ++ js) ≡ true → list_all (λ i. nat_lt i top) js ≡ true
 all_right top [] js h = h
 all_right top (i ∷ is) js h = all_right top is js (right _ _ h)
 
-all_both : (top : ℕ) (is js : List ℕ) → list_all (λ i. nat_lt i top) is ≡ true → list_all (λ i. nat_lt i top) js ≡ true → list_all (λ i. nat_lt i top) (is ++ js) ≡ true
+pub all_both : (top : ℕ) (is js : List ℕ) → list_all (λ i. nat_lt i top) is ≡ true → list_all (λ i. nat_lt i top) js ≡ true → list_all (λ i. nat_lt i top) (is ++ js) ≡ true
 all_both top [] js h k = k
 all_both top (i ∷ is) js h k = both (left _ _ h) (all_both top is js (right _ _ h) k)
 
-vars_numbers : (top : ℕ) (xs : List Var) → VarsBelow top xs → list_all (λ i. nat_lt i top) (numbers xs) ≡ true
+pub vars_numbers : (top : ℕ) (xs : List Var) → VarsBelow top xs → list_all (λ i. nat_lt i top) (numbers xs) ≡ true
 vars_numbers top [] h = refl
 vars_numbers top (x ∷ xs) h = both (left _ _ h) (vars_numbers top xs (right _ _ h))
 
@@ -219,7 +219,7 @@ parts_grow : (xs made : List CorePart) (fresh : Fresh) → size fresh ≤ size (
 parts_grow [] made fresh = omega arith
 parts_grow (x ∷ xs) made fresh = let m = s.one_part x fresh in let a = part_grows x fresh in let b = parts_grow xs (made ++ m.made ∷ []) m.fresh in omega arith
 
-functions_one : (top hosts number : ℕ) (fs : List CoreFunction) (f : CoreFunction) → lawful.functions_lawful top hosts number fs ≡ true → lawful.function_lawful top hosts (number + length fs) f ≡ true → lawful.functions_lawful top hosts number (fs ++ f ∷ []) ≡ true
+pub functions_one : (top hosts number : ℕ) (fs : List CoreFunction) (f : CoreFunction) → lawful.functions_lawful top hosts number fs ≡ true → lawful.function_lawful top hosts (number + length fs) f ≡ true → lawful.functions_lawful top hosts number (fs ++ f ∷ []) ≡ true
 functions_one top hosts number [] f h k = both (subst (λ n. lawful.function_lawful top hosts n f ≡ true) (let a : number + 0 ≡ number = omega arith in a) k) refl
 functions_one top hosts number (g ∷ fs) f h k = both (left _ _ h) (functions_one top hosts (number + 1) fs f (right _ _ h) (subst (λ n. lawful.function_lawful top hosts n f ≡ true) (let a : number + suc (length fs) ≡ (number + 1) + length fs = omega arith in a) k))
 
@@ -259,16 +259,16 @@ part_weights such names hosts functions x fresh h =
     let a = weights_kept such p x.instantiate [] (lawful.round_part names hosts functions) (right _ _ (left _ _ h)) in
     let b = weights_kept such p x.body [] (lawful.round_part names hosts functions) (right _ _ h) in omega arith
 
-abbrev function_declares : CoreFunction → List ℕ
+abbrev pub function_declares : CoreFunction → List ℕ
 function_declares f = own_names f ++ declared_in (function_mentions f)
 
-abbrev part_declares : CorePart → List ℕ
+abbrev pub part_declares : CorePart → List ℕ
 part_declares x = scoped_numbers x.names ++ declared_in (part_mentions x)
 
-abbrev function_holds : CoreFunction → List ℕ
+abbrev pub function_holds : CoreFunction → List ℕ
 function_holds f = held_in (function_mentions f)
 
-abbrev part_holds : CorePart → List ℕ
+abbrev pub part_holds : CorePart → List ℕ
 part_holds x = held_in (part_mentions x)
 
 own_more : (i : ℕ) (f : CoreFunction) (names : List Var) → count i (own_names (s.with_slots f names)) ≡ count i (own_names f) + count i (numbers names)
@@ -307,7 +307,7 @@ part_counted i names hosts functions x fresh h =
     let d = part_declared i g in let e = part_declared i x in
     let w = part_weights (declaring i) names hosts functions x fresh h in omega arith
 
-flat_one : {A : Type 0} (i : ℕ) (f : A → List ℕ) (xs : List A) (y : A) → count i (flat_map f (xs ++ y ∷ [])) ≡ count i (flat_map f xs) + count i (f y)
+pub flat_one : {A : Type 0} (i : ℕ) (f : A → List ℕ) (xs : List A) (y : A) → count i (flat_map f (xs ++ y ∷ [])) ≡ count i (flat_map f xs) + count i (f y)
 flat_one i f [] y = let a = count_more i (f y) [] in omega arith
 flat_one i f (x ∷ xs) y = let a = count_more i (f x) (flat_map f (xs ++ y ∷ [])) in let b = count_more i (f x) (flat_map f xs) in let c = flat_one i f xs y in omega arith
 
@@ -362,7 +362,7 @@ function_none i names hosts number f l h =
     let e = stats_spared names (declaring i) k f.body (lawful.round_function names hosts number (is_generator f.kind)) n (right _ _ (left _ _ h)) in
     let g = stats_spared names (declaring i) k f.step (lawful.round_function names hosts number false) n (right _ _ h) in omega arith
 
-functions_none : (i names hosts number : ℕ) (fs : List CoreFunction) → names ≤ i → lawful.functions_lawful names hosts number fs ≡ true → count i (flat_map function_declares fs) ≡ 0
+pub functions_none : (i names hosts number : ℕ) (fs : List CoreFunction) → names ≤ i → lawful.functions_lawful names hosts number fs ≡ true → count i (flat_map function_declares fs) ≡ 0
 functions_none i names hosts number [] l h = refl
 functions_none i names hosts number (f ∷ fs) l h = let a = count_more i (function_declares f) (flat_map function_declares fs) in let b = function_none i names hosts number f l (left _ _ h) in let c = functions_none i names hosts (number + 1) fs l (right _ _ h) in omega arith
 
@@ -373,7 +373,7 @@ part_none i names hosts functions x l h =
     let c = part_declared i x in
     let d = stats_spared names (declaring i) k x.instantiate r n (right _ _ (left _ _ h)) in let e = stats_spared names (declaring i) k x.body r n (right _ _ h) in omega arith
 
-parts_none : (i names hosts functions : ℕ) (xs : List CorePart) → names ≤ i → list_all (lawful.part_lawful names hosts functions) xs ≡ true → count i (flat_map part_declares xs) ≡ 0
+pub parts_none : (i names hosts functions : ℕ) (xs : List CorePart) → names ≤ i → list_all (lawful.part_lawful names hosts functions) xs ≡ true → count i (flat_map part_declares xs) ≡ 0
 parts_none i names hosts functions [] l h = refl
 parts_none i names hosts functions (x ∷ xs) l h = let a = count_more i (part_declares x) (flat_map part_declares xs) in let b = part_none i names hosts functions x l (left _ _ h) in let c = parts_none i names hosts functions xs l (right _ _ h) in omega arith
 

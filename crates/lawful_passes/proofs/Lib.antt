@@ -14,3 +14,10 @@ pub mod Bounds
 pub mod Mentioned
 pub mod Kept
 pub mod Scoping
+pub mod Raised
+pub mod Stepping
+pub mod Inside
+pub mod Growing
+pub mod Bodies
+pub mod MachineWeights
+pub mod MachineKept

@@ -56,7 +56,7 @@ quiet_cells n (op.Primitive p) h = quiet_primitive n p h
 quiet_cells n o h = refl
 
 abbrev pub beyond : ℕ → Such
-beyond n = record { weighs = λ h. 0; acts = cells_over n; caught = λ x. over n x.0; scoped = scoped_over n; quiet = quiet_cells n; variable = λ x. refl; constant = λ c. refl }
+beyond n = record { weighs = λ h. 0; acts = cells_over n; caught = λ x. over n x.0; scoped = scoped_over n; quiet = quiet_cells n; variable = λ x. refl; constant = λ c. refl; list = refl; making = refl; unscoped = refl }
 
 not_over : (n i : ℕ) (b : Bool) → nat_lt i n ≡ b → over_by b ≡ 0 → nat_lt i n ≡ true
 not_over n i true e h = e

@@ -134,7 +134,7 @@ function_weight n (head.Function f) = one_of n f.0
 function_weight n h = 0
 
 abbrev pub holding : ℕ → Such
-holding n = record { weighs = function_weight n; acts = λ o. 0; caught = λ x. 0; scoped = λ ns. 0; quiet = λ o h. refl; variable = λ x. refl; constant = λ c. refl }
+holding n = record { weighs = function_weight n; acts = λ o. 0; caught = λ x. 0; scoped = λ ns. 0; quiet = λ o h. refl; variable = λ x. refl; constant = λ c. refl; list = refl; making = refl; unscoped = refl }
 
 ids_one : (fs : List FunctionId) (f : FunctionId) → map (λ (g : FunctionId). g.0) (fs ++ f ∷ []) ≡ map (λ (g : FunctionId). g.0) fs ++ f.0 ∷ []
 ids_one [] f = refl
@@ -177,7 +177,7 @@ held_tally n = record {
 -- ## Names that are declared
 
 abbrev pub declaring : ℕ → Such
-declaring n = record { weighs = λ h. 0; acts = λ o. 0; caught = λ x. one_of n x.0; scoped = λ ns. count n (scoped_numbers ns); quiet = λ o h. refl; variable = λ x. refl; constant = λ c. refl }
+declaring n = record { weighs = λ h. 0; acts = λ o. 0; caught = λ x. one_of n x.0; scoped = λ ns. count n (scoped_numbers ns); quiet = λ o h. refl; variable = λ x. refl; constant = λ c. refl; list = refl; making = refl; unscoped = refl }
 
 scoped_more : (xs ys : List ScopedName) → scoped_numbers (xs ++ ys) ≡ scoped_numbers xs ++ scoped_numbers ys
 scoped_more [] ys = refl

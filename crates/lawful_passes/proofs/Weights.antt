@@ -6,7 +6,7 @@ use Rattle.core_ast.specs.declared.parts.CoreHead.{CoreHead}
 use Rattle.core_ast.specs.declared.parts.CoreHead.TheVariants as head
 use Rattle.core_ast.specs.declared.parts.CoreOp.{CoreOp}
 use Rattle.core_ast.specs.declared.parts.CoreOp.TheVariants as op
-use Rattle.core_ast.specs.declared.parts.Primitive.TheVariants.{CellMake}
+use Rattle.core_ast.specs.declared.parts.Primitive.TheVariants.{CellMake, GeneratorMake}
 use Rattle.core_ast.specs.declared.parts.ScopedName.{ScopedName}
 use Rattle.core_ast.specs.declared.parts.Var.{Var}
 use Rattle.core_ast.specs.declared.tree.CoreExpr.{CoreExpr, fold-CoreExpr}
@@ -23,7 +23,7 @@ abbrev pub is_quiet : CoreOp → Bool
 is_quiet (op.Primitive (CellMake x)) = false
 is_quiet o = true
 
--- a name that is read and a constant never weigh
+-- a name that is read, a constant, a list of arguments, the making of a generator and a scope without names never weigh
 pub record Such : Type 0 where
   pub weighs : CoreHead → ℕ
   pub acts : CoreOp → ℕ
@@ -32,6 +32,9 @@ pub record Such : Type 0 where
   pub quiet : (o : CoreOp) → is_quiet o ≡ true → acts o ≡ 0
   pub variable : (x : Var) → weighs (head.Variable x) ≡ 0
   pub constant : (c : Constant) → weighs (head.Constant c) ≡ 0
+  pub list : weighs head.ArgumentList ≡ 0
+  pub making : weighs (head.Primitive GeneratorMake) ≡ 0
+  pub unscoped : scoped [] ≡ 0
 
 abbrev pub mark : Such → CoreOp → Option Site → ℕ
 mark such o site = such.acts o

@@ -2,9 +2,12 @@
 use Rattle.std.specs.Prelude.{ℕ}
 use Rattle.core_ast.specs.declared.whole.Core.{Core}
 use Rattle.core_ast.specs.Lawful.{IsLawfulFor}
+use Rattle.lawful_passes.specs.States.{StatesAreFew}
 use Rattle.lawful_passes.specs.Told.{LabelsDiffer}
 use Rattle.pass_rules.specs.Scopes.{without_scopes}
+use Rattle.pass_rules.specs.pass_laws.Levels.{IsWithin, nothing, yielding}
 use Rattle.pass_rules.specs.pass_laws.Operations.{AllSuch, no_content}
+use Rattle.pass_rules.specs.state_rules.States.{with_machines}
 use Rattle.pass_rules.specs.yield_rules.Yields.{with_yields_flat}
 
 -- Behind the flattening of yields, if labels differ: what stands in the test or the update of a loop comes to stand in its body.
@@ -21,3 +24,16 @@ abbrev pub BothKeepLaw : Type 0
 BothKeepLaw = (hosts : ℕ) (core : Core)
     → IsLawfulFor hosts core → AllSuch no_content core → LabelsDiffer core
     → IsLawfulFor hosts (with_yields_flat (without_scopes core))
+
+-- Behind the states of generators, if scopes and yields are flat, as the other two passes leave them, and states can be numbered.
+abbrev pub MachinesKeepLaw : Type 0
+MachinesKeepLaw = (hosts : ℕ) (core : Core)
+    → IsLawfulFor hosts core → IsWithin (yielding nothing) nothing core → StatesAreFew core
+    → IsLawfulFor hosts (with_machines core)
+
+-- So behind all three.
+abbrev pub AllKeepLaw : Type 0
+AllKeepLaw = (hosts : ℕ) (core : Core)
+    → IsLawfulFor hosts core → AllSuch no_content core → LabelsDiffer core
+    → StatesAreFew (with_yields_flat (without_scopes core))
+    → IsLawfulFor hosts (with_machines (with_yields_flat (without_scopes core)))

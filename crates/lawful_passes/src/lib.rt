@@ -1,7 +1,7 @@
 //! Laws of what the passes make of lawful cores. Each is the contract of a function that does nothing.
 #![tactic(auto)]
 
-ghost use Rattle.lawful_passes.specs.Laws.{BothKeepLaw, ScopesKeepLabels, YieldsKeepLaw};
+ghost use Rattle.lawful_passes.specs.Laws.{AllKeepLaw, BothKeepLaw, MachinesKeepLaw, ScopesKeepLabels, YieldsKeepLaw};
 
 /// A lawful core is lawful behind the flattening of yields, for as many hosts, if its labels differ.
 pub fn lawful_cores_stay_lawful_without_yields()
@@ -12,4 +12,10 @@ pub fn lawful_cores_stay_lawful_without_yields()
 pub fn lawful_cores_stay_lawful_without_scopes_and_yields()
     ensures labels { ScopesKeepLabels }
     ensures both { BothKeepLaw }
+{}
+
+/// What these leave of a lawful core is lawful where generators become machines, if their states can be numbered.
+pub fn lawful_cores_stay_lawful_with_machines()
+    ensures machines { MachinesKeepLaw }
+    ensures all { AllKeepLaw }
 {}
