@@ -1,0 +1,6 @@
+pub mod Fits
+pub mod Cells
+pub mod Scopes
+pub mod Machines
+pub mod Spilling
+pub mod Yields

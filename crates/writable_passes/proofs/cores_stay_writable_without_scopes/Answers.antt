@@ -1,0 +1,5 @@
+use Rattle.writable_passes.proofs.Scopes.{scopes_keep_writable}
+use Rattle.writable_passes.proofs.cores_stay_writable_without_scopes.Goals as goal
+
+pub returns : goal.returns
+returns c = scopes_keep_writable

@@ -1,0 +1,24 @@
+-- A core that can be written comes out of one.
+use Rattle.std.specs.Prelude.{ℕ}
+use Rattle.core_ast.specs.declared.whole.Core.{Core}
+use Rattle.emission_laws.specs.Writable.{IsWritableWith}
+use Rattle.pass_rules.specs.Scopes.{without_scopes}
+use Rattle.pass_rules.specs.state_rules.States.{with_machines}
+use Rattle.pass_rules.specs.yield_rules.Yields.{with_yields_flat}
+use Rattle.writable_passes.specs.Rooms.{LabelsHaveRoom, NamesFit, TurnsFit}
+
+-- Behind the flattening of scopes.
+abbrev pub ScopesKeepWritable : Type 0
+ScopesKeepWritable = (hosts : ℕ) (core : Core) → IsWritableWith hosts core → IsWritableWith hosts (without_scopes core)
+
+-- Behind that of yields, if the labels that it may make fit, and so many names.
+abbrev pub YieldsKeepWritable : Type 0
+YieldsKeepWritable = (hosts : ℕ) (core : Core)
+    → IsWritableWith hosts core → LabelsHaveRoom core → NamesFit hosts (with_yields_flat core)
+    → IsWritableWith hosts (with_yields_flat core)
+
+-- Behind the states of generators, if the labels of their turns fit, and so many names.
+abbrev pub MachinesKeepWritable : Type 0
+MachinesKeepWritable = (hosts : ℕ) (core : Core)
+    → IsWritableWith hosts core → TurnsFit core → NamesFit hosts (with_machines core)
+    → IsWritableWith hosts (with_machines core)
