@@ -27,3 +27,7 @@ pub mod Going
 pub mod Handled
 pub mod Classed
 pub mod Started
+pub mod FunctionKinds
+pub mod Faced
+pub mod Matched
+pub mod Kept

@@ -29,3 +29,6 @@ pub mod Going
 pub mod Handled
 pub mod Classed
 pub mod Started
+pub mod Ready
+pub mod Course
+pub mod Kept

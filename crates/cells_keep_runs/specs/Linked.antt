@@ -21,7 +21,7 @@ use Rattle.cells_keep_runs.specs.Alike.{Alike, Config}
 use Rattle.cells_keep_runs.specs.Memory.{Seats, cell_along}
 use Rattle.cells_keep_runs.specs.Opened.{link_in, opened}
 use Rattle.cells_keep_runs.specs.Related.{BelowCells, Currents, Frames, Related, Stand}
-use Rattle.cells_keep_runs.specs.Seen.{IsWrite, Sees}
+use Rattle.cells_keep_runs.specs.Seen.{Assigns, IsWrite, Sees}
 use Rattle.cells_keep_runs.specs.Ways.{Way}
 use Rattle.cells_keep_runs.specs.Writes.{IsHeld}
 
@@ -64,7 +64,7 @@ ReferencesAreReadAlike = (core core2 : Core) (owners : List ℕ) (seats : Seats)
 -- Then the source writes it in two steps, and the target's cell takes it.
 abbrev pub CellsTakeReads : Type 0
 CellsTakeReads = (core core2 : Core) (owners : List ℕ) (seats : Seats) (l : CoreLink) (links : List CoreLink) (x : Var) (site : Option Site) (v : CoreValue Mark) (r : Resolved Mark) (s t : CoreState)
-    → IsWrite l x site → is_shared owners x ≡ true → resolve s x ≡ Some r → r.binding.mutable ≡ true
+    → IsWrite l x site → is_shared owners x ≡ true → resolve s x ≡ Some r → (Assigns l x site → r.binding.mutable ≡ true)
     → Sees owners seats s.context.environment r.at x → IsHeld v
     → Stand owners seats s t → BelowCells owners seats s (l ∷ links) t
     → (k : ℕ) × (u : Config) × Way core 2 (Hand (Gives v)) (pushed (After (l ∷ links)) s) (Go (Has v) links) (stored_at r.at x v s)

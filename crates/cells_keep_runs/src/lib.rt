@@ -11,6 +11,7 @@ ghost use Rattle.cells_keep_runs.specs.Carried.{UntouchedKeepRelated};
 ghost use Rattle.cells_keep_runs.specs.Classed.{ClassesAreMadeAlike, HeritagesAreTakenAlike, MembersArePutAlike};
 ghost use Rattle.cells_keep_runs.specs.Closed.{ClosuresAreMadeAlike};
 ghost use Rattle.cells_keep_runs.specs.Copied.{CopiesBeginAlike};
+ghost use Rattle.cells_keep_runs.specs.Course.{StepsAreMatched};
 ghost use Rattle.cells_keep_runs.specs.Ended.{AbruptEndsAlike, CellsArePassed, ScopesArePassed, StatementsEndAlike};
 ghost use Rattle.cells_keep_runs.specs.Entered.{ScopesAreEnteredAlike};
 ghost use Rattle.cells_keep_runs.specs.Entries.{CallsAreRemembered};
@@ -18,6 +19,7 @@ ghost use Rattle.cells_keep_runs.specs.Given.{LinksTakeValues, PlainFramesTakeVa
 ghost use Rattle.cells_keep_runs.specs.Going.{OperationsGoOnAlike, PrimitivesBeginAlike};
 ghost use Rattle.cells_keep_runs.specs.Grown.{CellsStay, EnvironmentsStay, FramesStay};
 ghost use Rattle.cells_keep_runs.specs.Handled.{HandlersTakeThrows, ParametersAreRemembered};
+ghost use Rattle.cells_keep_runs.specs.Kept.{KindsStay, RunsAreKept};
 ghost use Rattle.cells_keep_runs.specs.Linked.{CellsTakeReads, CopiesAreDropped, CopiesGoOnAlike, LinksEndAlike, ReferencesAreReadAlike};
 ghost use Rattle.cells_keep_runs.specs.Links.{UntouchedLinksKeepRelated};
 ghost use Rattle.cells_keep_runs.specs.Opened.{BeginsOpenCells, CopiesAreMade};
@@ -241,4 +243,21 @@ pub fn statements_end_alike()
 /// The beginnings of a core's run and of that behind the flattening are related, if no name of a module's scopes is one of its own.
 pub fn beginnings_are_related()
     ensures { BeginningsAreRelated }
+{}
+
+/// Each step of the source from related configurations that are ready for it is matched: the target takes some steps too, or the source goes
+/// on alone out of scopes, or both ask or end alike, and they come to related configurations.
+pub fn steps_are_matched()
+    ensures { StepsAreMatched }
+{}
+
+/// A function is that of a derived class behind the flattening, or of none, as before.
+pub fn kinds_stay()
+    ensures { KindsStay }
+{}
+
+/// A core does behind the flattening what it did before: the same events, and the same ending, if each pair of configurations that the two
+/// runs come to is ready.
+pub fn runs_are_kept_where_ready()
+    ensures { RunsAreKept }
 {}
