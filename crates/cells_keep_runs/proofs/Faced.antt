@@ -119,7 +119,7 @@ module _ (owners : List ℕ) (seats : Seats) where
   -- where the source runs statements, the target does
   pub runs_too : (a b : Config) → R a b → IsRun a.control → IsRun b.control
   runs_too a b (at_same c bare stand r) is = absurd (no_run c bare is)
-  runs_too a b (at_copy n stand r) is = absurd is
+  runs_too a b (at_copy n drops stand r) is = absurd is
   runs_too a b (at_expression x stand r) is = absurd is
   runs_too a b (at_links ls currents stand below) is = absurd is
   runs_too a b (at_statements xs stand below) is = tt
@@ -129,7 +129,7 @@ module _ (owners : List ℕ) (seats : Seats) where
   -- where the source goes along links, the target does
   pub goes_too : (a b : Config) → R a b → IsGo a.control → IsGo b.control
   goes_too a b (at_same c bare stand r) is = absurd (no_go c bare is)
-  goes_too a b (at_copy n stand r) is = absurd is
+  goes_too a b (at_copy n drops stand r) is = absurd is
   goes_too a b (at_expression x stand r) is = absurd is
   goes_too a b (at_links ls currents stand below) is = tt
   goes_too a b (at_statements xs stand below) is = absurd is

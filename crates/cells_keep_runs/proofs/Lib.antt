@@ -15,6 +15,7 @@ pub mod Renewed
 pub mod Seen
 pub mod Entered
 pub mod Ended
+pub mod Inside
 pub mod Copied
 pub mod Entries
 pub mod Called

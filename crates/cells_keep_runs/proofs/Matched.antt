@@ -41,8 +41,8 @@ use Rattle.cells_keep_runs.specs.Handled.{handled_seats, handler_entered}
 use Rattle.cells_keep_runs.specs.Links.{IsUntouchedLink}
 use Rattle.cells_keep_runs.specs.Opened.{AllHold, Opened, link_in, opened, opened_by, write_in, written_by}
 use Rattle.cells_keep_runs.specs.Passed.{placed, scope_entered}
-use Rattle.cells_keep_runs.specs.Ready.{CallReady, ControlReady, DropsCopy, EndReady, GivesReady, GoesReady, HandReady, HandlerReady, HeadReady, IsThen, LinkReady, ListReady, PartsReady, ScopeReady, StatReady, WriteReady, Writes}
-use Rattle.cells_keep_runs.specs.Related.{BelowCells, BelowScopes, Currents, Frames, IsBare, PartCurrents, Related, Seats, Stand, Tail, Waits, WaitsAfter, WaitsBehind, WaitsDelegate, WaitsDelegateDone, WaitsDelegateStart, WaitsDelegateTurn, WaitsDelegateValue, WaitsHeritage, WaitsKeyed, WaitsPrototype, WaitsSpread, WaitsSpreadStep, WaitsSpreadValue, WaitsToStep, WaitsToStore, WaitsYield, a_scope, at_copy, at_exit, at_expression, at_links, at_same, at_statements, behind_copy, catching, cell_along, choice, derived, fetch, finishing, instantiates, loop_body, loop_test, loop_update, matching, no_scope, none, part, part_flat, past_cells, pending, plain, prototype, rest, restore, resumes, returning, same_current, same_part, starts, subject, target, then_part, throwing, waiting, waits, waits_for_cell}
+use Rattle.cells_keep_runs.specs.Ready.{CallReady, ControlReady, EndReady, GivesReady, GoesReady, HandReady, HandlerReady, HeadReady, LinkReady, ListReady, PartsReady, ScopeReady, StatReady, WriteReady, Writes}
+use Rattle.cells_keep_runs.specs.Related.{BelowCells, IsThen, BelowScopes, Currents, Frames, IsBare, PartCurrents, Related, Seats, Stand, Tail, Waits, WaitsAfter, WaitsBehind, WaitsDelegate, WaitsDelegateDone, WaitsDelegateStart, WaitsDelegateTurn, WaitsDelegateValue, WaitsHeritage, WaitsKeyed, WaitsPrototype, WaitsSpread, WaitsSpreadStep, WaitsSpreadValue, WaitsToStep, WaitsToStore, WaitsYield, a_scope, at_copy, at_exit, at_expression, at_links, at_same, at_statements, behind_copy, catching, cell_along, choice, derived, fetch, finishing, instantiates, loop_body, loop_test, loop_update, matching, no_scope, none, part, part_flat, past_cells, pending, plain, prototype, rest, restore, resumes, returning, same_current, same_part, starts, subject, target, then_part, throwing, waiting, waits, waits_for_cell}
 use Rattle.cells_keep_runs.specs.Seen.{IsWrite}
 use Rattle.cells_keep_runs.specs.Statements.{IsUntouchedStat}
 use Rattle.cells_keep_runs.specs.Taken.{TakesHere}
@@ -246,7 +246,7 @@ module _ (core core2 : Core) (owners : List ℕ) (seats : Seats) where
   head_by (head.Copy xs) x s t is ready holds stand r =
       from_matched (copied_seats owners seats ready.copyable.seat (record_at s.records ready.number) xs (length t.store.cells)) (with_control (Begin x) s) (with_control (Begin (expr_flat owners x)) t)
       (core_step core (with_control (Begin x) s)) (a_copy_more x xs ready refl is) refl
-      (copies_begin core core2 owners seats x xs ready.number ready.outer s t is ready.unwritten ready.innermost ready.copyable stand ready.stands)
+      (copies_begin core core2 owners seats x xs ready.number ready.outer s t is ready.unwritten ready.goes ready.innermost ready.copyable ready.inside stand r)
   head_by h x s t is ready holds stand r =
       matched_here (with_control (Begin x) s) (with_control (Begin (expr_flat owners x)) t) (heads_begin core core2 owners seats x s t (subst (λ z. IsUntouchedHead z) (sym is) tt) stand r holds)
 
@@ -453,16 +453,16 @@ module _ (core core2 : Core) (owners : List ℕ) (seats : Seats) where
       (λ b. a_step_each (with_control (Go (Has (User value.Undefined)) (l ∷ links)) s) (with_control (Go (Has (Extra (Cell n))) (flat l ∷ (opened owners (cell_along seats s.context.environment) links).links)) t)
       (copies_go_on core core2 owners seats n l links x site s t is stand b)) below
 
-  no_links : (c d : Current Mark) (s t : CoreState) → Currents c d → Stand owners seats s t → BelowCells owners seats s [] t → S (with_control (Go c []) s) (with_control (Go d []) t)
+  no_links : (c d : Current Mark) (s t : CoreState) → Currents s.context.frames [] c d → Stand owners seats s t → BelowCells owners seats s [] t → S (with_control (Go c []) s) (with_control (Go d []) t)
   no_links c d s t currents stand (gs, r, below) =
       a_step_each (with_control (Go c []) s) (with_control (Go d []) t) (links_end core core2 owners seats c d s t currents stand (subst (λ hs. At s.context.environment s.context.frames hs) (sym below) r))
 
-  links_by : (kinds : KindsAreKept core core2) (ls : List CoreLink) (c d : Current Mark) (s t : CoreState) → Currents c d → ControlReady core core2 owners seats s t (Go c ls)
-      → DropsCopy s.context.frames (Go c ls) (Go d (opened owners (cell_along seats s.context.environment) ls).links) → Stand owners seats s t → BelowCells owners seats s ls t
+  links_by : (kinds : KindsAreKept core core2) (ls : List CoreLink) (c d : Current Mark) (s t : CoreState) → Currents s.context.frames ls c d → ControlReady core core2 owners seats s t (Go c ls)
+      → Stand owners seats s t → BelowCells owners seats s ls t
       → S (with_control (Go c ls) s) (with_control (Go d (opened owners (cell_along seats s.context.environment) ls).links) t)
-  links_by kinds [] c d s t currents ready drops stand below = no_links c d s t currents stand below
-  links_by kinds (l ∷ links) c d s t same_current ready drops stand below = link_by kinds (out-CoreLink l) l links c s t refl ready stand below
-  links_by kinds (l ∷ links) c d s t (behind_copy {n = n}) ready drops stand below = copy_goes n l links s t drops stand below
+  links_by kinds [] c d s t currents ready stand below = no_links c d s t currents stand below
+  links_by kinds (l ∷ links) c d s t same_current ready stand below = link_by kinds (out-CoreLink l) l links c s t refl ready stand below
+  links_by kinds (l ∷ links) c d s t (behind_copy {n = n} drops) ready stand below = copy_goes n l links s t drops stand below
 
   -- ---- a value
 
@@ -637,17 +637,17 @@ module _ (core core2 : Core) (owners : List ℕ) (seats : Seats) where
   same_by (Go c ls) s t kinds bare ready stand r = absurd bare
   same_by (Run xs) s t kinds bare ready stand r = absurd bare
 
-  matched_by : (s t : Config) → KindsAreKept core core2 → R s t → ControlReady core core2 owners seats s.state t.state s.control → DropsCopy s.state.context.frames s.control t.control → S s t
-  matched_by s t kinds (at_same {s = a} {t = b} c bare stand r) ready drops = same_by c a b kinds bare ready stand r
-  matched_by s t kinds (at_copy {s = a} {t = b} n stand r) ready drops =
+  matched_by : (s t : Config) → KindsAreKept core core2 → R s t → ControlReady core core2 owners seats s.state t.state s.control → S s t
+  matched_by s t kinds (at_same {s = a} {t = b} c bare stand r) ready = same_by c a b kinds bare ready stand r
+  matched_by s t kinds (at_copy {s = a} {t = b} n drops stand r) ready =
       a_step_each (with_control (Hand (Gives (User value.Undefined))) a) (with_control (Hand (Gives (Extra (Cell n)))) b) (copies_dropped core core2 owners seats n a b drops stand r)
-  matched_by s t kinds (at_expression {s = a} {t = b} x stand r) ready drops = head_by (out-CoreExpr x).head x a b refl ready.1 ready.0 stand r
-  matched_by s t kinds (at_links {s = a} {t = b} {c = c} {d = d} ls currents stand below) ready drops = links_by kinds ls c d a b currents ready drops stand below
-  matched_by s t kinds (at_statements {s = a} {t = b} {ys = ys} xs stand below) ready drops = statements_by xs ys a b ready stand below
-  matched_by s t kinds (at_exit {s = a} {t = b} {ys = ys} c abrupt stand (e, gs, tail, r)) ready drops = exit_by c a.context.environment e a.context.frames gs ys a b abrupt ready stand tail r
-  matched_by s t kinds (past_cells {s = a} {t = b} c ls abrupt stand below) ready drops =
+  matched_by s t kinds (at_expression {s = a} {t = b} x stand r) ready = head_by (out-CoreExpr x).head x a b refl ready.1 ready.0 stand r
+  matched_by s t kinds (at_links {s = a} {t = b} {c = c} {d = d} ls currents stand below) ready = links_by kinds ls c d a b currents ready stand below
+  matched_by s t kinds (at_statements {s = a} {t = b} {ys = ys} xs stand below) ready = statements_by xs ys a b ready stand below
+  matched_by s t kinds (at_exit {s = a} {t = b} {ys = ys} c abrupt stand (e, gs, tail, r)) ready = exit_by c a.context.environment e a.context.frames gs ys a b abrupt ready stand tail r
+  matched_by s t kinds (past_cells {s = a} {t = b} c ls abrupt stand below) ready =
       let (k, gs, way, r) = cells_passed core2 owners seats c ls a b abrupt below in
       abrupt_here c gs a b k abrupt ready stand r way
 
 pub steps_matched : StepsAreMatched
-steps_matched core core2 owners seats s t kinds related ready = matched_by core core2 owners seats s t kinds related ready.next ready.dropped
+steps_matched core core2 owners seats s t kinds related ready = matched_by core core2 owners seats s t kinds related ready

@@ -35,7 +35,7 @@ pub data NewSeats (core core2 : Core) (owners : List ℕ) (seats : Seats) (s t :
   a_scope_more : (x : CoreStat) (xs body : List CoreStat) (names : List ScopedName) (r : ScopeReady owners seats s.state t.state names)
       → s.control ≡ Run (x ∷ xs) → out-CoreStat x ≡ layer.Scoped names body
       → NewSeats core core2 owners seats s t (entered_seats seats r.home names (length t.state.store.cells))
-  a_copy_more : (x : CoreExpr) (xs : List Var) (r : CopyReady owners seats s.state t.state xs (out-CoreExpr x).links)
+  a_copy_more : (x : CoreExpr) (xs : List Var) (r : CopyReady owners seats s.state xs (out-CoreExpr x).links)
       → s.control ≡ Begin x → (out-CoreExpr x).head ≡ head.Copy xs
       → NewSeats core core2 owners seats s t (copied_seats owners seats r.copyable.seat (record_at s.state.records r.number) xs (length t.state.store.cells))
   a_call_more : (c : Call) (r : ClosureCall core core2 owners seats c s.state t.state) → s.control ≡ Calls c

@@ -20,7 +20,7 @@ use Rattle.runs.specs.Simulation.{Reaches}
 use Rattle.cells_keep_runs.specs.Alike.{Alike, Config}
 use Rattle.cells_keep_runs.specs.Memory.{Seats, cell_along}
 use Rattle.cells_keep_runs.specs.Opened.{link_in, opened}
-use Rattle.cells_keep_runs.specs.Related.{BelowCells, Currents, Frames, Related, Stand}
+use Rattle.cells_keep_runs.specs.Related.{BelowCells, Currents, DropsHere, Frames, Related, Stand}
 use Rattle.cells_keep_runs.specs.Seen.{Assigns, IsWrite, Sees}
 use Rattle.cells_keep_runs.specs.Ways.{Way}
 use Rattle.cells_keep_runs.specs.Writes.{IsHeld}
@@ -28,17 +28,11 @@ use Rattle.cells_keep_runs.specs.Writes.{IsHeld}
 -- At the end of links both hand the value on, or read the reference.
 abbrev pub LinksEndAlike : Type 0
 LinksEndAlike = (core core2 : Core) (owners : List ℕ) (seats : Seats) (c d : Current Mark) (s t : CoreState)
-    → Currents c d → Stand owners seats s t → Frames owners seats s.context.environment s.context.frames t.context.frames
+    → Currents s.context.frames [] c d → Stand owners seats s t → Frames owners seats s.context.environment s.context.frames t.context.frames
     → Alike (Related owners seats) (core_step core (with_control (Go c []) s)) (core_step core2 (with_control (Go d []) t))
 
 abbrev pub copy_behind : CoreState → ℕ → Config
 copy_behind t n = with_control (Hand (Gives (Extra (Cell n)))) t
-
--- a list of statements goes on, or a loop
-abbrev pub DropsHere : List (Frame Mark CoreWork) → Type 0
-DropsHere (Rest xs ∷ fs) = Unit {0}
-DropsHere (LoopUpdate l ∷ fs) = Unit {0}
-DropsHere fs = ⊥
 
 -- What a copy gives is dropped, whether it is undefined or a cell,
 abbrev pub CopiesAreDropped : Type 0

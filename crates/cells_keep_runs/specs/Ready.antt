@@ -1,5 +1,5 @@
--- What the laws of the steps ask of two related configurations, by what the next step does. Names are found where they are mentioned, what
--- makes a record may make it, and what a copy gives is dropped.
+-- What the laws of the steps ask of two related configurations, by what the next step does. Names are found where they are mentioned, and
+-- what makes a record may make it.
 use Rattle.std.specs.Prelude.{◌≡◌, ◌⊎◌, true, false, List, [], ◌∷◌, ◌++◌, map, Option, None, Some, ℕ}
 use Rattle.es_outside.specs.declared.events.Site.{Site}
 use Rattle.es_value.specs.declared.value.Value.TheVariants as value
@@ -29,11 +29,10 @@ use Rattle.cells_keep_runs.specs.Acted.{IsAlikeOp}
 use Rattle.cells_keep_runs.specs.Alike.{Config}
 use Rattle.cells_keep_runs.specs.Called.{ArgumentsBound, Enters, bindings_of}
 use Rattle.cells_keep_runs.specs.Classed.{ClassSeen, SeenIn}
-use Rattle.cells_keep_runs.specs.Copied.{AtScope, Copyable, NoWrites}
+use Rattle.cells_keep_runs.specs.Copied.{Copyable, GoesToThen, InScope, NoWrites}
 use Rattle.cells_keep_runs.specs.Entered.{AllAt, reset_of}
 use Rattle.cells_keep_runs.specs.Entries.{NewCall}
 use Rattle.cells_keep_runs.specs.Going.{IsAlikeHead}
-use Rattle.cells_keep_runs.specs.Linked.{DropsHere}
 use Rattle.cells_keep_runs.specs.Memory.{Seats, cell_along}
 use Rattle.cells_keep_runs.specs.Opened.{AllHold, write_in}
 use Rattle.cells_keep_runs.specs.Related.{Closures}
@@ -72,13 +71,14 @@ pub record HandlerReady (owners : List ℕ) (seats : Seats) (s t : CoreState) (x
   pub apart : is_among x (vars names) ≡ false
 
 -- a copy of the innermost record
-pub record CopyReady (owners : List ℕ) (seats : Seats) (s t : CoreState) (xs : List Var) (links : List CoreLink) : Type 0 where
+pub record CopyReady (owners : List ℕ) (seats : Seats) (s : CoreState) (xs : List Var) (links : List CoreLink) : Type 0 where
   pub number : ℕ
   pub outer : Environment
   pub innermost : s.context.environment ≡ number ∷ outer
   pub unwritten : NoWrites owners links
+  pub goes : GoesToThen links
   pub copyable : Copyable owners seats s.records s.context.environment number xs
-  pub stands : AtScope owners seats outer s.context.frames t.context.frames
+  pub inside : InScope s.context.frames
 
 pub record ClosureCall (core core2 : Core) (owners : List ℕ) (seats : Seats) (c : Call) (s t : CoreState) : Type 0 where
   pub before : Closure Own
@@ -117,7 +117,7 @@ HeadReady core core2 owners seats s t links (head.Variable y) =
 HeadReady core core2 owners seats s t links (head.TypeOf y) = ⊥
 HeadReady core core2 owners seats s t links (head.Function f) = ClassSeen core core2 owners seats s f
 HeadReady core core2 owners seats s t links (head.Primitive p) = IsAlikeHead p
-HeadReady core core2 owners seats s t links (head.Copy xs) = CopyReady owners seats s t xs links
+HeadReady core core2 owners seats s t links (head.Copy xs) = CopyReady owners seats s xs links
 HeadReady core core2 owners seats s t links h = Unit {0}
 
 abbrev pub GoesReady : List ℕ → Seats → CoreState → Current Mark → CoreLink → CoreOp → Type 0
@@ -176,17 +176,5 @@ ControlReady core core2 owners seats s t (Turn site c) = Unit {0}
 ControlReady core core2 owners seats s t (Calls c) = CallReady core core2 owners seats c s t
 ControlReady core core2 owners seats s t (Hand c) = HandReady core core2 owners seats s t c
 
--- ---- copies
-
-abbrev pub IsThen : CoreLink-F CoreLink CoreStat CoreCase CoreExpr → Type 0
-IsThen y = (x : CoreExpr) × (site : Option Site) × (y ≡ layer.Strict op.Then (x ∷ []) site)
-
--- where the target has a cell in the place of undefined, it is dropped
-abbrev pub DropsCopy : List (Frame Mark CoreWork) → Control Mark → Control Mark → Type 0
-DropsCopy fs (Hand (Gives (User value.Undefined))) (Hand (Gives (Extra (Cell n)))) = DropsHere fs
-DropsCopy fs (Go (Has (User value.Undefined)) (l ∷ links)) (Go (Has (Extra (Cell n))) ls) = IsThen (out-CoreLink l)
-DropsCopy fs c d = Unit {0}
-
-pub record Ready (core core2 : Core) (owners : List ℕ) (seats : Seats) (s t : Config) : Type 0 where
-  pub next : ControlReady core core2 owners seats s.state t.state s.control
-  pub dropped : DropsCopy s.state.context.frames s.control t.control
+abbrev pub Ready : Core → Core → List ℕ → Seats → Config → Config → Type 0
+Ready core core2 owners seats s t = ControlReady core core2 owners seats s.state t.state s.control

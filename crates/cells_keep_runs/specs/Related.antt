@@ -6,6 +6,7 @@
 -- statements stand behind those of the target's Rest. A shared name that an expression writes waits as a frame of its own. And where
 -- a frame would wait with no links but for such a name, there may be none.
 use Rattle.std.specs.Prelude.{◌≡◌, List, [], ◌∷◌, ◌++◌, map, Option, Some, length, ℕ}
+use Rattle.es_outside.specs.declared.events.Site.{Site}
 use Rattle.es_value.specs.declared.value.Value.{Value}
 use Rattle.es_value.specs.declared.value.Value.TheVariants as value
 use Rattle.es_heap.specs.declared.key.Key.{Key}
@@ -20,6 +21,8 @@ use Rattle.core_ast.specs.declared.parts.Var.{Var}
 use Rattle.core_ast.specs.declared.tree.CoreCase.{CoreCase}
 use Rattle.core_ast.specs.declared.tree.CoreExpr.{CoreExpr}
 use Rattle.core_ast.specs.declared.tree.CoreLink.{CoreLink, out-CoreLink}
+use Rattle.core_ast.specs.declared.tree.CoreLink.TheOpen as layer
+use Rattle.core_ast.specs.declared.tree.CoreLink.TheOpen.{CoreLink-F}
 use Rattle.core_ast.specs.declared.tree.CoreStat.{CoreStat}
 use Rattle.core_meaning.specs.Marks.{AtStart, AtYield, Cell, Completed, CoreList, CoreState, CoreStore, CoreStrict, CoreWork, DelegateDone, DelegateStart, DelegateTurn, DelegateValue, Delegates, Derived, Executing, Generator, Heritage, Instantiates, KeptCell, Mark, Own, Prototype, PrototypeFor, Resumes, SpreadStart, SpreadStep, SpreadValue, Starts, YieldsIn, sorts}
 use Rattle.core_meaning.specs.Rows.{with_control}
@@ -87,10 +90,24 @@ pub data Tail (owners : List ℕ) (seats : Seats) : Environment → List (Frame 
       → IsScope seats n → Tail owners seats e fs ys e2 gs
       → Tail owners seats (n ∷ e) (Restore e ∷ Rest xs ∷ fs) (stats_flat owners xs ++ ys) e2 gs
 
--- the value that a part waits with: behind a copy it is a cell in the place of undefined
-pub data Currents : Current Mark → Current Mark → Type 0 where
-  same_current : {c : Current Mark} → Currents c c
-  behind_copy : {n : ℕ} → Currents (Has (User value.Undefined)) (Has (Extra (Cell n)))
+-- a value is dropped: a list of statements goes on, or a loop
+abbrev pub DropsHere : List (Frame Mark CoreWork) → Type 0
+DropsHere (Rest xs ∷ fs) = Unit {0}
+DropsHere (LoopUpdate l ∷ fs) = Unit {0}
+DropsHere fs = ⊥
+
+-- or another expression follows
+abbrev pub IsThen : CoreLink-F CoreLink CoreStat CoreCase CoreExpr → Type 0
+IsThen y = (x : CoreExpr) × (site : Option Site) × (y ≡ layer.Strict op.Then (x ∷ []) site)
+
+abbrev pub Drops : List (Frame Mark CoreWork) → List CoreLink → Type 0
+Drops fs [] = DropsHere fs
+Drops fs (l ∷ links) = IsThen (out-CoreLink l)
+
+-- the value that goes on along links: behind a copy it is a cell in the place of undefined, and is dropped
+pub data Currents (fs : List (Frame Mark CoreWork)) (links : List CoreLink) : Current Mark → Current Mark → Type 0 where
+  same_current : {c : Current Mark} → Currents fs links c c
+  behind_copy : {n : ℕ} → Drops fs links → Currents fs links (Has (User value.Undefined)) (Has (Extra (Cell n)))
 
 -- so does an operation whose parts are evaluated, if it drops it
 pub data PartCurrents (o : CoreOp) (c d : Current Mark) : Type 0 where
@@ -270,13 +287,13 @@ pub data Related (owners : List ℕ) (seats : Seats) : Configuration sorts CoreS
       → Frames owners seats s.context.environment s.context.frames t.context.frames
       → Related owners seats (with_control c s) (with_control c t)
   -- behind a copy a cell is handed in the place of undefined
-  at_copy : {s t : CoreState} (n : ℕ) → Stand owners seats s t
+  at_copy : {s t : CoreState} (n : ℕ) → DropsHere s.context.frames → Stand owners seats s t
       → Frames owners seats s.context.environment s.context.frames t.context.frames
       → Related owners seats (with_control (Hand (Gives (User value.Undefined))) s) (with_control (Hand (Gives (Extra (Cell n)))) t)
   at_expression : {s t : CoreState} (x : CoreExpr) → Stand owners seats s t
       → Frames owners seats s.context.environment s.context.frames t.context.frames
       → Related owners seats (with_control (Begin x) s) (with_control (Begin (expr_flat owners x)) t)
-  at_links : {s t : CoreState} {c d : Current Mark} (ls : List CoreLink) → Currents c d → Stand owners seats s t
+  at_links : {s t : CoreState} {c d : Current Mark} (ls : List CoreLink) → Currents s.context.frames ls c d → Stand owners seats s t
       → BelowCells owners seats s ls t
       → Related owners seats (with_control (Go c ls) s)
       (with_control (Go d (opened owners (cell_along seats s.context.environment) ls).links) t)
