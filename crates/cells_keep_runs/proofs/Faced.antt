@@ -21,7 +21,7 @@ use Rattle.pass_rules.specs.Scopes.{reset, stats_flat}
 use Rattle.cells_keep_runs.specs.Acted.{IsAlikeOp}
 use Rattle.cells_keep_runs.specs.Alike.{Config, IsPlain}
 use Rattle.cells_keep_runs.specs.Ended.{PassesHere}
-use Rattle.cells_keep_runs.specs.Ready.{OpReady, PartsReady}
+use Rattle.cells_keep_runs.specs.Ready.{Keeping, OpReady, PartsReady}
 use Rattle.cells_keep_runs.specs.Related.{Frames, IsBare, Related, Seats, Waits, WaitsAfter, WaitsBehind, WaitsDelegate, WaitsDelegateDone, WaitsDelegateStart, WaitsDelegateTurn, WaitsDelegateValue, WaitsHeritage, WaitsKeyed, WaitsPrototype, WaitsSpread, WaitsSpreadStep, WaitsSpreadValue, WaitsToStep, WaitsToStore, WaitsYield, at_copy, at_exit, at_expression, at_links, at_same, at_statements, catching, choice, derived, fetch, finishing, instantiates, loop_body, loop_test, loop_update, matching, none, part, past_cells, pending, plain, prototype, rest, restore, resumes, returning, starts, subject, target, throwing, waiting, waits, waits_for_cell}
 
 abbrev Frames1 : Type 0
@@ -100,10 +100,10 @@ op_view (op.Primitive primitive.MethodPut) is = op_member primitive.MethodPut re
 op_view (op.Primitive primitive.AccessorPut) is = op_member primitive.AccessorPut refl (inr refl)
 op_view o is = op_alike is
 
-pub parts_ready : (core core2 : Core) (owners : List ℕ) (seats : Seats) (s : CoreState) (o : CoreOp) (values : List (CoreValue Mark)) (parts : List CoreExpr)
-    → PartsReady core core2 owners seats s o values parts → OpReady o
-parts_ready core core2 owners seats s (op.Primitive primitive.ClassMake) values [] is = tt
-parts_ready core core2 owners seats s o values parts is = is
+pub parts_ready : (core : Core) (kept : Keeping) (owners : List ℕ) (seats : Seats) (s : CoreState) (o : CoreOp) (values : List (CoreValue Mark)) (parts : List CoreExpr)
+    → PartsReady core kept owners seats s o values parts → OpReady o
+parts_ready core kept owners seats s (op.Primitive primitive.ClassMake) values [] is = tt
+parts_ready core kept owners seats s o values parts is = is
 
 pub empty_list : (core : Core) (s : CoreState) → core_step core (with_control (Run []) s) ≡ Goes (with_control (Hand Done) s)
 unfolding step

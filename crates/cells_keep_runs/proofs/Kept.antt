@@ -11,11 +11,11 @@ use Rattle.core_meaning.specs.Modules.{core_step, start}
 use Rattle.pass_rules.specs.Scopes.{without_scopes}
 use Rattle.cells_keep_runs.specs.Alike.{Config}
 use Rattle.cells_keep_runs.specs.Course.{StepMatched, alone, answered, asks, begun, ends, gone_on, leaves, measure, no_more, together}
-use Rattle.cells_keep_runs.specs.Kept.{AllReady, IsReached, RunsAreKept, first_seats}
+use Rattle.cells_keep_runs.specs.Kept.{AllReady, IsReached, RunsAreKept, first_seats, kept_of}
 use Rattle.cells_keep_runs.specs.Memory.{Seats}
 use Rattle.cells_keep_runs.specs.Related.{Related}
 use Rattle.cells_keep_runs.specs.Started.{owners_of}
-use Rattle.cells_keep_runs.proofs.FunctionKinds.{kinds_stay}
+use Rattle.cells_keep_runs.proofs.FunctionKinds.{functions_flattened, kinds_stay}
 use Rattle.cells_keep_runs.proofs.Matched.{steps_matched}
 use Rattle.cells_keep_runs.proofs.Started.{beginnings}
 
@@ -45,7 +45,7 @@ module _ (core : Core) (ready : AllReady core) where
   here seats s t reached related = record { seats = seats; ahead = s; steps = 0; way = refl; reached = reached; related = related }
 
   -- at a reached pair
-  by_step : (seats : Seats) (s t : Config) → IsReached core seats s t → StepMatched core core2 owners seats s t → Matches (measure s) (core_step core s) t
+  by_step : (seats : Seats) (s t : Config) → IsReached core seats s t → StepMatched core core2 (kept_of core) owners seats s t → Matches (measure s) (core_step core s) t
   by_step seats s t reached (together k j s2 t2 (v, is, way) way2 (seats2, new, related)) =
       let side : Side v t2 = record { seats = seats2; ahead = s2; steps = k; way = way; reached = gone_on k (suc j) reached (v, is, way) way2 new related; related = related } in
       subst (λ n. Matches (measure s) n t) (sym is) (suc j, t2, way2, side, λ none. absurd (omega arith))
@@ -62,7 +62,7 @@ module _ (core : Core) (ready : AllReady core) where
       → Matches (steps + measure ahead) (core_step core s) t
   matched_at s t seats ahead zero way reached related =
       let at : Matches (measure ahead) (core_step core ahead) t =
-      by_step seats ahead t reached (steps_matched core core2 owners seats ahead t (kinds_stay core) related (ready seats ahead t reached)) in
+      by_step seats ahead t reached (steps_matched core core2 (kept_of core) owners seats ahead t (functions_flattened core) (kinds_stay core) related (ready seats ahead t reached)) in
       let none : measure ahead ≡ 0 + measure ahead = omega arith in
       subst (λ a. Matches (0 + measure ahead) (core_step core a) t) (sym way) (subst (λ r. Matches r (core_step core ahead) t) none at)
   matched_at s t seats ahead (suc steps) (v, is, way) reached related =

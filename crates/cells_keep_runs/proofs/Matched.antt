@@ -41,7 +41,7 @@ use Rattle.cells_keep_runs.specs.Handled.{handled_seats, handler_entered}
 use Rattle.cells_keep_runs.specs.Links.{IsUntouchedLink}
 use Rattle.cells_keep_runs.specs.Opened.{AllHold, Opened, link_in, opened, opened_by, write_in, written_by}
 use Rattle.cells_keep_runs.specs.Passed.{placed, scope_entered}
-use Rattle.cells_keep_runs.specs.Ready.{CallReady, ControlReady, EndReady, GivesReady, GoesReady, HandReady, HandlerReady, HeadReady, LinkReady, ListReady, PartsReady, ScopeReady, StatReady, WriteReady, Writes}
+use Rattle.cells_keep_runs.specs.Ready.{AreFlattened, CallReady, ControlReady, EndReady, GivesReady, GoesReady, HandReady, HandlerReady, HeadReady, Keeping, LinkReady, ListReady, PartsReady, ScopeReady, StatReady, WriteReady, Writes}
 use Rattle.cells_keep_runs.specs.Related.{BelowCells, IsThen, BelowScopes, Currents, Frames, IsBare, PartCurrents, Related, Seats, Stand, Tail, Waits, WaitsAfter, WaitsBehind, WaitsDelegate, WaitsDelegateDone, WaitsDelegateStart, WaitsDelegateTurn, WaitsDelegateValue, WaitsHeritage, WaitsKeyed, WaitsPrototype, WaitsSpread, WaitsSpreadStep, WaitsSpreadValue, WaitsToStep, WaitsToStore, WaitsYield, a_scope, at_copy, at_exit, at_expression, at_links, at_same, at_statements, behind_copy, catching, cell_along, choice, derived, fetch, finishing, instantiates, loop_body, loop_test, loop_update, matching, no_scope, none, part, part_flat, past_cells, pending, plain, prototype, rest, restore, resumes, returning, same_current, same_part, starts, subject, target, then_part, throwing, waiting, waits, waits_for_cell}
 use Rattle.cells_keep_runs.specs.Seen.{IsWrite}
 use Rattle.cells_keep_runs.specs.Statements.{IsUntouchedStat}
@@ -62,6 +62,7 @@ use Rattle.cells_keep_runs.proofs.Handled.{handlers_take}
 use Rattle.cells_keep_runs.proofs.Linked.{cells_take, copies_dropped, copies_go_on, links_end, references_read}
 use Rattle.cells_keep_runs.proofs.Links.{after_frames, flat_layer, layer_of, links_go, part_frames}
 use Rattle.cells_keep_runs.proofs.Passed.{ended, past_rest, past_restore}
+use Rattle.cells_keep_runs.proofs.Readied.{all_hold, class_seen, closures_of, enters_of, new_scope, seen_in}
 use Rattle.cells_keep_runs.proofs.Seen.{further, names_read, names_written, write_is}
 use Rattle.cells_keep_runs.proofs.Statements.{statements_begin}
 use Rattle.cells_keep_runs.proofs.Taken.{values_taken}
@@ -70,19 +71,19 @@ use Rattle.cells_keep_runs.proofs.Turned.{contexts_end, leaves_scope, other_call
 abbrev Frames1 : Type 0
 Frames1 = List (Frame Mark CoreWork)
 
-module _ (core core2 : Core) (owners : List ℕ) (seats : Seats) where
+module _ (core core2 : Core) (kept : Keeping) (owners : List ℕ) (seats : Seats) (flattened : AreFlattened core core2 owners kept) where
   abbrev R : Config → Config → Type 0
   R = Related owners seats
 
   abbrev S : Config → Config → Type 0
-  S = StepMatched core core2 owners seats
+  S = StepMatched core core2 kept owners seats
 
   abbrev At : Environment → Frames1 → Frames1 → Type 0
   At = Frames owners seats
 
   -- ---- from what the laws of the steps say
 
-  from_matched : (seats2 : Seats) (s t : Config) (n : CoreNext) → NewSeats core core2 owners seats s t seats2 → core_step core s ≡ n → Matched (Related owners seats2) core2 n t → S s t
+  from_matched : (seats2 : Seats) (s t : Config) (n : CoreNext) → NewSeats core kept owners seats s t seats2 → core_step core s ≡ n → Matched (Related owners seats2) core2 n t → S s t
   from_matched seats2 s t (Goes s2) new is (k, u, way, r) = together 0 k s2 u (s2, is, refl) way (seats2, new, r)
   from_matched seats2 s t (Asks e follow) new is (k, u, follow2, way, is2, r) = asks k u e follow follow2 is way is2 (λ a. (seats2, new, r a))
   from_matched seats2 s t (Ends ending) new is (k, u, way, is2) = ends k u ending is way is2
@@ -104,7 +105,7 @@ module _ (core core2 : Core) (owners : List ℕ) (seats : Seats) where
   -- ---- a throw, a return or a jump
 
   handler_takes : (e : Environment) (v : Value) (x : Var) (names : List ScopedName) (handler : List CoreStat) (fs below : Frames1) (s t u : CoreState) (k : ℕ)
-      → (ready : HandlerReady owners seats (placed e (Catching x names handler ∷ fs) s) t x names)
+      → (ready : HandlerReady owners seats (placed e (Catching x names handler ∷ fs) s) x names)
       → Stand owners seats (placed e (Catching x names handler ∷ fs) s) t → At e fs below
       → u ≡ with_frames (Catching x [] (map reset names ++ stats_flat owners handler) ∷ below) t
       → Way core2 k (Hand (Throws v)) t (Hand (Throws v)) u
@@ -114,7 +115,7 @@ module _ (core core2 : Core) (owners : List ℕ) (seats : Seats) where
       let s2 : CoreState = placed e fs s in
       let t2 : CoreState = with_frames below t in
       let stand2 : Stand owners seats s2 t2 = stand_under core core2 owners seats e all t.context.frames fs below s t stand in
-      let a = handlers_take core core2 owners seats ready.pattern.home x names handler v s2 t2 ready.pattern.scope ready.pattern.at ready.apart stand2 r in
+      let a = handlers_take core core2 owners seats ready.pattern.home x names handler v s2 t2 (new_scope owners seats (placed e all s) t names stand ready.pattern) ready.pattern.at ready.apart stand2 r in
       let way2 : Way core2 k (Hand (Throws v)) t (Hand (Throws v)) (pushed (Catching x [] (map reset names ++ stats_flat owners handler)) t2) = subst (λ z. Way core2 k (Hand (Throws v)) t (Hand (Throws v)) z) is way in
       handled a.0 a.1 a.2 way2 a.3 a.4
     where
@@ -133,7 +134,7 @@ module _ (core core2 : Core) (owners : List ℕ) (seats : Seats) where
           (handled_seats seats (length t.records) x ready.pattern.home names (length t.store.cells), a_handler_more v x names handler fs ready refl refl, related)
 
   -- behind so many steps of the target that both stand at the same
-  abrupt_by : (e : Environment) (c : Completion Mark) (fs gs : Frames1) (s t : CoreState) (k : ℕ) → IsAbrupt c → HandReady core core2 owners seats (placed e fs s) t c
+  abrupt_by : (e : Environment) (c : Completion Mark) (fs gs : Frames1) (s t : CoreState) (k : ℕ) → IsAbrupt c → HandReady core kept owners seats (placed e fs s) c
       → Stand owners seats (placed e fs s) t → At e fs gs → Way core2 k (Hand c) t (Hand c) (with_frames gs t) → Faces c fs
       → S (with_control (Hand c) (placed e fs s)) (with_control (Hand c) t)
   abrupt_by e c fs gs s t k is ready stand r way (faces_end empty) =
@@ -152,16 +153,16 @@ module _ (core core2 : Core) (owners : List ℕ) (seats : Seats) where
           subst (λ d. S (with_control (Hand d) (placed e fs s)) (with_control (Hand d) t)) (sym c2)
           (subst (λ hs. S (with_control (Hand (Throws v)) (placed e hs s)) (with_control (Hand (Throws v)) t)) (sym fs3)
           (handler_takes e v x names handler fs2 below s t (with_frames gs t) k
-          (subst (λ hs. HandReady core core2 owners seats (placed e hs s) t (Throws v)) fs3 (subst (λ d. HandReady core core2 owners seats (placed e fs s) t d) c2 ready))
+          (subst (λ hs. HandReady core kept owners seats (placed e hs s) (Throws v)) fs3 (subst (λ d. HandReady core kept owners seats (placed e fs s) d) c2 ready))
           (subst (λ hs. Stand owners seats (placed e hs s) t) fs3 stand) r2 u_is (subst (λ d. Way core2 k (Hand d) t (Hand d) (with_frames gs t)) c2 way)))
 
-  abrupt_here : (c : Completion Mark) (gs : Frames1) (s t : CoreState) (k : ℕ) → IsAbrupt c → HandReady core core2 owners seats s t c
+  abrupt_here : (c : Completion Mark) (gs : Frames1) (s t : CoreState) (k : ℕ) → IsAbrupt c → HandReady core kept owners seats s c
       → Stand owners seats s t → At s.context.environment s.context.frames gs → Way core2 k (Hand c) t (Hand c) (with_frames gs t)
       → S (with_control (Hand c) s) (with_control (Hand c) t)
   abrupt_here c gs s t k is ready stand r way = abrupt_by s.context.environment c s.context.frames gs s t k is ready stand r way (faces c s.context.frames)
 
   -- out of the scopes, one after the other
-  exit_by : (c : Completion Mark) (e e2 : Environment) (fs fs2 : Frames1) (ys : List CoreStat) (s t : CoreState) → IsAbrupt c → HandReady core core2 owners seats (placed e fs s) t c
+  exit_by : (c : Completion Mark) (e e2 : Environment) (fs fs2 : Frames1) (ys : List CoreStat) (s t : CoreState) → IsAbrupt c → HandReady core kept owners seats (placed e fs s) c
       → Stand owners seats (placed e fs s) t → Tail owners seats e fs ys e2 fs2 → At e2 fs2 t.context.frames
       → S (with_control (Hand c) (placed e fs s)) (with_control (Hand c) t)
   exit_by c e e2 fs fs2 ys s t is ready stand no_scope r = abrupt_here c t.context.frames (placed e fs s) t 0 is ready stand r refl
@@ -206,18 +207,18 @@ module _ (core core2 : Core) (owners : List ℕ) (seats : Seats) where
       by_mark true = (5 + reset_steps names, omega arith)
       by_mark false = (4 + reset_steps names, omega arith)
 
-  scope_by : (x : CoreStat) (names : List ScopedName) (body xs ys : List CoreStat) (s t : CoreState) → out-CoreStat x ≡ layer.Scoped names body → (names ≡ [] → ⊥) → (ready : ScopeReady owners seats s t names)
+  scope_by : (x : CoreStat) (names : List ScopedName) (body xs ys : List CoreStat) (s t : CoreState) → out-CoreStat x ≡ layer.Scoped names body → (names ≡ [] → ⊥) → (ready : ScopeReady owners seats s names)
       → Stand owners seats s t → BelowScopes owners seats s s.context.frames ys t → S (with_control (Run (x ∷ xs)) s) (with_control (Run (stats_flat owners (x ∷ xs) ++ ys)) t)
   scope_by x names body xs ys s t is some ready stand below =
       let (j, j_is) = steps_positive names some in
-      let (u, source, target_way, related) = scopes_entered core core2 owners seats ready.home x names body xs ys s t is ready.scope ready.at stand below in
+      let (u, source, target_way, related) = scopes_entered core core2 owners seats ready.home x names body xs ys s t is (new_scope owners seats s t names stand ready) ready.at stand below in
       let from : Config = with_control (Run (stats_flat owners (x ∷ xs) ++ ys)) t in
       let to : Config = with_control (Run (stats_flat owners body ++ (stats_flat owners xs ++ ys))) u in
       together 0 j (with_control (Run body) (scope_entered names xs s)) to (_, source, refl)
       (subst (λ n. Reaches (core_step core2) n from to) j_is target_way)
       (entered_seats seats ready.home names (length t.store.cells), a_scope_more x xs body names ready refl is, related)
 
-  stat_by : (y : CoreStat-F CoreLink CoreStat CoreCase CoreExpr) (x : CoreStat) (xs ys : List CoreStat) (s t : CoreState) → out-CoreStat x ≡ y → StatReady owners seats s t y
+  stat_by : (y : CoreStat-F CoreLink CoreStat CoreCase CoreExpr) (x : CoreStat) (xs ys : List CoreStat) (s t : CoreState) → out-CoreStat x ≡ y → StatReady owners seats s y
       → Stand owners seats s t → BelowScopes owners seats s s.context.frames ys t → S (with_control (Run (x ∷ xs)) s) (with_control (Run (stats_flat owners (x ∷ xs) ++ ys)) t)
   stat_by (layer.Scoped names body) x xs ys s t is (some, ready) stand below = scope_by x names body xs ys s t is some ready stand below
   stat_by (layer.Yield v kind result) x xs ys s t is ready stand below = absurd ready
@@ -225,14 +226,14 @@ module _ (core core2 : Core) (owners : List ℕ) (seats : Seats) where
       a_step_each (with_control (Run (x ∷ xs)) s) (with_control (Run (stats_flat owners (x ∷ xs) ++ ys)) t)
       (statements_begin core core2 owners seats x xs ys s t (subst (λ z. IsUntouchedStat z) (sym is) tt) stand below)
 
-  statements_by : (xs ys : List CoreStat) (s t : CoreState) → ListReady owners seats s t xs → Stand owners seats s t → BelowScopes owners seats s s.context.frames ys t
+  statements_by : (xs ys : List CoreStat) (s t : CoreState) → ListReady owners seats s xs → Stand owners seats s t → BelowScopes owners seats s s.context.frames ys t
       → S (with_control (Run xs) s) (with_control (Run (stats_flat owners xs ++ ys)) t)
   statements_by [] ys s t ready stand (e, gs, tail, r) = list_by s.context.environment e s.context.frames gs ys s t stand tail r
   statements_by (x ∷ xs) ys s t ready stand below = stat_by (out-CoreStat x) x xs ys s t refl ready stand below
 
   -- ---- expressions
 
-  head_by : (h : CoreHead) (x : CoreExpr) (s t : CoreState) → (out-CoreExpr x).head ≡ h → HeadReady core core2 owners seats s t (out-CoreExpr x).links h
+  head_by : (h : CoreHead) (x : CoreExpr) (s t : CoreState) → (out-CoreExpr x).head ≡ h → HeadReady core kept owners seats s (out-CoreExpr x).links h
       → AllHold t owners (cell_along seats s.context.environment) (out-CoreExpr x).links → Stand owners seats s t → At s.context.environment s.context.frames t.context.frames
       → S (with_control (Begin x) s) (with_control (Begin (expr_flat owners x)) t)
   unfolding IsUntouchedHead
@@ -240,7 +241,7 @@ module _ (core core2 : Core) (owners : List ℕ) (seats : Seats) where
   head_by (head.TypeOf y) x s t is ready holds stand r = absurd ready
   head_by (head.Function f) x s t is ready holds stand r =
       matched_here (with_control (Begin x) s) (with_control (Begin (expr_flat owners x)) t)
-      (closures_made core core2 owners seats x f ready.function ready.kept s t is ready.before ready.flat ready.seen stand r holds)
+      (closures_made core core2 owners seats x f ready.function (kept f) s t is ready.before (flattened f ready.function ready.before) ready.seen stand r holds)
   head_by (head.Primitive p) x s t is ready holds stand r =
       matched_here (with_control (Begin x) s) (with_control (Begin (expr_flat owners x)) t) (primitives_begin core core2 owners seats x p s t is ready stand r holds)
   head_by (head.Copy xs) x s t is ready holds stand r =
@@ -290,8 +291,8 @@ module _ (core core2 : Core) (owners : List ℕ) (seats : Seats) where
       )
 
   class_parts : (site : Option Site) (c : Current Mark) (values : List (CoreValue Mark)) (xs : List CoreExpr) (links : List CoreLink) (s t : CoreState)
-      → PartsReady core core2 owners seats s (class_op primitive.ClassMake) values xs → Stand owners seats s t → BelowCells owners seats s links t → Parts primitive.ClassMake site c values xs links s t
-  class_parts site c values [] links s t ready stand below = classes_made core core2 owners seats site c values [] links s t ready stand below
+      → PartsReady core kept owners seats s (class_op primitive.ClassMake) values xs → Stand owners seats s t → BelowCells owners seats s links t → Parts primitive.ClassMake site c values xs links s t
+  class_parts site c values [] links s t ready stand below = classes_made core core2 owners seats site c values [] links s t (seen_in core core2 kept owners seats s flattened values ready) stand below
   class_parts site c values (x ∷ xs) links s t ready stand below = begins_part primitive.ClassMake site c values x xs links s t stand below
 
   member_parts : (p : Primitive) (site : Option Site) (c : Current Mark) (values : List (CoreValue Mark)) (xs : List CoreExpr) (links : List CoreLink) (s t : CoreState)
@@ -401,7 +402,7 @@ module _ (core core2 : Core) (owners : List ℕ) (seats : Seats) where
   writes_by l links x (Hosted n) s t (site, is) stand below =
       writes_nothing l links x (Hosted n) site s (with_control (Go (Hosted n) (opened owners (cell_along seats s.context.environment) (l ∷ links)).links) t) is tt
 
-  no_values : (s : CoreState) (xs : List CoreExpr) → PartsReady core core2 owners seats s (class_op primitive.ClassMake) [] xs
+  no_values : (s : CoreState) (xs : List CoreExpr) → PartsReady core kept owners seats s (class_op primitive.ClassMake) [] xs
   no_values s [] = tt
   no_values s (x ∷ xs) = tt
 
@@ -457,7 +458,7 @@ module _ (core core2 : Core) (owners : List ℕ) (seats : Seats) where
   no_links c d s t currents stand (gs, r, below) =
       a_step_each (with_control (Go c []) s) (with_control (Go d []) t) (links_end core core2 owners seats c d s t currents stand (subst (λ hs. At s.context.environment s.context.frames hs) (sym below) r))
 
-  links_by : (kinds : KindsAreKept core core2) (ls : List CoreLink) (c d : Current Mark) (s t : CoreState) → Currents s.context.frames ls c d → ControlReady core core2 owners seats s t (Go c ls)
+  links_by : (kinds : KindsAreKept core core2) (ls : List CoreLink) (c d : Current Mark) (s t : CoreState) → Currents s.context.frames ls c d → ControlReady core kept owners seats s t (Go c ls)
       → Stand owners seats s t → BelowCells owners seats s ls t
       → S (with_control (Go c ls) s) (with_control (Go d (opened owners (cell_along seats s.context.environment) ls).links) t)
   links_by kinds [] c d s t currents ready stand below = no_links c d s t currents stand below
@@ -475,7 +476,7 @@ module _ (core core2 : Core) (owners : List ℕ) (seats : Seats) where
   Waiting e ls gs = record { links = (opened owners (cell_along seats e) ls).links; frames = (opened owners (cell_along seats e) ls).frames ++ gs }
 
   waits_given : (v : CoreValue Mark) (w : Waits) (e : Environment) (ls : List CoreLink) (fs gs : Frames1) (s t : CoreState) → KindsAreKept core core2
-      → GivesReady core core2 owners seats v (placed e (waiting w ls ∷ fs) s) (waiting w ls ∷ fs)
+      → GivesReady core kept owners seats v (placed e (waiting w ls ∷ fs) s) (waiting w ls ∷ fs)
       → Stand owners seats (placed e (waiting w ls ∷ fs) s) (with_frames (waiting w (Waiting e ls gs).links ∷ (Waiting e ls gs).frames) t) → At e fs gs
       → S (with_control (Hand (Gives v)) (placed e (waiting w ls ∷ fs) s)) (with_control (Hand (Gives v)) (with_frames (waiting w (Waiting e ls gs).links ∷ (Waiting e ls gs).frames) t))
   waits_given v WaitsAfter e ls fs gs s t kinds ready stand r =
@@ -485,7 +486,7 @@ module _ (core core2 : Core) (owners : List ℕ) (seats : Seats) where
   waits_given v (WaitsHeritage f heritage) e ls fs gs s t kinds ready stand r =
       let o = Waiting e ls gs in
       a_step_each (with_control (Hand (Gives v)) (placed e (Work (Heritage f heritage ls) ∷ fs) s)) (with_control (Hand (Gives v)) (with_frames (Work (Heritage f heritage o.links) ∷ o.frames) t))
-      (heritages_taken core core2 owners seats f heritage v ls (placed e fs s) (with_frames o.frames t) ready
+      (heritages_taken core core2 owners seats f heritage v ls (placed e fs s) (with_frames o.frames t) (class_seen core core2 kept owners seats (placed e fs s) flattened f ready)
       (stand_under core core2 owners seats e (Work (Heritage f heritage ls) ∷ fs) (Work (Heritage f heritage o.links) ∷ o.frames) fs o.frames s t stand) (gs, r, refl))
   waits_given v WaitsPrototype e ls fs gs s t kinds ready stand r = absurd ready
   waits_given v (WaitsBehind x) e ls fs gs s t kinds ready stand r = given_each v e (waiting (WaitsBehind x) ls) fs _ s t kinds tt stand (waits (WaitsBehind x) ls r)
@@ -565,14 +566,14 @@ module _ (core core2 : Core) (owners : List ℕ) (seats : Seats) where
       (subst (λ n. Alike R (parts (rows core) core (record (PartOf (class_op q) p) { values = p.values ++ v ∷ [] }) (placed e fs s)) n) (sym (part_step core2 (part_flat owners (PartOf (class_op q) p) p.current o.links) v t.context.environment o.frames t)) a))))
 
   part_given : (v : CoreValue Mark) (e : Environment) (p : CoreStrict) (c : Current Mark) (fs gs : Frames1) (s t : CoreState) → KindsAreKept core core2
-      → PartsReady core core2 owners seats (placed e fs s) p.op (p.values ++ v ∷ []) p.parts → OpView p.op → PartCurrents p.op p.current c
+      → PartsReady core kept owners seats (placed e fs s) p.op (p.values ++ v ∷ []) p.parts → OpView p.op → PartCurrents p.op p.current c
       → Stand owners seats (placed e (Part p ∷ fs) s) (with_frames (Part (part_flat owners p c (Waiting e p.links gs).links) ∷ (Waiting e p.links gs).frames) t) → At e fs gs
       → S (with_control (Hand (Gives v)) (placed e (Part p ∷ fs) s)) (with_control (Hand (Gives v)) (with_frames (Part (part_flat owners p c (Waiting e p.links gs).links) ∷ (Waiting e p.links gs).frames) t))
   part_given v e p c fs gs s t kinds ready (op_alike alike) currents stand r = given_each v e (Part p) fs _ s t kinds alike stand (part p currents r)
   part_given v e p c fs gs s t kinds ready (op_class is) currents stand r =
       let o = Waiting e p.links gs in
       part_class primitive.ClassMake v e p c fs gs s t is currents
-      (class_parts p.site p.current (p.values ++ v ∷ []) p.parts p.links (placed e fs s) (with_frames o.frames t) (subst (λ y. PartsReady core core2 owners seats (placed e fs s) y (p.values ++ v ∷ []) p.parts) is ready)
+      (class_parts p.site p.current (p.values ++ v ∷ []) p.parts p.links (placed e fs s) (with_frames o.frames t) (subst (λ y. PartsReady core kept owners seats (placed e fs s) y (p.values ++ v ∷ []) p.parts) is ready)
       (stand_under core core2 owners seats e (Part p ∷ fs) (Part (part_flat owners p c o.links) ∷ o.frames) fs o.frames s t stand) (gs, r, refl))
   part_given v e p c fs gs s t kinds ready (op_member q is which) currents stand r =
       let o = Waiting e p.links gs in
@@ -580,13 +581,13 @@ module _ (core core2 : Core) (owners : List ℕ) (seats : Seats) where
       (member_parts q p.site p.current (p.values ++ v ∷ []) p.parts p.links (placed e fs s) (with_frames o.frames t) which
       (stand_under core core2 owners seats e (Part p ∷ fs) (Part (part_flat owners p c o.links) ∷ o.frames) fs o.frames s t stand) (gs, r, refl))
 
-  gives_by : (v : CoreValue Mark) (e : Environment) (fs gs : Frames1) (s t : CoreState) → KindsAreKept core core2 → GivesReady core core2 owners seats v (placed e fs s) fs
+  gives_by : (v : CoreValue Mark) (e : Environment) (fs gs : Frames1) (s t : CoreState) → KindsAreKept core core2 → GivesReady core kept owners seats v (placed e fs s) fs
       → Stand owners seats (placed e fs s) (with_frames gs t) → At e fs gs → S (with_control (Hand (Gives v)) (placed e fs s)) (with_control (Hand (Gives v)) (with_frames gs t))
   gives_by v e fs gs s t kinds ready stand none = a_step_each (with_control (Hand (Gives v)) (placed e [] s)) (with_control (Hand (Gives v)) (with_frames [] t)) (contexts_end core core2 owners seats (Gives v) (placed e [] s) (with_frames [] t) refl stand none)
   gives_by v e fs gs s t kinds ready stand (waits {e = e2} {fs = fs2} {gs = gs2} w ls r) = waits_given v w e2 ls fs2 gs2 s t kinds ready stand r
   gives_by v e fs gs s t kinds ready stand (waits_for_cell {e = e2} {fs = fs2} {gs = gs2} x l ls is r) = cell_given v e2 x l ls fs2 gs2 s t is (ready x is) stand r
   gives_by v e fs gs s t kinds ready stand (part {e = e2} {fs = fs2} {gs = gs2} {c = c} p currents r) =
-      part_given v e2 p c fs2 gs2 s t kinds ready (op_view p.op (parts_ready core core2 owners seats (placed e2 fs2 s) p.op (p.values ++ v ∷ []) p.parts ready)) currents stand r
+      part_given v e2 p c fs2 gs2 s t kinds ready (op_view p.op (parts_ready core kept owners seats (placed e2 fs2 s) p.op (p.values ++ v ∷ []) p.parts ready)) currents stand r
   gives_by v e fs gs s t kinds ready stand (fetch {e = e2} {fs = fs2} {gs = gs2} base k p r) = given_each v e2 (Fetch base k p) fs2 _ s t kinds ready stand (fetch base k p r)
   gives_by v e fs gs s t kinds ready stand (plain {e = e2} {fs = fs2} {gs = gs2} {f = f} is r) = plain_given v e2 f fs2 gs2 s t kinds is stand r
   gives_by v e fs gs s t kinds ready stand (rest xs tail r) = given_each v e _ _ _ s t kinds tt stand (rest xs tail r)
@@ -611,7 +612,7 @@ module _ (core core2 : Core) (owners : List ℕ) (seats : Seats) where
 
   -- ---- all of it
 
-  hand_by : (c : Completion Mark) (s t : CoreState) → KindsAreKept core core2 → HandReady core core2 owners seats s t c → Stand owners seats s t → At s.context.environment s.context.frames t.context.frames
+  hand_by : (c : Completion Mark) (s t : CoreState) → KindsAreKept core core2 → HandReady core kept owners seats s c → Stand owners seats s t → At s.context.environment s.context.frames t.context.frames
       → S (with_control (Hand c) s) (with_control (Hand c) t)
   hand_by (Gives v) s t kinds ready stand r = gives_by v s.context.environment s.context.frames t.context.frames s t kinds ready stand r
   hand_by Done s t kinds ready stand r = done_by s.context.environment s.context.frames s t ready stand r
@@ -619,16 +620,16 @@ module _ (core core2 : Core) (owners : List ℕ) (seats : Seats) where
   hand_by (Returns v) s t kinds ready stand r = abrupt_here (Returns v) t.context.frames s t 0 tt ready stand r refl
   hand_by (Jumps goes_on label) s t kinds ready stand r = abrupt_here (Jumps goes_on label) t.context.frames s t 0 tt ready stand r refl
 
-  call_by : (c : Call) (s t : CoreState) → CallReady core core2 owners seats c s t → Stand owners seats s t → At s.context.environment s.context.frames t.context.frames
+  call_by : (c : Call) (s t : CoreState) → CallReady core kept owners seats c s t → Stand owners seats s t → At s.context.environment s.context.frames t.context.frames
       → S (with_control (Calls c) s) (with_control (Calls c) t)
   call_by c s t (inl other) stand r = a_step_each (with_control (Calls c) s) (with_control (Calls c) t) (other_calls_alike core core2 owners seats c s t other stand r)
   call_by c s t (inr x) stand r =
       let seats2 : Seats = seats ++ call_seat (length t.records) x.locals x.has x.behind.own.cells ∷ [] in
       from_matched seats2 (with_control (Calls c) s) (with_control (Calls c) t) (core_step core (with_control (Calls c) s)) (a_call_more c x refl) refl
       (answered (Related owners seats2) core2 (core_step core (with_control (Calls c) s)) (with_control (Calls c) t) (with_control (Calls c) t) 0 refl
-      (calls_enter core core2 owners seats c s t x.before x.behind x.function x.kept x.locals x.has x.enters x.closures x.record_is x.arguments stand r))
+      (calls_enter core core2 owners seats c s t x.before x.behind x.function (kept x.before.function) x.locals x.has (enters_of core core2 kept owners seats c s t flattened stand x) (closures_of core core2 kept owners seats c s t flattened stand x) x.called x.arguments stand r))
 
-  same_by : (c : Control Mark) (s t : CoreState) → KindsAreKept core core2 → IsBare c → ControlReady core core2 owners seats s t c → Stand owners seats s t → At s.context.environment s.context.frames t.context.frames
+  same_by : (c : Control Mark) (s t : CoreState) → KindsAreKept core core2 → IsBare c → ControlReady core kept owners seats s t c → Stand owners seats s t → At s.context.environment s.context.frames t.context.frames
       → S (with_control c s) (with_control c t)
   same_by (Turn site c) s t kinds bare ready stand r = a_step_each (with_control (Turn site c) s) (with_control (Turn site c) t) (turns_alike core core2 owners seats site c s t stand r)
   same_by (Calls c) s t kinds bare ready stand r = call_by c s t ready stand r
@@ -637,11 +638,11 @@ module _ (core core2 : Core) (owners : List ℕ) (seats : Seats) where
   same_by (Go c ls) s t kinds bare ready stand r = absurd bare
   same_by (Run xs) s t kinds bare ready stand r = absurd bare
 
-  matched_by : (s t : Config) → KindsAreKept core core2 → R s t → ControlReady core core2 owners seats s.state t.state s.control → S s t
+  matched_by : (s t : Config) → KindsAreKept core core2 → R s t → ControlReady core kept owners seats s.state t.state s.control → S s t
   matched_by s t kinds (at_same {s = a} {t = b} c bare stand r) ready = same_by c a b kinds bare ready stand r
   matched_by s t kinds (at_copy {s = a} {t = b} n drops stand r) ready =
       a_step_each (with_control (Hand (Gives (User value.Undefined))) a) (with_control (Hand (Gives (Extra (Cell n)))) b) (copies_dropped core core2 owners seats n a b drops stand r)
-  matched_by s t kinds (at_expression {s = a} {t = b} x stand r) ready = head_by (out-CoreExpr x).head x a b refl ready.1 ready.0 stand r
+  matched_by s t kinds (at_expression {s = a} {t = b} x stand r) ready = head_by (out-CoreExpr x).head x a b refl ready.1 (all_hold owners seats a b stand (out-CoreExpr x).links ready.0) stand r
   matched_by s t kinds (at_links {s = a} {t = b} {c = c} {d = d} ls currents stand below) ready = links_by kinds ls c d a b currents ready stand below
   matched_by s t kinds (at_statements {s = a} {t = b} {ys = ys} xs stand below) ready = statements_by xs ys a b ready stand below
   matched_by s t kinds (at_exit {s = a} {t = b} {ys = ys} c abrupt stand (e, gs, tail, r)) ready = exit_by c a.context.environment e a.context.frames gs ys a b abrupt ready stand tail r
@@ -650,4 +651,4 @@ module _ (core core2 : Core) (owners : List ℕ) (seats : Seats) where
       abrupt_here c gs a b k abrupt ready stand r way
 
 pub steps_matched : StepsAreMatched
-steps_matched core core2 owners seats s t kinds related ready = matched_by core core2 owners seats s t kinds related ready
+steps_matched core core2 kept owners seats s t flattened kinds related ready = matched_by core core2 kept owners seats flattened s t kinds related ready

@@ -25,29 +25,29 @@ use Rattle.cells_keep_runs.specs.Entered.{entered_seats}
 use Rattle.cells_keep_runs.specs.Entries.{call_seat}
 use Rattle.cells_keep_runs.specs.Handled.{handled_seats}
 use Rattle.cells_keep_runs.specs.Memory.{Seats}
-use Rattle.cells_keep_runs.specs.Ready.{ClosureCall, CopyReady, HandlerReady, Ready, ScopeReady}
+use Rattle.cells_keep_runs.specs.Ready.{AreFlattened, ClosureCall, CopyReady, HandlerReady, Keeping, Ready, ScopeReady}
 use Rattle.cells_keep_runs.specs.Related.{Related}
 
 -- ---- the seats behind a step: those before it, and that of the record which it makes
 
-pub data NewSeats (core core2 : Core) (owners : List ℕ) (seats : Seats) (s t : Config) : Seats → Type 0 where
-  no_more : NewSeats core core2 owners seats s t seats
-  a_scope_more : (x : CoreStat) (xs body : List CoreStat) (names : List ScopedName) (r : ScopeReady owners seats s.state t.state names)
+pub data NewSeats (core : Core) (kept : Keeping) (owners : List ℕ) (seats : Seats) (s t : Config) : Seats → Type 0 where
+  no_more : NewSeats core kept owners seats s t seats
+  a_scope_more : (x : CoreStat) (xs body : List CoreStat) (names : List ScopedName) (r : ScopeReady owners seats s.state names)
       → s.control ≡ Run (x ∷ xs) → out-CoreStat x ≡ layer.Scoped names body
-      → NewSeats core core2 owners seats s t (entered_seats seats r.home names (length t.state.store.cells))
+      → NewSeats core kept owners seats s t (entered_seats seats r.home names (length t.state.store.cells))
   a_copy_more : (x : CoreExpr) (xs : List Var) (r : CopyReady owners seats s.state xs (out-CoreExpr x).links)
       → s.control ≡ Begin x → (out-CoreExpr x).head ≡ head.Copy xs
-      → NewSeats core core2 owners seats s t (copied_seats owners seats r.copyable.seat (record_at s.state.records r.number) xs (length t.state.store.cells))
-  a_call_more : (c : Call) (r : ClosureCall core core2 owners seats c s.state t.state) → s.control ≡ Calls c
-      → NewSeats core core2 owners seats s t (seats ++ call_seat (length t.state.records) r.locals r.has r.behind.own.cells ∷ [])
+      → NewSeats core kept owners seats s t (copied_seats owners seats r.copyable.seat (record_at s.state.records r.number) xs (length t.state.store.cells))
+  a_call_more : (c : Call) (r : ClosureCall core kept owners seats c s.state t.state) → s.control ≡ Calls c
+      → NewSeats core kept owners seats s t (seats ++ call_seat (length t.state.records) r.locals r.has r.behind.own.cells ∷ [])
   a_handler_more : (v : Value) (x : Var) (names : List ScopedName) (handler : List CoreStat) (fs : List (Frame Mark CoreWork))
-      (r : HandlerReady owners seats s.state t.state x names)
+      (r : HandlerReady owners seats s.state x names)
       → s.control ≡ Hand (Throws v) → s.state.context.frames ≡ Catching x names handler ∷ fs
-      → NewSeats core core2 owners seats s t (handled_seats seats (length t.state.records) x r.pattern.home names (length t.state.store.cells))
+      → NewSeats core kept owners seats s t (handled_seats seats (length t.state.records) x r.pattern.home names (length t.state.store.cells))
 
-abbrev pub Behind : Core → Core → List ℕ → Seats → Config → Config → Config → Config → Type 0
-Behind core core2 owners seats s t s2 t2 =
-    (seats2 : Seats) × NewSeats core core2 owners seats s t seats2 × Related owners seats2 s2 t2
+abbrev pub Behind : Core → Keeping → List ℕ → Seats → Config → Config → Config → Config → Type 0
+Behind core kept owners seats s t s2 t2 =
+    (seats2 : Seats) × NewSeats core kept owners seats s t seats2 × Related owners seats2 s2 t2
 
 -- ---- a step
 
@@ -57,34 +57,34 @@ measure s = length s.state.context.frames + length s.state.context.frames
 
 -- The source takes some steps, and the target too, at least one each, and they come to related configurations; or the source does so
 -- alone, out of scopes; or both ask, or end, alike. A source that leaves claims nothing.
-pub data StepMatched (core core2 : Core) (owners : List ℕ) (seats : Seats) (s t : Config) : Type 0 where
+pub data StepMatched (core core2 : Core) (kept : Keeping) (owners : List ℕ) (seats : Seats) (s t : Config) : Type 0 where
   together : (k j : ℕ) (s2 t2 : Config) → Reaches (core_step core) (suc k) s s2 → Reaches (core_step core2) (suc j) t t2
-      → Behind core core2 owners seats s t s2 t2 → StepMatched core core2 owners seats s t
+      → Behind core kept owners seats s t s2 t2 → StepMatched core core2 kept owners seats s t
   alone : (k : ℕ) (s2 : Config) → Reaches (core_step core) (suc k) s s2 → k + measure s2 < measure s → Related owners seats s2 t
-      → StepMatched core core2 owners seats s t
+      → StepMatched core core2 kept owners seats s t
   asks : (j : ℕ) (u : Config) (e : Event) (follow follow2 : Reply → Config) → core_step core s ≡ Asks e follow
       → Reaches (core_step core2) j t u → core_step core2 u ≡ Asks e follow2
-      → ((a : Reply) → Behind core core2 owners seats s t (follow a) (follow2 a)) → StepMatched core core2 owners seats s t
+      → ((a : Reply) → Behind core kept owners seats s t (follow a) (follow2 a)) → StepMatched core core2 kept owners seats s t
   ends : (j : ℕ) (u : Config) (ending : Finish) → core_step core s ≡ Ends ending
-      → Reaches (core_step core2) j t u → core_step core2 u ≡ Ends ending → StepMatched core core2 owners seats s t
-  leaves : (exit : Exit) → core_step core s ≡ Leaves exit → StepMatched core core2 owners seats s t
+      → Reaches (core_step core2) j t u → core_step core2 u ≡ Ends ending → StepMatched core core2 kept owners seats s t
+  leaves : (exit : Exit) → core_step core s ≡ Leaves exit → StepMatched core core2 kept owners seats s t
 
 -- Each step from related configurations that are ready is matched.
 abbrev pub StepsAreMatched : Type 0
-StepsAreMatched = (core core2 : Core) (owners : List ℕ) (seats : Seats) (s t : Config)
-    → KindsAreKept core core2 → Related owners seats s t → Ready core core2 owners seats s t → StepMatched core core2 owners seats s t
+StepsAreMatched = (core core2 : Core) (kept : Keeping) (owners : List ℕ) (seats : Seats) (s t : Config)
+    → AreFlattened core core2 owners kept → KindsAreKept core core2 → Related owners seats s t → Ready core kept owners seats s t → StepMatched core core2 kept owners seats s t
 
 -- ---- a course
 
 -- the pairs that the two machines come to by matched steps, from the beginning with these seats on
-pub data Reached (core core2 : Core) (owners : List ℕ) (first : Seats) : Seats → Config → Config → Type 0 where
-  begun : Reached core core2 owners first first (start core) (start core2)
-  gone_on : {seats seats2 : Seats} {s t s2 t2 : Config} (k j : ℕ) → Reached core core2 owners first seats s t
+pub data Reached (core core2 : Core) (kept : Keeping) (owners : List ℕ) (first : Seats) : Seats → Config → Config → Type 0 where
+  begun : Reached core core2 kept owners first first (start core) (start core2)
+  gone_on : {seats seats2 : Seats} {s t s2 t2 : Config} (k j : ℕ) → Reached core core2 kept owners first seats s t
       → Reaches (core_step core) (suc k) s s2 → Reaches (core_step core2) j t t2
-      → NewSeats core core2 owners seats s t seats2 → Related owners seats2 s2 t2
-      → Reached core core2 owners first seats2 s2 t2
+      → NewSeats core kept owners seats s t seats2 → Related owners seats2 s2 t2
+      → Reached core core2 kept owners first seats2 s2 t2
   answered : {seats seats2 : Seats} {s t : Config} {e : Event} {follow follow2 : Reply → Config} (j : ℕ) (u : Config) (a : Reply)
-      → Reached core core2 owners first seats s t → core_step core s ≡ Asks e follow
+      → Reached core core2 kept owners first seats s t → core_step core s ≡ Asks e follow
       → Reaches (core_step core2) j t u → core_step core2 u ≡ Asks e follow2
-      → NewSeats core core2 owners seats s t seats2 → Related owners seats2 (follow a) (follow2 a)
-      → Reached core core2 owners first seats2 (follow a) (follow2 a)
+      → NewSeats core kept owners seats s t seats2 → Related owners seats2 (follow a) (follow2 a)
+      → Reached core core2 kept owners first seats2 (follow a) (follow2 a)

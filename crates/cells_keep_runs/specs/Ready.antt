@@ -1,12 +1,16 @@
 -- What the laws of the steps ask of two related configurations, by what the next step does. Names are found where they are mentioned, and
 -- what makes a record may make it.
-use Rattle.std.specs.Prelude.{◌≡◌, ◌⊎◌, true, false, List, [], ◌∷◌, ◌++◌, map, Option, None, Some, ℕ}
+use Rattle.std.specs.Prelude.{◌≡◌, ◌⊎◌, true, false, List, [], ◌∷◌, ◌++◌, map, Option, None, Some, slice_get, ℕ}
 use Rattle.es_outside.specs.declared.events.Site.{Site}
+use Rattle.es_value.specs.declared.value.ObjId.{ObjId}
 use Rattle.es_value.specs.declared.value.Value.TheVariants as value
+use Rattle.es_heap.specs.Heaps.{object_at}
+use Rattle.es_heap.specs.declared.class.Class.TheVariants as class
 use Rattle.core_ast.specs.declared.parts.CoreHead.{CoreHead}
 use Rattle.core_ast.specs.declared.parts.CoreHead.TheVariants as head
 use Rattle.core_ast.specs.declared.parts.CoreOp.{CoreOp}
 use Rattle.core_ast.specs.declared.parts.CoreOp.TheVariants as op
+use Rattle.core_ast.specs.declared.parts.FunctionId.{FunctionId}
 use Rattle.core_ast.specs.declared.parts.Primitive.TheVariants as primitive
 use Rattle.core_ast.specs.declared.parts.ScopedName.{ScopedName}
 use Rattle.core_ast.specs.declared.parts.Var.{Var}
@@ -18,25 +22,24 @@ use Rattle.core_ast.specs.declared.tree.CoreLink.TheOpen.{CoreLink-F, CoreStat-F
 use Rattle.core_ast.specs.declared.tree.CoreStat.{CoreStat, out-CoreStat}
 use Rattle.core_ast.specs.declared.whole.Core.{Core}
 use Rattle.core_ast.specs.declared.whole.CoreFunction.{CoreFunction}
-use Rattle.core_meaning.specs.Cells.{uninitialized}
-use Rattle.core_meaning.specs.Marks.{Cell, CoreState, CoreWork, Heritage, Mark, Own, PrototypeFor}
-use Rattle.core_meaning.specs.Names.{Resolved, resolve}
+use Rattle.core_meaning.specs.Expressions.{function_at}
+use Rattle.core_meaning.specs.Marks.{CoreState, CoreWork, Heritage, Mark, Own, PrototypeFor, Unmade}
+use Rattle.core_meaning.specs.Names.{Resolved, binding_in, record_at, resolve}
 use Rattle.core_meaning.specs.Rows.{with_frames}
 use Rattle.core_meaning.specs.State.{After, Begin, Call, Calls, Catching, Closure, Completion, Control, CoreValue, Current, Done, Environment, Extra, Fetch, Frame, Gives, Go, Hand, Has, Part, Run, Throws, Turn, User, Work}
 use Rattle.pass_rules.specs.Cells.{is_among, is_shared}
 use Rattle.pass_rules.specs.Scopes.{function_flat, vars}
 use Rattle.cells_keep_runs.specs.Acted.{IsAlikeOp}
 use Rattle.cells_keep_runs.specs.Alike.{Config}
-use Rattle.cells_keep_runs.specs.Called.{ArgumentsBound, Enters, bindings_of}
-use Rattle.cells_keep_runs.specs.Classed.{ClassSeen, SeenIn}
+use Rattle.cells_keep_runs.specs.Called.{ArgumentsBound, bindings_of}
+use Rattle.cells_keep_runs.specs.Closed.{AllSeen, SeenShared}
 use Rattle.cells_keep_runs.specs.Copied.{Copyable, GoesToThen, InScope, NoWrites}
 use Rattle.cells_keep_runs.specs.Entered.{AllAt, reset_of}
 use Rattle.cells_keep_runs.specs.Entries.{NewCall}
 use Rattle.cells_keep_runs.specs.Going.{IsAlikeHead}
-use Rattle.cells_keep_runs.specs.Memory.{Seats, cell_along}
-use Rattle.cells_keep_runs.specs.Opened.{AllHold, write_in}
-use Rattle.cells_keep_runs.specs.Related.{Closures}
-use Rattle.cells_keep_runs.specs.Renewed.{NewScope}
+use Rattle.cells_keep_runs.specs.Memory.{Seat, Seats, cell_found}
+use Rattle.cells_keep_runs.specs.Opened.{write_in}
+use Rattle.cells_keep_runs.specs.Renewed.{AllDiffer}
 use Rattle.cells_keep_runs.specs.Seen.{Assigns, IsWrite, Sees}
 use Rattle.cells_keep_runs.specs.Turned.{CallsNoClosure}
 use Rattle.cells_keep_runs.specs.Writes.{IsHeld}
@@ -58,16 +61,64 @@ abbrev pub WriteReady : List ℕ → Seats → CoreState → CoreLink → Var �
 WriteReady owners seats s l x (Has v) = Writes owners seats s l x v
 WriteReady owners seats s l x c = (site : Option Site) × IsWrite l x site
 
+-- both find the shared names that links write
+abbrev pub WriteSeen : List ℕ → Seats → CoreState → Option Var → Type 0
+WriteSeen owners seats s None = Unit {0}
+WriteSeen owners seats s (Some x) = SeenShared owners seats s x
+
+abbrev pub WritesSeen : List ℕ → Seats → CoreState → List CoreLink → Type 0
+WritesSeen owners seats s [] = Unit {0}
+WritesSeen owners seats s (l ∷ links) = WriteSeen owners seats s (write_in owners (out-CoreLink l)) × WritesSeen owners seats s links
+
+-- ---- functions
+
+-- the names whose cells the closures of a function keep behind the pass
+abbrev pub Keeping : Type 0
+Keeping = FunctionId → List Var
+
+-- the functions of the second core are those of the first, flattened
+abbrev pub AreFlattened : Core → Core → List ℕ → Keeping → Type 0
+AreFlattened core core2 owners kept = (f : FunctionId) (function : CoreFunction) → function_at core f ≡ Some function
+    → function_at core2 f ≡ Some (function_flat owners (kept f) function)
+
+-- the function is there, and both find the names whose cells it keeps
+pub record FunctionSeen (core : Core) (kept : Keeping) (owners : List ℕ) (seats : Seats) (s : CoreState) (f : FunctionId) : Type 0 where
+  pub function : CoreFunction
+  pub before : function_at core f ≡ Some function
+  pub seen : AllSeen owners seats s (kept f)
+
+-- so it is for the function among these values
+abbrev pub ValuesSeen : Core → Keeping → List ℕ → Seats → CoreState → List (CoreValue Mark) → Type 0
+ValuesSeen core kept owners seats s (User heritage ∷ Extra (Unmade f) ∷ []) = FunctionSeen core kept owners seats s f
+ValuesSeen core kept owners seats s vs = Unit {0}
+
 -- ---- records
 
--- the names of the scope are found at home, and no record there has them
-pub record ScopeReady (owners : List ℕ) (seats : Seats) (s t : CoreState) (names : List ScopedName) : Type 0 where
-  pub home : ℕ
-  pub scope : NewScope owners seats s.records t.records home (vars names) (uninitialized names) (map reset_of names)
-  pub at : AllAt seats s.context.environment home names
+abbrev pub AllAmong : List Var → List ScopedName → Type 0
+AllAmong xs [] = Unit {0}
+AllAmong xs (n ∷ names) = (is_among n.var xs ≡ true) × AllAmong xs names
 
-pub record HandlerReady (owners : List ℕ) (seats : Seats) (s t : CoreState) (x : Var) (names : List ScopedName) : Type 0 where
-  pub pattern : ScopeReady owners seats s t names
+-- names are marked as shared where they are
+abbrev pub AllMarked : List ℕ → List ScopedName → Type 0
+AllMarked owners [] = Unit {0}
+AllMarked owners (n ∷ names) = (is_shared owners n.var ≡ n.shared) × AllMarked owners names
+
+-- The names of the scope differ. Behind the pass they are locals of a record where the target finds them, and which has none of them before.
+pub record ScopeReady (owners : List ℕ) (seats : Seats) (s : CoreState) (names : List ScopedName) : Type 0 where
+  pub number : ℕ
+  pub seat : Seat
+  pub home : ℕ
+  pub seated : slice_get seats number ≡ Some seat
+  pub image : seat.image ≡ Some home
+  pub at : AllAt seats s.context.environment home names
+  pub differ : AllDiffer (map reset_of names)
+  pub marked : AllMarked owners names
+  pub locals : AllAmong seat.locals names
+  pub clear : (x : Var) → is_among x (vars names) ≡ true → binding_in (record_at s.records number) x ≡ None
+  pub unkept : (x : Var) → is_among x (vars names) ≡ true → cell_found seat.cells x ≡ None
+
+pub record HandlerReady (owners : List ℕ) (seats : Seats) (s : CoreState) (x : Var) (names : List ScopedName) : Type 0 where
+  pub pattern : ScopeReady owners seats s names
   pub apart : is_among x (vars names) ≡ false
 
 -- a copy of the innermost record
@@ -80,20 +131,26 @@ pub record CopyReady (owners : List ℕ) (seats : Seats) (s : CoreState) (xs : L
   pub copyable : Copyable owners seats s.records s.context.environment number xs
   pub inside : InScope s.context.frames
 
-pub record ClosureCall (core core2 : Core) (owners : List ℕ) (seats : Seats) (c : Call) (s t : CoreState) : Type 0 where
+-- the call of a closure of the program, which isn't of a script
+pub record ClosureCall (core : Core) (kept : Keeping) (owners : List ℕ) (seats : Seats) (c : Call) (s t : CoreState) : Type 0 where
   pub before : Closure Own
   pub behind : Closure Own
   pub function : CoreFunction
-  pub kept : List Var
   pub locals : List Var
   pub has : List Var
-  pub enters : Enters core core2 owners c s t before behind function kept
-  pub closures : Closures seats before behind
-  pub record_is : NewCall (bindings_of (function_flat owners kept function) behind c t) (bindings_of function before c s) t.store.cells locals has behind.own.cells
+  pub id : ObjId
+  pub number : ℕ
+  pub object : c.function ≡ value.Object id
+  pub class_is : (object_at s.heap id).class ≡ class.Function number
+  pub before_at : slice_get s.closures number ≡ Some before
+  pub behind_at : slice_get t.closures number ≡ Some behind
+  pub function_is : function_at core before.function ≡ Some function
+  pub undeclared : function.declared ≡ []
+  pub called : NewCall (bindings_of (function_flat owners (kept before.function) function) behind c t) (bindings_of function before c s) t.store.cells locals has behind.own.cells
   pub arguments : ArgumentsBound (bindings_of function before c s) function.arguments
 
-abbrev pub CallReady : Core → Core → List ℕ → Seats → Call → CoreState → CoreState → Type 0
-CallReady core core2 owners seats c s t = CallsNoClosure s.heap c.function ⊎ ClosureCall core core2 owners seats c s t
+abbrev pub CallReady : Core → Keeping → List ℕ → Seats → Call → CoreState → CoreState → Type 0
+CallReady core kept owners seats c s t = CallsNoClosure s.heap c.function ⊎ ClosureCall core kept owners seats c s t
 
 -- ---- operations
 
@@ -105,20 +162,20 @@ OpReady (op.Primitive primitive.AccessorPut) = Unit {0}
 OpReady o = IsAlikeOp o
 
 -- once all parts are there, the function of a class is that of the flattened core
-abbrev pub PartsReady : Core → Core → List ℕ → Seats → CoreState → CoreOp → List (CoreValue Mark) → List CoreExpr → Type 0
-PartsReady core core2 owners seats s (op.Primitive primitive.ClassMake) values [] = SeenIn core core2 owners seats s values
-PartsReady core core2 owners seats s o values parts = OpReady o
+abbrev pub PartsReady : Core → Keeping → List ℕ → Seats → CoreState → CoreOp → List (CoreValue Mark) → List CoreExpr → Type 0
+PartsReady core kept owners seats s (op.Primitive primitive.ClassMake) values [] = ValuesSeen core kept owners seats s values
+PartsReady core kept owners seats s o values parts = OpReady o
 
 -- ---- by what comes next
 
-abbrev pub HeadReady : Core → Core → List ℕ → Seats → CoreState → CoreState → List CoreLink → CoreHead → Type 0
-HeadReady core core2 owners seats s t links (head.Variable y) =
+abbrev pub HeadReady : Core → Keeping → List ℕ → Seats → CoreState → List CoreLink → CoreHead → Type 0
+HeadReady core kept owners seats s links (head.Variable y) =
     (r : Resolved Mark) → resolve s y ≡ Some r → Sees owners seats s.context.environment r.at y
-HeadReady core core2 owners seats s t links (head.TypeOf y) = ⊥
-HeadReady core core2 owners seats s t links (head.Function f) = ClassSeen core core2 owners seats s f
-HeadReady core core2 owners seats s t links (head.Primitive p) = IsAlikeHead p
-HeadReady core core2 owners seats s t links (head.Copy xs) = CopyReady owners seats s xs links
-HeadReady core core2 owners seats s t links h = Unit {0}
+HeadReady core kept owners seats s links (head.TypeOf y) = ⊥
+HeadReady core kept owners seats s links (head.Function f) = FunctionSeen core kept owners seats s f
+HeadReady core kept owners seats s links (head.Primitive p) = IsAlikeHead p
+HeadReady core kept owners seats s links (head.Copy xs) = CopyReady owners seats s xs links
+HeadReady core kept owners seats s links h = Unit {0}
 
 abbrev pub GoesReady : List ℕ → Seats → CoreState → Current Mark → CoreLink → CoreOp → Type 0
 GoesReady owners seats s c l (op.Set x) = WriteReady owners seats s l x c
@@ -130,51 +187,50 @@ LinkReady owners seats s c l (layer.Strict o parts site) = GoesReady owners seat
 LinkReady owners seats s c l y = Unit {0}
 
 -- a scope has names, and there are no yields
-abbrev pub StatReady : List ℕ → Seats → CoreState → CoreState → CoreStat-F CoreLink CoreStat CoreCase CoreExpr → Type 0
-StatReady owners seats s t (layer.Scoped names body) = (names ≡ [] → ⊥) × ScopeReady owners seats s t names
-StatReady owners seats s t (layer.Yield value kind result) = ⊥
-StatReady owners seats s t y = Unit {0}
+abbrev pub StatReady : List ℕ → Seats → CoreState → CoreStat-F CoreLink CoreStat CoreCase CoreExpr → Type 0
+StatReady owners seats s (layer.Scoped names body) = (names ≡ [] → ⊥) × ScopeReady owners seats s names
+StatReady owners seats s (layer.Yield value kind result) = ⊥
+StatReady owners seats s y = Unit {0}
 
-abbrev pub ListReady : List ℕ → Seats → CoreState → CoreState → List CoreStat → Type 0
-ListReady owners seats s t [] = Unit {0}
-ListReady owners seats s t (x ∷ xs) = StatReady owners seats s t (out-CoreStat x)
+abbrev pub ListReady : List ℕ → Seats → CoreState → List CoreStat → Type 0
+ListReady owners seats s [] = Unit {0}
+ListReady owners seats s (x ∷ xs) = StatReady owners seats s (out-CoreStat x)
 
 -- the frame that is handed a value
-abbrev pub GivesReady : Core → Core → List ℕ → Seats → CoreValue Mark → CoreState → List (Frame Mark CoreWork) → Type 0
-GivesReady core core2 owners seats v s (After (l ∷ ls) ∷ fs) =
+abbrev pub GivesReady : Core → Keeping → List ℕ → Seats → CoreValue Mark → CoreState → List (Frame Mark CoreWork) → Type 0
+GivesReady core kept owners seats v s (After (l ∷ ls) ∷ fs) =
     (x : Var) → write_in owners (out-CoreLink l) ≡ Some x → Writes owners seats (with_frames fs s) l x v
-GivesReady core core2 owners seats v s (Part p ∷ fs) =
-    PartsReady core core2 owners seats (with_frames fs s) p.op (p.values ++ v ∷ []) p.parts
-GivesReady core core2 owners seats v s (Fetch base k p ∷ fs) = IsAlikeOp p.op
-GivesReady core core2 owners seats v s (Work (Heritage f heritage links) ∷ fs) = ClassSeen core core2 owners seats (with_frames fs s) f
-GivesReady core core2 owners seats v s (Work (PrototypeFor links) ∷ fs) = ⊥
-GivesReady core core2 owners seats v s fs = Unit {0}
+GivesReady core kept owners seats v s (Part p ∷ fs) =
+    PartsReady core kept owners seats (with_frames fs s) p.op (p.values ++ v ∷ []) p.parts
+GivesReady core kept owners seats v s (Fetch base k p ∷ fs) = IsAlikeOp p.op
+GivesReady core kept owners seats v s (Work (Heritage f heritage links) ∷ fs) = FunctionSeen core kept owners seats (with_frames fs s) f
+GivesReady core kept owners seats v s (Work (PrototypeFor links) ∷ fs) = ⊥
+GivesReady core kept owners seats v s fs = Unit {0}
 
 -- the frame that is handed the end of statements: no shared name waits for it
 abbrev pub EndReady : List ℕ → List (Frame Mark CoreWork) → Type 0
 EndReady owners (After (l ∷ ls) ∷ fs) = write_in owners (out-CoreLink l) ≡ None
 EndReady owners fs = Unit {0}
 
-abbrev pub ThrowReady : List ℕ → Seats → CoreState → CoreState → List (Frame Mark CoreWork) → Type 0
-ThrowReady owners seats s t (Catching x names handler ∷ fs) = HandlerReady owners seats s t x names
-ThrowReady owners seats s t fs = Unit {0}
+abbrev pub ThrowReady : List ℕ → Seats → CoreState → List (Frame Mark CoreWork) → Type 0
+ThrowReady owners seats s (Catching x names handler ∷ fs) = HandlerReady owners seats s x names
+ThrowReady owners seats s fs = Unit {0}
 
-abbrev pub HandReady : Core → Core → List ℕ → Seats → CoreState → CoreState → Completion Mark → Type 0
-HandReady core core2 owners seats s t (Gives v) = GivesReady core core2 owners seats v s s.context.frames
-HandReady core core2 owners seats s t Done = EndReady owners s.context.frames
-HandReady core core2 owners seats s t (Throws v) = ThrowReady owners seats s t s.context.frames
-HandReady core core2 owners seats s t c = Unit {0}
+abbrev pub HandReady : Core → Keeping → List ℕ → Seats → CoreState → Completion Mark → Type 0
+HandReady core kept owners seats s (Gives v) = GivesReady core kept owners seats v s s.context.frames
+HandReady core kept owners seats s Done = EndReady owners s.context.frames
+HandReady core kept owners seats s (Throws v) = ThrowReady owners seats s s.context.frames
+HandReady core kept owners seats s c = Unit {0}
 
-abbrev pub ControlReady : Core → Core → List ℕ → Seats → CoreState → CoreState → Control Mark → Type 0
-ControlReady core core2 owners seats s t (Begin x) =
-    AllHold t owners (cell_along seats s.context.environment) (out-CoreExpr x).links
-    × HeadReady core core2 owners seats s t (out-CoreExpr x).links (out-CoreExpr x).head
-ControlReady core core2 owners seats s t (Go c []) = Unit {0}
-ControlReady core core2 owners seats s t (Go c (l ∷ links)) = LinkReady owners seats s c l (out-CoreLink l)
-ControlReady core core2 owners seats s t (Run xs) = ListReady owners seats s t xs
-ControlReady core core2 owners seats s t (Turn site c) = Unit {0}
-ControlReady core core2 owners seats s t (Calls c) = CallReady core core2 owners seats c s t
-ControlReady core core2 owners seats s t (Hand c) = HandReady core core2 owners seats s t c
+abbrev pub ControlReady : Core → Keeping → List ℕ → Seats → CoreState → CoreState → Control Mark → Type 0
+ControlReady core kept owners seats s t (Begin x) =
+    WritesSeen owners seats s (out-CoreExpr x).links × HeadReady core kept owners seats s (out-CoreExpr x).links (out-CoreExpr x).head
+ControlReady core kept owners seats s t (Go c []) = Unit {0}
+ControlReady core kept owners seats s t (Go c (l ∷ links)) = LinkReady owners seats s c l (out-CoreLink l)
+ControlReady core kept owners seats s t (Run xs) = ListReady owners seats s xs
+ControlReady core kept owners seats s t (Turn site c) = Unit {0}
+ControlReady core kept owners seats s t (Calls c) = CallReady core kept owners seats c s t
+ControlReady core kept owners seats s t (Hand c) = HandReady core kept owners seats s c
 
-abbrev pub Ready : Core → Core → List ℕ → Seats → Config → Config → Type 0
-Ready core core2 owners seats s t = ControlReady core core2 owners seats s.state t.state s.control
+abbrev pub Ready : Core → Keeping → List ℕ → Seats → Config → Config → Type 0
+Ready core kept owners seats s t = ControlReady core kept owners seats s.state t.state s.control

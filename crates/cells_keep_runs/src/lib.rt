@@ -19,7 +19,7 @@ ghost use Rattle.cells_keep_runs.specs.Given.{LinksTakeValues, PlainFramesTakeVa
 ghost use Rattle.cells_keep_runs.specs.Going.{OperationsGoOnAlike, PrimitivesBeginAlike};
 ghost use Rattle.cells_keep_runs.specs.Grown.{CellsStay, EnvironmentsStay, FramesStay};
 ghost use Rattle.cells_keep_runs.specs.Handled.{HandlersTakeThrows, ParametersAreRemembered};
-ghost use Rattle.cells_keep_runs.specs.Kept.{KindsStay, RunsAreKept};
+ghost use Rattle.cells_keep_runs.specs.Kept.{FunctionsAreFlattened, KindsStay, RunsAreKept};
 ghost use Rattle.cells_keep_runs.specs.Linked.{CellsTakeReads, CopiesAreDropped, CopiesGoOnAlike, LinksEndAlike, ReferencesAreReadAlike};
 ghost use Rattle.cells_keep_runs.specs.Links.{UntouchedLinksKeepRelated};
 ghost use Rattle.cells_keep_runs.specs.Opened.{BeginsOpenCells, CopiesAreMade};
@@ -251,9 +251,10 @@ pub fn steps_are_matched()
     ensures { StepsAreMatched }
 {}
 
-/// A function is that of a derived class behind the flattening, or of none, as before.
-pub fn kinds_stay()
-    ensures { KindsStay }
+/// The pass flattens each function, and a function is that of a derived class behind it, or of none, as before.
+pub fn functions_are_flattened()
+    ensures flattened { FunctionsAreFlattened }
+    ensures kinds { KindsStay }
 {}
 
 /// A core does behind the flattening what it did before: the same events, and the same ending, if each pair of configurations that the two
