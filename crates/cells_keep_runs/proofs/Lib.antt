@@ -29,6 +29,7 @@ pub mod Handled
 pub mod Classed
 pub mod Started
 pub mod FunctionKinds
+pub mod Named
 pub mod Readied
 pub mod Faced
 pub mod Matched

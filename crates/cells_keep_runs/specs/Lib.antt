@@ -29,6 +29,7 @@ pub mod Going
 pub mod Handled
 pub mod Classed
 pub mod Started
+pub mod Named
 pub mod Ready
 pub mod Course
 pub mod Kept

@@ -22,6 +22,7 @@ ghost use Rattle.cells_keep_runs.specs.Handled.{HandlersTakeThrows, ParametersAr
 ghost use Rattle.cells_keep_runs.specs.Kept.{FunctionsAreFlattened, KindsStay, RunsAreKept};
 ghost use Rattle.cells_keep_runs.specs.Linked.{CellsTakeReads, CopiesAreDropped, CopiesGoOnAlike, LinksEndAlike, ReferencesAreReadAlike};
 ghost use Rattle.cells_keep_runs.specs.Links.{UntouchedLinksKeepRelated};
+ghost use Rattle.cells_keep_runs.specs.Named.{CallsHaveTheirNames};
 ghost use Rattle.cells_keep_runs.specs.Opened.{BeginsOpenCells, CopiesAreMade};
 ghost use Rattle.cells_keep_runs.specs.Places.{NewRecordsComeFirst, NewRecordsHideNothing, WritesAreSeen};
 ghost use Rattle.cells_keep_runs.specs.Renewed.{ScopesAreRemembered};
@@ -243,6 +244,12 @@ pub fn statements_end_alike()
 /// The beginnings of a core's run and of that behind the flattening are related, if no name of a module's scopes is one of its own.
 pub fn beginnings_are_related()
     ensures { BeginningsAreRelated }
+{}
+
+/// The record of a call has behind the flattening what it has before, if the names of the function's scopes aren't its own name, and those
+/// whose cells its closures keep are others.
+pub fn calls_have_their_names()
+    ensures { CallsHaveTheirNames }
 {}
 
 /// Each step of the source from related configurations that are ready for it is matched: the target takes some steps too, or the source goes
