@@ -29,7 +29,7 @@ use Rattle.cells_keep_runs.specs.Alike.{Alike, Along, Config}
 use Rattle.cells_keep_runs.specs.Closed.{AllSeen, ClosuresAreMadeAlike, SeenShared}
 use Rattle.cells_keep_runs.specs.Memory.{CellAt, Names, Seats, cell_along, images}
 use Rattle.cells_keep_runs.specs.Opened.{begun_head, begun_links, flat_begun, opened, opening_steps, with_more_frames}
-use Rattle.cells_keep_runs.specs.Related.{All, Closures, Kept, Owns, Related, Stand, at_links, same_current}
+use Rattle.cells_keep_runs.specs.Related.{All, Closures, IsCellIn, Kept, Owns, Related, Stand, at_links, same_current}
 use Rattle.cells_keep_runs.specs.Seen.{Sees, sees_home, sees_kept, sees_plain}
 use Rattle.cells_keep_runs.specs.Ways.{Holds}
 use Rattle.cells_keep_runs.proofs.Begun.{answered}
@@ -44,6 +44,7 @@ pub record HoldsAlong (seats : Seats) (s t : CoreState) (x : Var) : Type 0 where
   pub cell : ℕ
   pub holds : Holds t x cell
   pub along : cell_along seats s.context.environment x ≡ cell
+  pub at : IsCellIn seats x cell
 
 module _ (owners : List ℕ) (seats : Seats) (s t : CoreState) (stand : Stand owners seats s t) where
   held_by : (x : Var) (q : Resolved Mark) → is_shared owners x ≡ true → resolve s x ≡ Some q → Sees owners seats s.context.environment q.at x → HoldsAlong seats s t x
@@ -53,11 +54,11 @@ module _ (owners : List ℕ) (seats : Seats) (s t : CoreState) (stand : Stand ow
       let names : Names owners seats t.records t.store.cells q.at x q.binding = mem.names q.at x q.binding (state_bound s x q found) in
       let f : FoundAt t x c.seat.home = resolved_on t (images seats s.context.environment) x c.seat.home stand.environment (found_at owners seats s.records t.records t.store.cells mem s.context.environment x c.seat.home at) in
       let cell : CellAt t.records c.seat.home x k = newest_by owners seats s.records t.records t.store.cells mem q.at k x q.binding c newest names in
-      record { cell = k; holds = holds_of t x c.seat.home k f cell; along = along }
+      record { cell = k; holds = holds_of t x c.seat.home k f cell; along = along; at = (q.at, c.seat, c.seated, c.found) }
   held_by x q shared found (sees_kept k j i c along keeps at) =
       let mem = stand.states.memory in
       let f : FoundAt t x i = resolved_on t (images seats s.context.environment) x i stand.environment (found_at owners seats s.records t.records t.store.cells mem s.context.environment x i at) in
-      record { cell = k; holds = holds_of t x i k f (mem.kept j i k x keeps); along = along }
+      record { cell = k; holds = holds_of t x i k f (mem.kept j i k x keeps); along = along; at = (q.at, c.seat, c.seated, c.found) }
 
   pub holds_along : (x : Var) → SeenShared owners seats s x → HoldsAlong seats s t x
   holds_along x h = held_by x h.found h.shared h.is h.sees
@@ -66,12 +67,12 @@ module _ (owners : List ℕ) (seats : Seats) (s t : CoreState) (stand : Stand ow
 
 kept_append : (seats : Seats) (e : Environment) (xs ys : List KeptCell) → Kept seats e xs → Kept seats e ys → Kept seats e (xs ++ ys)
 kept_append seats e [] ys h k = k
-kept_append seats e (x ∷ xs) ys (is, h) k = (is, kept_append seats e xs ys h k)
+kept_append seats e (x ∷ xs) ys (is, at, h) k = (is, at, kept_append seats e xs ys h k)
 
 kept_one : (seats : Seats) (s t : CoreState) (x : Var) → HoldsAlong seats s t x → Kept seats s.context.environment (cell_found x (resolve t x))
 kept_one seats s t x h =
     let is : cell_found x (resolve t x) ≡ record { var = x; cell = h.cell } ∷ [] = ap (λ o. cell_found x o) h.holds.1 ∙ ap (λ v. cell_in x v) h.holds.2 in
-    subst (λ ks. Kept seats s.context.environment ks) (sym is) (h.along, tt)
+    subst (λ ks. Kept seats s.context.environment ks) (sym is) (h.along, h.at, tt)
 
 pub kept_all : (owners : List ℕ) (seats : Seats) (s t : CoreState) (stand : Stand owners seats s t) (xs : List Var) → AllSeen owners seats s xs → Kept seats s.context.environment (flat_map (λ x. cell_found x (resolve t x)) xs)
 kept_all owners seats s t stand [] seen = tt

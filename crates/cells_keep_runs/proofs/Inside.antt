@@ -1,5 +1,5 @@
 -- The frames of the target, where the source stands in the statements of a scope.
-use Rattle.std.proofs.Common.{◌≡◌, ℕ, List, [], ◌∷◌, ◌++◌, refl, sym, subst, ◌⊎◌, inl, inr}
+use Rattle.std.proofs.Common.{◌≡◌, ℕ, List, [], ◌∷◌, ◌++◌, sym, subst, ◌⊎◌, inl, inr}
 use Rattle.core_ast.specs.declared.tree.CoreLink.{CoreLink}
 use Rattle.core_ast.specs.declared.tree.CoreStat.{CoreStat}
 use Rattle.core_meaning.specs.Marks.{CoreWork, Mark}

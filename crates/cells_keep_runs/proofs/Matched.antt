@@ -21,11 +21,11 @@ use Rattle.core_ast.specs.declared.tree.CoreLink.TheOpen as layer
 use Rattle.core_ast.specs.declared.tree.CoreLink.TheOpen.{CoreLink-F, CoreStat-F}
 use Rattle.core_ast.specs.declared.tree.CoreStat.{CoreStat, out-CoreStat}
 use Rattle.core_ast.specs.declared.whole.Core.{Core}
-use Rattle.core_meaning.specs.Marks.{Cell, CoreNext, CoreState, CoreStrict, CoreWork, Heritage, Mark}
+use Rattle.core_meaning.specs.Marks.{Cell, CoreNext, CoreState, CoreStrict, CoreWork, Heritage, Mark, Own}
 use Rattle.core_meaning.specs.Modules.{core_step, rows}
 use Rattle.core_meaning.specs.Names.{record_at, stored_at}
 use Rattle.core_meaning.specs.Rows.{pushed, unlawful, with_control, with_frames}
-use Rattle.core_meaning.specs.State.{After, Begin, Call, Calls, Catching, Completion, Control, CoreValue, Current, Done, Environment, Extra, Fetch, Frame, Gives, Go, Hand, Has, Hosted, Jumps, Made, Making, Method, Old, Operation, Part, Reference, Rest, Returns, Run, Throws, Turn, User, Work}
+use Rattle.core_meaning.specs.State.{After, Begin, Call, Calls, Catching, Closure, Completion, Control, CoreValue, Current, Done, Environment, Extra, Fetch, Frame, Gives, Go, Hand, Has, Hosted, Jumps, Made, Making, Method, Old, Operation, Part, Reference, Rest, Returns, Run, Throws, Turn, User, Work}
 use Rattle.core_meaning.specs.Step.{act_by, go, go_reference, go_value, hand, given, parts, step}
 use Rattle.pass_rules.specs.Cells.{is_shared}
 use Rattle.pass_rules.specs.Scopes.{expr_flat, reset, stats_flat}
@@ -39,6 +39,7 @@ use Rattle.cells_keep_runs.specs.Entered.{entered_seats}
 use Rattle.cells_keep_runs.specs.Entries.{call_seat}
 use Rattle.cells_keep_runs.specs.Handled.{handled_seats, handler_entered}
 use Rattle.cells_keep_runs.specs.Links.{IsUntouchedLink}
+use Rattle.cells_keep_runs.specs.Named.{call_names, scoped_names}
 use Rattle.cells_keep_runs.specs.Opened.{AllHold, Opened, link_in, opened, opened_by, write_in, written_by}
 use Rattle.cells_keep_runs.specs.Passed.{placed, scope_entered}
 use Rattle.cells_keep_runs.specs.Ready.{AreFlattened, CallReady, ControlReady, EndReady, GivesReady, GoesReady, HandReady, HandlerReady, HeadReady, Keeping, LinkReady, ListReady, PartsReady, ScopeReady, StatReady, WriteReady, Writes}
@@ -62,7 +63,7 @@ use Rattle.cells_keep_runs.proofs.Handled.{handlers_take}
 use Rattle.cells_keep_runs.proofs.Linked.{cells_take, copies_dropped, copies_go_on, links_end, references_read}
 use Rattle.cells_keep_runs.proofs.Links.{after_frames, flat_layer, layer_of, links_go, part_frames}
 use Rattle.cells_keep_runs.proofs.Passed.{ended, past_rest, past_restore}
-use Rattle.cells_keep_runs.proofs.Readied.{all_hold, class_seen, closures_of, enters_of, new_scope, seen_in}
+use Rattle.cells_keep_runs.proofs.Readied.{all_hold, arguments_of, behind_at, behind_of, called_of, class_seen, closures_of, enters_of, new_scope, seen_in}
 use Rattle.cells_keep_runs.proofs.Seen.{further, names_read, names_written, write_is}
 use Rattle.cells_keep_runs.proofs.Statements.{statements_begin}
 use Rattle.cells_keep_runs.proofs.Taken.{values_taken}
@@ -620,14 +621,18 @@ module _ (core core2 : Core) (kept : Keeping) (owners : List ℕ) (seats : Seats
   hand_by (Returns v) s t kinds ready stand r = abrupt_here (Returns v) t.context.frames s t 0 tt ready stand r refl
   hand_by (Jumps goes_on label) s t kinds ready stand r = abrupt_here (Jumps goes_on label) t.context.frames s t 0 tt ready stand r refl
 
-  call_by : (c : Call) (s t : CoreState) → CallReady core kept owners seats c s t → Stand owners seats s t → At s.context.environment s.context.frames t.context.frames
+  call_by : (c : Call) (s t : CoreState) → CallReady core kept c s t → Stand owners seats s t → At s.context.environment s.context.frames t.context.frames
       → S (with_control (Calls c) s) (with_control (Calls c) t)
   call_by c s t (inl other) stand r = a_step_each (with_control (Calls c) s) (with_control (Calls c) t) (other_calls_alike core core2 owners seats c s t other stand r)
   call_by c s t (inr x) stand r =
-      let seats2 : Seats = seats ++ call_seat (length t.records) x.locals x.has x.behind.own.cells ∷ [] in
-      from_matched seats2 (with_control (Calls c) s) (with_control (Calls c) t) (core_step core (with_control (Calls c) s)) (a_call_more c x refl) refl
+      let b : Closure Own = behind_of core core2 kept owners seats c s t flattened stand x in
+      let seats2 : Seats = seats ++ call_seat (length t.records) (scoped_names x.function) (call_names x.function b.own.cells) b.own.cells ∷ [] in
+      from_matched seats2 (with_control (Calls c) s) (with_control (Calls c) t) (core_step core (with_control (Calls c) s))
+      (a_call_more c x b refl (behind_at core core2 kept owners seats c s t flattened stand x)) refl
       (answered (Related owners seats2) core2 (core_step core (with_control (Calls c) s)) (with_control (Calls c) t) (with_control (Calls c) t) 0 refl
-      (calls_enter core core2 owners seats c s t x.before x.behind x.function (kept x.before.function) x.locals x.has (enters_of core core2 kept owners seats c s t flattened stand x) (closures_of core core2 kept owners seats c s t flattened stand x) x.called x.arguments stand r))
+      (calls_enter core core2 owners seats c s t x.closure b x.function (kept x.closure.function) (scoped_names x.function) (call_names x.function b.own.cells)
+      (enters_of core core2 kept owners seats c s t flattened stand x) (closures_of core core2 kept owners seats c s t flattened stand x)
+      (called_of core core2 kept owners seats c s t flattened stand x) (arguments_of core core2 kept owners seats c s t flattened stand x) stand r))
 
   same_by : (c : Control Mark) (s t : CoreState) → KindsAreKept core core2 → IsBare c → ControlReady core kept owners seats s t c → Stand owners seats s t → At s.context.environment s.context.frames t.context.frames
       → S (with_control c s) (with_control c t)

@@ -1,5 +1,5 @@
 -- The record of a call behind the pass, and before it.
-use Rattle.std.proofs.Common.{◌≡◌, ℕ, ◌<◌, Bool, true, false, ◌||◌, List, [], ◌∷◌, ◌++◌, map, Option, None, Some, length, nat_eq, refl, sym, ap, subst, ◌∙◌, ◌⊎◌, inl, inr}
+use Rattle.std.proofs.Common.{◌≡◌, ℕ, Bool, true, false, ◌||◌, List, [], ◌∷◌, ◌++◌, map, Option, None, Some, nat_eq, refl, sym, ap, subst, ◌∙◌, ◌⊎◌, inl, inr}
 use Rattle.std.specs.Prelude.{if◌then◌else◌, is_some}
 use Rattle.std.proofs.lemmas.Bool.{eq-eqb, eqb-true}
 use Rattle.std.proofs.lemmas.List.{append_assoc}
@@ -17,7 +17,7 @@ use Rattle.pass_rules.specs.Cells.{is_among}
 use Rattle.pass_rules.specs.Scopes.{function_flat}
 use Rattle.cells_keep_runs.specs.Called.{ArgumentsBound, bindings_of}
 use Rattle.cells_keep_runs.specs.Entries.{BoundAlike, BoundCell, BoundOpen, NewCall}
-use Rattle.cells_keep_runs.specs.Memory.{Bindings, cell_found}
+use Rattle.cells_keep_runs.specs.Memory.{cell_found}
 use Rattle.cells_keep_runs.specs.Named.{CallsHaveTheirNames, CellsOf, NamesApart, call_names, listed, own_names, scoped_names}
 use Rattle.cells_keep_runs.proofs.Writes.{differ, one_value, same_var}
 
@@ -239,7 +239,7 @@ module _ (f : CoreFunction) (v : Value) (args : List Value) (kept : List Var) (c
   own_uncelled : (x : Var) → is_among x (listed f.own) ≡ true → (k : ℕ) → cell_found cells x ≡ Some k → ⊥
   own_uncelled x own k found =
       let all : is_among x (own_names f) ≡ true = among_right f.parameters (listed f.arguments ++ (f.locals ++ listed f.own)) x
-          (among_right (listed f.arguments) (f.locals ++ listed f.own) x (among_right f.locals (listed f.own) x own)) in
+      (among_right (listed f.arguments) (f.locals ++ listed f.own) x (among_right f.locals (listed f.own) x own)) in
       differ (is_among x (own_names f)) all (foreign x k found).0
 
   same_own : (x : Var) (b : Binding Mark) → binding_in P x ≡ None → binding_in N x ≡ None → binding_in L x ≡ None → binding_in O x ≡ Some b → BoundAlike behind x b
@@ -378,7 +378,7 @@ arguments_by : (o : Option Var) (first rest : Record) → ArgumentsBound (first 
 arguments_by None first rest = tt
 arguments_by (Some x) first rest =
     let here : is_among x (names (first ++ (name_bound (Some x) ++ rest))) ≡ true = ap (λ ys. is_among x ys) (names_append first (undefined_binding x ∷ rest))
-        ∙ among_right (names first) (x ∷ names rest) x (ap (λ b. b || is_among x (names rest)) (eq-eqb x.0 x.0 refl)) in
+    ∙ among_right (names first) (x ∷ names rest) x (ap (λ b. b || is_among x (names rest)) (eq-eqb x.0 x.0 refl)) in
     some_there (first ++ (name_bound (Some x) ++ rest)) x here
 
 arguments_named : (f : CoreFunction) (a : Closure Own) (c : Call) (s : CoreState) → f.declared ≡ [] → ArgumentsBound (bindings_of f a c s) f.arguments

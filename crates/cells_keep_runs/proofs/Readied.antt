@@ -1,8 +1,7 @@
 -- From what is asked of the source to what the laws of the steps ask of both.
-use Rattle.std.proofs.Common.{◌≡◌, ℕ, zero, suc, ◌+◌, Bool, true, false, ◌||◌, cond, List, [], ◌∷◌, ◌++◌, map, Option, None, Some, length, nat_eq, slice_get, refl, sym, ap, subst, ◌∙◌, ◌⊎◌, inl, inr}
+use Rattle.std.proofs.Common.{◌≡◌, ◌<◌, ℕ, zero, suc, Bool, true, false, ◌||◌, cond, List, [], ◌∷◌, map, Option, None, Some, length, nat_eq, slice_get, refl, sym, ap, subst, ◌∙◌, ◌⊎◌, inl, inr}
 use Rattle.std.specs.Prelude.{if◌then◌else◌}
 use Rattle.std.proofs.lemmas.Bool.{eq-eqb, eqb-true}
-use Rattle.es_value.specs.declared.value.Value.{Value}
 use Rattle.core_ast.specs.declared.parts.FunctionId.{FunctionId}
 use Rattle.core_ast.specs.declared.parts.ScopedName.{ScopedName}
 use Rattle.core_ast.specs.declared.parts.Var.{Var}
@@ -10,22 +9,25 @@ use Rattle.core_ast.specs.declared.tree.CoreLink.{CoreLink, out-CoreLink}
 use Rattle.core_ast.specs.declared.whole.Core.{Core}
 use Rattle.core_meaning.specs.Cells.{uninitialized}
 use Rattle.core_meaning.specs.Expressions.{function_at}
-use Rattle.core_meaning.specs.Marks.{CoreState, Mark, Own, Unmade, empty}
+use Rattle.core_meaning.specs.Marks.{CoreState, KeptCell, Mark, Own, Unmade, empty}
 use Rattle.core_meaning.specs.Names.{binding_in, record_at}
-use Rattle.core_meaning.specs.State.{Binding, Call, Closure, CoreValue, Extra, User}
+use Rattle.core_meaning.specs.State.{Binding, Call, Closure, CoreValue, Environment, Extra, User}
 use Rattle.pass_rules.specs.Cells.{is_among, is_shared}
 use Rattle.pass_rules.specs.Scopes.{function_flat, vars}
-use Rattle.cells_keep_runs.specs.Called.{Enters}
+use Rattle.cells_keep_runs.specs.Called.{ArgumentsBound, Enters, bindings_of}
 use Rattle.cells_keep_runs.specs.Classed.{ClassSeen, SeenIn}
 use Rattle.cells_keep_runs.specs.Entered.{reset_of}
+use Rattle.cells_keep_runs.specs.Entries.{NewCall}
 use Rattle.cells_keep_runs.specs.Memory.{Keeps, Memory, OpenAt, Seat, Seats, cell_along, cell_found}
+use Rattle.cells_keep_runs.specs.Named.{CellsOf, call_names, scoped_names}
 use Rattle.cells_keep_runs.specs.Opened.{AllHold, WriteHolds, write_in}
 use Rattle.cells_keep_runs.specs.Ready.{AllAmong, AllMarked, AreFlattened, ClosureCall, FunctionSeen, Keeping, ScopeReady, ValuesSeen, WriteSeen, WritesSeen}
-use Rattle.cells_keep_runs.specs.Related.{All, Closures, Stand}
-use Rattle.cells_keep_runs.specs.Renewed.{AllNamed, Among, Gets, NewScope, NoValue, OwnCell, Renewal, gets_cell, gets_none, renewed_name}
+use Rattle.cells_keep_runs.specs.Related.{All, Closures, IsCellIn, Kept, Stand}
+use Rattle.cells_keep_runs.specs.Renewed.{AllNamed, Among, Gets, NewScope, NoValue, OwnCell, gets_cell, gets_none, renewed_name}
 use Rattle.cells_keep_runs.specs.Ways.{Holds}
 use Rattle.cells_keep_runs.proofs.Closed.{holds_along}
-use Rattle.cells_keep_runs.proofs.Writes.{differ, not_none, one_value, same_var}
+use Rattle.cells_keep_runs.proofs.Named.{calls_have_names}
+use Rattle.cells_keep_runs.proofs.Writes.{not_none, one_value, same_var}
 
 -- ---- the shared names that links write hold their cells
 
@@ -50,30 +52,64 @@ module _ (core core2 : Core) (kept : Keeping) (owners : List ℕ) (seats : Seats
   seen_in (User heritage ∷ Extra (Unmade f) ∷ []) x = class_seen f x
   seen_in vs x = x
 
--- two lists that are related have related elements at each place
-at_place : {A C : Type 0} (R : A → C → Type 0) (xs : List A) (ys : List C) (n : ℕ) (x : A) (y : C) → All R xs ys → slice_get xs n ≡ Some x → slice_get ys n ≡ Some y → R x y
-at_place R [] ys n x y all is is2 = cc
-at_place R (a ∷ xs) [] n x y all is is2 = absurd all
-at_place R (a ∷ xs) (b ∷ ys) zero x y (r, all) is is2 = subst (λ z. R z y) (one_value (Some a) a x refl is) (subst (λ z. R a z) (one_value (Some b) b y refl is2) r)
-at_place R (a ∷ xs) (b ∷ ys) (suc n) x y (r, all) is is2 = at_place R xs ys n x y all is is2
+-- what is at a place of a related list
+related_at : {A C : Type 0} (R : A → C → Type 0) (xs : List A) (ys : List C) (n : ℕ) (x : A) → All R xs ys → slice_get xs n ≡ Some x → (y : C) × (slice_get ys n ≡ Some y) × R x y
+related_at R [] ys n x all is = cc
+related_at R (a ∷ xs) [] n x all is = absurd all
+related_at R (a ∷ xs) (b ∷ ys) zero x (r, all) is = (b, refl, subst (λ z. R z b) (one_value (Some a) a x refl is) r)
+related_at R (a ∷ xs) (b ∷ ys) (suc n) x (r, all) is = related_at R xs ys n x all is
+
+-- cells that are kept are made
+kept_in : (seats : Seats) (e : Environment) (ks : List KeptCell) (x : Var) (k : ℕ) → Kept seats e ks → cell_found ks x ≡ Some k → IsCellIn seats x k
+kept_in seats e [] x k kept is = cc
+kept_in seats e (c ∷ ks) x k (along, at, kept) is = by_name (nat_eq c.var.0 x.0) refl is (λ on. kept_in seats e ks x k kept on)
+  where
+    by_name : (same : Bool) → nat_eq c.var.0 x.0 ≡ same → (if same then Some c.cell else cell_found ks x) ≡ Some k → (cell_found ks x ≡ Some k → IsCellIn seats x k) → IsCellIn seats x k
+    by_name true e2 here on = subst (λ j. IsCellIn seats x j) (one_value (Some c.cell) c.cell k refl here) (subst (λ y. IsCellIn seats y c.cell) (same_var c.var x (eqb-true c.var.0 x.0 e2)) at)
+    by_name false e2 here on = on here
 
 module _ (core core2 : Core) (kept : Keeping) (owners : List ℕ) (seats : Seats) (c : Call) (s t : CoreState) (flattened : AreFlattened core core2 owners kept)
-    (stand : Stand owners seats s t) (x : ClosureCall core kept owners seats c s t) where
-  pub closures_of : Closures seats x.before x.behind
-  closures_of = at_place (Closures seats) s.closures t.closures x.number x.before x.behind stand.states.closures x.before_at x.behind_at
+    (stand : Stand owners seats s t) (x : ClosureCall core kept c s t) where
+  pub behind_all : (b : Closure Own) × (slice_get t.closures x.number ≡ Some b) × Closures seats x.closure b
+  behind_all = related_at (Closures seats) s.closures t.closures x.number x.closure stand.states.closures x.closure_at
 
-  pub enters_of : Enters core core2 owners c s t x.before x.behind x.function (kept x.before.function)
+  abbrev pub behind_of : Closure Own
+  behind_of = behind_all.0
+
+  pub behind_at : slice_get t.closures x.number ≡ Some behind_of
+  behind_at = behind_all.1
+
+  pub closures_of : Closures seats x.closure behind_of
+  closures_of = behind_all.2
+
+  pub enters_of : Enters core core2 owners c s t x.closure behind_of x.function (kept x.closure.function)
   enters_of = record {
     id = x.id;
     number = x.number;
     object = x.object;
     class_is = x.class_is;
-    before = x.before_at;
-    behind = x.behind_at;
+    before = x.closure_at;
+    behind = behind_at;
     function = x.function_is;
-    flat = ap (λ f. function_at core2 f) closures_of.function ∙ flattened x.before.function x.function x.function_is;
+    flat = ap (λ f. function_at core2 f) closures_of.function ∙ flattened x.closure.function x.function x.function_is;
     undeclared = x.undeclared;
   }
+
+  made_at : (y : Var) (k : ℕ) → IsCellIn seats y k → k < length t.store.cells
+  made_at y k (n, seat, at, found) = stand.states.memory.cells_made n k seat y at found
+
+  pub cells_of : CellsOf behind_of.own.cells (kept x.closure.function) t.store.cells
+  cells_of = record {
+    named = x.named behind_of behind_at;
+    there = λ y k found. made_at y k (kept_in seats x.closure.environment behind_of.own.cells y k closures_of.cells found);
+  }
+
+  pub called_of : NewCall (bindings_of (function_flat owners (kept x.closure.function) x.function) behind_of c t) (bindings_of x.function x.closure c s) t.store.cells
+      (scoped_names x.function) (call_names x.function behind_of.own.cells) behind_of.own.cells
+  called_of = calls_have_names.called owners x.function (kept x.closure.function) x.closure behind_of c s t x.undeclared x.unkept x.apart cells_of
+
+  pub arguments_of : ArgumentsBound (bindings_of x.function x.closure c s) x.function.arguments
+  arguments_of = calls_have_names.arguments x.function x.closure c s x.undeclared
 
 -- ---- scopes
 

@@ -5,7 +5,6 @@ use Rattle.core_ast.specs.declared.parts.CoreHead.TheVariants as head
 use Rattle.core_ast.specs.declared.parts.Var.{Var}
 use Rattle.core_ast.specs.declared.tree.CoreExpr.{CoreExpr, out-CoreExpr}
 use Rattle.core_ast.specs.declared.tree.CoreLink.{CoreLink, out-CoreLink}
-use Rattle.core_ast.specs.declared.tree.CoreStat.{CoreStat}
 use Rattle.core_ast.specs.declared.whole.Core.{Core}
 use Rattle.core_meaning.specs.Marks.{CoreState, CoreWork, Mark, value_in}
 use Rattle.core_meaning.specs.Modules.{core_step}
@@ -13,7 +12,7 @@ use Rattle.core_meaning.specs.Names.{binding_in, record_at}
 use Rattle.core_meaning.specs.Rows.{with_control}
 use Rattle.core_meaning.specs.State.{Begin, Binding, Environment, EnvironmentRecord, Frame, LoopUpdate, Rest, Restore}
 use Rattle.pass_rules.specs.Cells.{is_among, is_shared}
-use Rattle.pass_rules.specs.Scopes.{expr_flat, stats_flat}
+use Rattle.pass_rules.specs.Scopes.{expr_flat}
 use Rattle.cells_keep_runs.specs.Begun.{Matched}
 use Rattle.cells_keep_runs.specs.Memory.{IsNewest, Seat, Seats}
 use Rattle.cells_keep_runs.specs.Opened.{AllApart, write_in}

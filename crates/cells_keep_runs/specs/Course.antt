@@ -1,6 +1,6 @@
 -- The two machines side by side: how a step of the source is matched between related configurations, and the pairs of configurations that
 -- both come to in this way.
-use Rattle.std.specs.Prelude.{◌≡◌, ◌+◌, ◌<◌, List, [], ◌∷◌, ◌++◌, length, ℕ, suc}
+use Rattle.std.specs.Prelude.{◌≡◌, ◌+◌, ◌<◌, List, [], ◌∷◌, ◌++◌, Some, length, slice_get, ℕ, suc}
 use Rattle.runs.specs.Run.{Asks, Ends, Leaves}
 use Rattle.runs.specs.Simulation.{Reaches}
 use Rattle.shared_meaning.specs.Ending.{Exit, Finish}
@@ -14,10 +14,10 @@ use Rattle.core_ast.specs.declared.tree.CoreExpr.{CoreExpr, out-CoreExpr}
 use Rattle.core_ast.specs.declared.tree.CoreLink.TheOpen as layer
 use Rattle.core_ast.specs.declared.tree.CoreStat.{CoreStat, out-CoreStat}
 use Rattle.core_ast.specs.declared.whole.Core.{Core}
-use Rattle.core_meaning.specs.Marks.{CoreWork, Mark}
+use Rattle.core_meaning.specs.Marks.{CoreWork, Mark, Own}
 use Rattle.core_meaning.specs.Modules.{core_step, start}
 use Rattle.core_meaning.specs.Names.{record_at}
-use Rattle.core_meaning.specs.State.{Begin, Call, Calls, Catching, Frame, Hand, Run, Throws}
+use Rattle.core_meaning.specs.State.{Begin, Call, Calls, Catching, Closure, Frame, Hand, Run, Throws}
 use Rattle.cells_keep_runs.specs.Acted.{KindsAreKept}
 use Rattle.cells_keep_runs.specs.Alike.{Config}
 use Rattle.cells_keep_runs.specs.Copied.{copied_seats}
@@ -25,6 +25,7 @@ use Rattle.cells_keep_runs.specs.Entered.{entered_seats}
 use Rattle.cells_keep_runs.specs.Entries.{call_seat}
 use Rattle.cells_keep_runs.specs.Handled.{handled_seats}
 use Rattle.cells_keep_runs.specs.Memory.{Seats}
+use Rattle.cells_keep_runs.specs.Named.{call_names, scoped_names}
 use Rattle.cells_keep_runs.specs.Ready.{AreFlattened, ClosureCall, CopyReady, HandlerReady, Keeping, Ready, ScopeReady}
 use Rattle.cells_keep_runs.specs.Related.{Related}
 
@@ -38,8 +39,10 @@ pub data NewSeats (core : Core) (kept : Keeping) (owners : List ℕ) (seats : Se
   a_copy_more : (x : CoreExpr) (xs : List Var) (r : CopyReady owners seats s.state xs (out-CoreExpr x).links)
       → s.control ≡ Begin x → (out-CoreExpr x).head ≡ head.Copy xs
       → NewSeats core kept owners seats s t (copied_seats owners seats r.copyable.seat (record_at s.state.records r.number) xs (length t.state.store.cells))
-  a_call_more : (c : Call) (r : ClosureCall core kept owners seats c s.state t.state) → s.control ≡ Calls c
-      → NewSeats core kept owners seats s t (seats ++ call_seat (length t.state.records) r.locals r.has r.behind.own.cells ∷ [])
+  a_call_more : (c : Call) (r : ClosureCall core kept c s.state t.state) (behind : Closure Own)
+      → s.control ≡ Calls c → slice_get t.state.closures r.number ≡ Some behind
+      → NewSeats core kept owners seats s t
+      (seats ++ call_seat (length t.state.records) (scoped_names r.function) (call_names r.function behind.own.cells) behind.own.cells ∷ [])
   a_handler_more : (v : Value) (x : Var) (names : List ScopedName) (handler : List CoreStat) (fs : List (Frame Mark CoreWork))
       (r : HandlerReady owners seats s.state x names)
       → s.control ≡ Hand (Throws v) → s.state.context.frames ≡ Catching x names handler ∷ fs

@@ -10,11 +10,11 @@ use Rattle.core_ast.specs.declared.tree.CoreExpr.{CoreExpr}
 use Rattle.core_ast.specs.declared.tree.CoreLink.{CoreLink, out-CoreLink}
 use Rattle.core_ast.specs.declared.tree.CoreLink.TheOpen as layer
 use Rattle.core_ast.specs.declared.whole.Core.{Core}
-use Rattle.core_meaning.specs.Marks.{Cell, CoreState, CoreWork, Mark}
+use Rattle.core_meaning.specs.Marks.{Cell, CoreState, Mark}
 use Rattle.core_meaning.specs.Modules.{core_step}
 use Rattle.core_meaning.specs.Names.{Resolved, resolve, stored_at}
 use Rattle.core_meaning.specs.Rows.{pushed, with_control}
-use Rattle.core_meaning.specs.State.{After, CoreValue, Current, Extra, Frame, Gives, Go, Hand, Has, LoopUpdate, Reference, Rest, User}
+use Rattle.core_meaning.specs.State.{After, CoreValue, Current, Extra, Gives, Go, Hand, Has, Reference, User}
 use Rattle.pass_rules.specs.Cells.{is_shared}
 use Rattle.runs.specs.Simulation.{Reaches}
 use Rattle.cells_keep_runs.specs.Alike.{Alike, Config}

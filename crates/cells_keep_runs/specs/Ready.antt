@@ -31,11 +31,10 @@ use Rattle.pass_rules.specs.Cells.{is_among, is_shared}
 use Rattle.pass_rules.specs.Scopes.{function_flat, vars}
 use Rattle.cells_keep_runs.specs.Acted.{IsAlikeOp}
 use Rattle.cells_keep_runs.specs.Alike.{Config}
-use Rattle.cells_keep_runs.specs.Called.{ArgumentsBound, bindings_of}
 use Rattle.cells_keep_runs.specs.Closed.{AllSeen, SeenShared}
 use Rattle.cells_keep_runs.specs.Copied.{Copyable, GoesToThen, InScope, NoWrites}
 use Rattle.cells_keep_runs.specs.Entered.{AllAt, reset_of}
-use Rattle.cells_keep_runs.specs.Entries.{NewCall}
+use Rattle.cells_keep_runs.specs.Named.{NamesApart}
 use Rattle.cells_keep_runs.specs.Going.{IsAlikeHead}
 use Rattle.cells_keep_runs.specs.Memory.{Seat, Seats, cell_found}
 use Rattle.cells_keep_runs.specs.Opened.{write_in}
@@ -131,26 +130,24 @@ pub record CopyReady (owners : List ℕ) (seats : Seats) (s : CoreState) (xs : L
   pub copyable : Copyable owners seats s.records s.context.environment number xs
   pub inside : InScope s.context.frames
 
--- the call of a closure of the program, which isn't of a script
-pub record ClosureCall (core : Core) (kept : Keeping) (owners : List ℕ) (seats : Seats) (c : Call) (s t : CoreState) : Type 0 where
-  pub before : Closure Own
-  pub behind : Closure Own
+-- The call of a closure of the program, whose function isn't of a script. Behind the pass it keeps cells of the names that its function keeps.
+pub record ClosureCall (core : Core) (kept : Keeping) (c : Call) (s t : CoreState) : Type 0 where
+  pub closure : Closure Own
   pub function : CoreFunction
-  pub locals : List Var
-  pub has : List Var
   pub id : ObjId
   pub number : ℕ
   pub object : c.function ≡ value.Object id
   pub class_is : (object_at s.heap id).class ≡ class.Function number
-  pub before_at : slice_get s.closures number ≡ Some before
-  pub behind_at : slice_get t.closures number ≡ Some behind
-  pub function_is : function_at core before.function ≡ Some function
+  pub closure_at : slice_get s.closures number ≡ Some closure
+  pub function_is : function_at core closure.function ≡ Some function
   pub undeclared : function.declared ≡ []
-  pub called : NewCall (bindings_of (function_flat owners (kept before.function) function) behind c t) (bindings_of function before c s) t.store.cells locals has behind.own.cells
-  pub arguments : ArgumentsBound (bindings_of function before c s) function.arguments
+  pub unkept : closure.own.cells ≡ []
+  pub apart : NamesApart function (kept closure.function)
+  pub named : (behind : Closure Own) → slice_get t.closures number ≡ Some behind
+      → (x : Var) (k : ℕ) → cell_found behind.own.cells x ≡ Some k → is_among x (kept closure.function) ≡ true
 
-abbrev pub CallReady : Core → Keeping → List ℕ → Seats → Call → CoreState → CoreState → Type 0
-CallReady core kept owners seats c s t = CallsNoClosure s.heap c.function ⊎ ClosureCall core kept owners seats c s t
+abbrev pub CallReady : Core → Keeping → Call → CoreState → CoreState → Type 0
+CallReady core kept c s t = CallsNoClosure s.heap c.function ⊎ ClosureCall core kept c s t
 
 -- ---- operations
 
@@ -229,7 +226,7 @@ ControlReady core kept owners seats s t (Go c []) = Unit {0}
 ControlReady core kept owners seats s t (Go c (l ∷ links)) = LinkReady owners seats s c l (out-CoreLink l)
 ControlReady core kept owners seats s t (Run xs) = ListReady owners seats s xs
 ControlReady core kept owners seats s t (Turn site c) = Unit {0}
-ControlReady core kept owners seats s t (Calls c) = CallReady core kept owners seats c s t
+ControlReady core kept owners seats s t (Calls c) = CallReady core kept c s t
 ControlReady core kept owners seats s t (Hand c) = HandReady core kept owners seats s c
 
 abbrev pub Ready : Core → Keeping → List ℕ → Seats → Config → Config → Type 0

@@ -5,7 +5,7 @@
 -- Frames are those of the source, flattened, but for three things. A scope has left a Restore and a Rest on the source's stack, whose
 -- statements stand behind those of the target's Rest. A shared name that an expression writes waits as a frame of its own. And where
 -- a frame would wait with no links but for such a name, there may be none.
-use Rattle.std.specs.Prelude.{◌≡◌, List, [], ◌∷◌, ◌++◌, map, Option, Some, length, ℕ}
+use Rattle.std.specs.Prelude.{◌≡◌, List, [], ◌∷◌, ◌++◌, map, Option, Some, length, slice_get, ℕ}
 use Rattle.es_outside.specs.declared.events.Site.{Site}
 use Rattle.es_value.specs.declared.value.Value.{Value}
 use Rattle.es_value.specs.declared.value.Value.TheVariants as value
@@ -214,10 +214,14 @@ pub record Contexts (owners : List ℕ) (seats : Seats) (a b : Context Mark Own 
   pub own : Owns a.own b.own
   pub frames : Frames owners seats a.environment a.frames b.frames
 
+-- a record has the cell
+abbrev pub IsCellIn : Seats → Var → ℕ → Type 0
+IsCellIn seats x k = (n : ℕ) × (seat : Seat) × (slice_get seats n ≡ Some seat) × (cell_found seat.cells x ≡ Some k)
+
 -- each cell that is kept is that of the name where the closure was made
 abbrev pub Kept : Seats → Environment → List KeptCell → Type 0
 Kept seats e [] = Unit {0}
-Kept seats e (k ∷ ks) = (cell_along seats e k.var ≡ k.cell) × Kept seats e ks
+Kept seats e (k ∷ ks) = (cell_along seats e k.var ≡ k.cell) × IsCellIn seats k.var k.cell × Kept seats e ks
 
 pub record Closures (seats : Seats) (a b : Closure Own) : Type 0 where
   pub function : b.function ≡ a.function
