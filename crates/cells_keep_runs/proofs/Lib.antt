@@ -34,3 +34,4 @@ pub mod Readied
 pub mod Faced
 pub mod Matched
 pub mod Kept
+pub mod Apart

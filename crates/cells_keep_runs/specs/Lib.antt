@@ -33,3 +33,4 @@ pub mod Named
 pub mod Ready
 pub mod Course
 pub mod Kept
+pub mod Apart

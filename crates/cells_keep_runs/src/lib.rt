@@ -4,6 +4,7 @@
 
 ghost use Rattle.cells_keep_runs.specs.Acted.{OperationsActAlike};
 ghost use Rattle.cells_keep_runs.specs.Alike.{UntouchedAreAlike};
+ghost use Rattle.cells_keep_runs.specs.Apart.{FunctionsAreApart, ModulesAreApart, NoneDeclared};
 ghost use Rattle.cells_keep_runs.specs.Passed.{CopiesAreTaken, PlacesAreKept, ScopesAreEntered, ScopesAreLeft, ScopesEnd};
 ghost use Rattle.cells_keep_runs.specs.Begun.{UntouchedHeadsKeepRelated};
 ghost use Rattle.cells_keep_runs.specs.Called.{CallsEnterAlike};
@@ -250,6 +251,14 @@ pub fn beginnings_are_related()
 /// whose cells its closures keep are others.
 pub fn calls_have_their_names()
     ensures { CallsHaveTheirNames }
+{}
+
+/// In a lawful core no name of a module's scopes is one of its own, none of a function's scopes is its own name, no name whose cell it keeps is
+/// one of its own, and no function is declared in another as in scripts.
+pub fn lawful_names_are_apart()
+    ensures modules { ModulesAreApart }
+    ensures functions { FunctionsAreApart }
+    ensures declared { NoneDeclared }
 {}
 
 /// Each step of the source from related configurations that are ready for it is matched: the target takes some steps too, or the source goes
