@@ -5,6 +5,7 @@ use Rattle.runs.specs.Same.{Same}
 use Rattle.runs.specs.Simulation.{IsMatched, Rank, Reaches}
 use Rattle.runs.proofs.Simulated.{simulated}
 use Rattle.es_outside.specs.declared.events.Event.{Event}
+use Rattle.core_ast.specs.Lawful.{IsLawful}
 use Rattle.core_ast.specs.declared.whole.Core.{Core}
 use Rattle.core_meaning.specs.Marks.{CoreNext}
 use Rattle.core_meaning.specs.Modules.{core_step, start}
@@ -15,11 +16,12 @@ use Rattle.cells_keep_runs.specs.Kept.{AllReady, IsReached, RunsAreKept, first_s
 use Rattle.cells_keep_runs.specs.Memory.{Seats}
 use Rattle.cells_keep_runs.specs.Related.{Related}
 use Rattle.cells_keep_runs.specs.Started.{owners_of}
+use Rattle.cells_keep_runs.proofs.Apart.{functions_apart, modules_apart, none_declared}
 use Rattle.cells_keep_runs.proofs.FunctionKinds.{functions_flattened, kinds_stay}
 use Rattle.cells_keep_runs.proofs.Matched.{steps_matched}
 use Rattle.cells_keep_runs.proofs.Started.{beginnings}
 
-module _ (core : Core) (ready : AllReady core) where
+module _ (core : Core) (lawful : IsLawful core) (ready : AllReady core) where
   abbrev core2 : Core
   core2 = without_scopes core
 
@@ -62,7 +64,7 @@ module _ (core : Core) (ready : AllReady core) where
       → Matches (steps + measure ahead) (core_step core s) t
   matched_at s t seats ahead zero way reached related =
       let at : Matches (measure ahead) (core_step core ahead) t =
-      by_step seats ahead t reached (steps_matched core core2 (kept_of core) owners seats ahead t (functions_flattened core) (kinds_stay core) related (ready seats ahead t reached)) in
+      by_step seats ahead t reached (steps_matched core core2 (kept_of core) owners seats ahead t (functions_flattened core) (λ f function at. (none_declared core f function lawful at, functions_apart core f function lawful at)) (kinds_stay core) related (ready seats ahead t reached)) in
       let none : measure ahead ≡ 0 + measure ahead = omega arith in
       subst (λ a. Matches (0 + measure ahead) (core_step core a) t) (sym way) (subst (λ r. Matches r (core_step core ahead) t) none at)
   matched_at s t seats ahead (suc steps) (v, is, way) reached related =
@@ -76,6 +78,6 @@ module _ (core : Core) (ready : AllReady core) where
       (record { matched = λ a b x. matched_at a b x.seats x.ahead x.steps x.way x.reached x.related }) s t side
 
 pub runs_kept : RunsAreKept
-runs_kept core apart ready =
-    both_run core ready (start core) (start (without_scopes core))
-    (here core ready (first_seats core) (start core) (start (without_scopes core)) begun (beginnings core apart))
+runs_kept core lawful ready =
+    both_run core lawful ready (start core) (start (without_scopes core))
+    (here core lawful ready (first_seats core) (start core) (start (without_scopes core)) begun (beginnings core (modules_apart core lawful)))

@@ -33,5 +33,5 @@ pub mod Named
 pub mod Readied
 pub mod Faced
 pub mod Matched
-pub mod Kept
 pub mod Apart
+pub mod Kept

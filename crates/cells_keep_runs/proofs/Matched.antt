@@ -42,7 +42,7 @@ use Rattle.cells_keep_runs.specs.Links.{IsUntouchedLink}
 use Rattle.cells_keep_runs.specs.Named.{call_names, scoped_names}
 use Rattle.cells_keep_runs.specs.Opened.{AllHold, Opened, link_in, opened, opened_by, write_in, written_by}
 use Rattle.cells_keep_runs.specs.Passed.{placed, scope_entered}
-use Rattle.cells_keep_runs.specs.Ready.{AreFlattened, CallReady, ControlReady, EndReady, GivesReady, GoesReady, HandReady, HandlerReady, HeadReady, Keeping, LinkReady, ListReady, PartsReady, ScopeReady, StatReady, WriteReady, Writes}
+use Rattle.cells_keep_runs.specs.Ready.{AreApart, AreFlattened, CallReady, ControlReady, EndReady, GivesReady, GoesReady, HandReady, HandlerReady, HeadReady, Keeping, LinkReady, ListReady, PartsReady, ScopeReady, StatReady, WriteReady, Writes}
 use Rattle.cells_keep_runs.specs.Related.{BelowCells, IsThen, BelowScopes, Currents, Frames, IsBare, PartCurrents, Related, Seats, Stand, Tail, Waits, WaitsAfter, WaitsBehind, WaitsDelegate, WaitsDelegateDone, WaitsDelegateStart, WaitsDelegateTurn, WaitsDelegateValue, WaitsHeritage, WaitsKeyed, WaitsPrototype, WaitsSpread, WaitsSpreadStep, WaitsSpreadValue, WaitsToStep, WaitsToStore, WaitsYield, a_scope, at_copy, at_exit, at_expression, at_links, at_same, at_statements, behind_copy, catching, cell_along, choice, derived, fetch, finishing, instantiates, loop_body, loop_test, loop_update, matching, no_scope, none, part, part_flat, past_cells, pending, plain, prototype, rest, restore, resumes, returning, same_current, same_part, starts, subject, target, then_part, throwing, waiting, waits, waits_for_cell}
 use Rattle.cells_keep_runs.specs.Seen.{IsWrite}
 use Rattle.cells_keep_runs.specs.Statements.{IsUntouchedStat}
@@ -72,7 +72,7 @@ use Rattle.cells_keep_runs.proofs.Turned.{contexts_end, leaves_scope, other_call
 abbrev Frames1 : Type 0
 Frames1 = List (Frame Mark CoreWork)
 
-module _ (core core2 : Core) (kept : Keeping) (owners : List ℕ) (seats : Seats) (flattened : AreFlattened core core2 owners kept) where
+module _ (core core2 : Core) (kept : Keeping) (owners : List ℕ) (seats : Seats) (flattened : AreFlattened core core2 owners kept) (apart : AreApart core kept) where
   abbrev R : Config → Config → Type 0
   R = Related owners seats
 
@@ -625,14 +625,14 @@ module _ (core core2 : Core) (kept : Keeping) (owners : List ℕ) (seats : Seats
       → S (with_control (Calls c) s) (with_control (Calls c) t)
   call_by c s t (inl other) stand r = a_step_each (with_control (Calls c) s) (with_control (Calls c) t) (other_calls_alike core core2 owners seats c s t other stand r)
   call_by c s t (inr x) stand r =
-      let b : Closure Own = behind_of core core2 kept owners seats c s t flattened stand x in
+      let b : Closure Own = behind_of core core2 kept owners seats c s t flattened apart stand x in
       let seats2 : Seats = seats ++ call_seat (length t.records) (scoped_names x.function) (call_names x.function b.own.cells) b.own.cells ∷ [] in
       from_matched seats2 (with_control (Calls c) s) (with_control (Calls c) t) (core_step core (with_control (Calls c) s))
-      (a_call_more c x b refl (behind_at core core2 kept owners seats c s t flattened stand x)) refl
+      (a_call_more c x b refl (behind_at core core2 kept owners seats c s t flattened apart stand x)) refl
       (answered (Related owners seats2) core2 (core_step core (with_control (Calls c) s)) (with_control (Calls c) t) (with_control (Calls c) t) 0 refl
       (calls_enter core core2 owners seats c s t x.closure b x.function (kept x.closure.function) (scoped_names x.function) (call_names x.function b.own.cells)
-      (enters_of core core2 kept owners seats c s t flattened stand x) (closures_of core core2 kept owners seats c s t flattened stand x)
-      (called_of core core2 kept owners seats c s t flattened stand x) (arguments_of core core2 kept owners seats c s t flattened stand x) stand r))
+      (enters_of core core2 kept owners seats c s t flattened apart stand x) (closures_of core core2 kept owners seats c s t flattened apart stand x)
+      (called_of core core2 kept owners seats c s t flattened apart stand x) (arguments_of core core2 kept owners seats c s t flattened apart stand x) stand r))
 
   same_by : (c : Control Mark) (s t : CoreState) → KindsAreKept core core2 → IsBare c → ControlReady core kept owners seats s t c → Stand owners seats s t → At s.context.environment s.context.frames t.context.frames
       → S (with_control c s) (with_control c t)
@@ -656,4 +656,4 @@ module _ (core core2 : Core) (kept : Keeping) (owners : List ℕ) (seats : Seats
       abrupt_here c gs a b k abrupt ready stand r way
 
 pub steps_matched : StepsAreMatched
-steps_matched core core2 kept owners seats s t flattened kinds related ready = matched_by core core2 kept owners seats flattened s t kinds related ready
+steps_matched core core2 kept owners seats s t flattened apart kinds related ready = matched_by core core2 kept owners seats flattened apart s t kinds related ready

@@ -21,7 +21,7 @@ use Rattle.cells_keep_runs.specs.Entries.{NewCall}
 use Rattle.cells_keep_runs.specs.Memory.{Keeps, Memory, OpenAt, Seat, Seats, cell_along, cell_found}
 use Rattle.cells_keep_runs.specs.Named.{CellsOf, call_names, scoped_names}
 use Rattle.cells_keep_runs.specs.Opened.{AllHold, WriteHolds, write_in}
-use Rattle.cells_keep_runs.specs.Ready.{AllAmong, AllMarked, AreFlattened, ClosureCall, FunctionSeen, Keeping, ScopeReady, ValuesSeen, WriteSeen, WritesSeen}
+use Rattle.cells_keep_runs.specs.Ready.{AllAmong, AllMarked, AreApart, AreFlattened, ClosureCall, FunctionSeen, Keeping, ScopeReady, ValuesSeen, WriteSeen, WritesSeen}
 use Rattle.cells_keep_runs.specs.Related.{All, Closures, IsCellIn, Kept, Stand}
 use Rattle.cells_keep_runs.specs.Renewed.{AllNamed, Among, Gets, NewScope, NoValue, OwnCell, gets_cell, gets_none, renewed_name}
 use Rattle.cells_keep_runs.specs.Ways.{Holds}
@@ -68,8 +68,11 @@ kept_in seats e (c ∷ ks) x k (along, at, kept) is = by_name (nat_eq c.var.0 x.
     by_name true e2 here on = subst (λ j. IsCellIn seats x j) (one_value (Some c.cell) c.cell k refl here) (subst (λ y. IsCellIn seats y c.cell) (same_var c.var x (eqb-true c.var.0 x.0 e2)) at)
     by_name false e2 here on = on here
 
-module _ (core core2 : Core) (kept : Keeping) (owners : List ℕ) (seats : Seats) (c : Call) (s t : CoreState) (flattened : AreFlattened core core2 owners kept)
+module _ (core core2 : Core) (kept : Keeping) (owners : List ℕ) (seats : Seats) (c : Call) (s t : CoreState) (flattened : AreFlattened core core2 owners kept) (apart : AreApart core kept)
     (stand : Stand owners seats s t) (x : ClosureCall core kept c s t) where
+  undeclared : x.function.declared ≡ []
+  undeclared = (apart x.closure.function x.function x.function_is).0
+
   pub behind_all : (b : Closure Own) × (slice_get t.closures x.number ≡ Some b) × Closures seats x.closure b
   behind_all = related_at (Closures seats) s.closures t.closures x.number x.closure stand.states.closures x.closure_at
 
@@ -92,7 +95,7 @@ module _ (core core2 : Core) (kept : Keeping) (owners : List ℕ) (seats : Seats
     behind = behind_at;
     function = x.function_is;
     flat = ap (λ f. function_at core2 f) closures_of.function ∙ flattened x.closure.function x.function x.function_is;
-    undeclared = x.undeclared;
+    undeclared = undeclared;
   }
 
   made_at : (y : Var) (k : ℕ) → IsCellIn seats y k → k < length t.store.cells
@@ -106,10 +109,10 @@ module _ (core core2 : Core) (kept : Keeping) (owners : List ℕ) (seats : Seats
 
   pub called_of : NewCall (bindings_of (function_flat owners (kept x.closure.function) x.function) behind_of c t) (bindings_of x.function x.closure c s) t.store.cells
       (scoped_names x.function) (call_names x.function behind_of.own.cells) behind_of.own.cells
-  called_of = calls_have_names.called owners x.function (kept x.closure.function) x.closure behind_of c s t x.undeclared x.unkept x.apart cells_of
+  called_of = calls_have_names.called owners x.function (kept x.closure.function) x.closure behind_of c s t undeclared x.unkept (apart x.closure.function x.function x.function_is).1 cells_of
 
   pub arguments_of : ArgumentsBound (bindings_of x.function x.closure c s) x.function.arguments
-  arguments_of = calls_have_names.arguments x.function x.closure c s x.undeclared
+  arguments_of = calls_have_names.arguments x.function x.closure c s undeclared
 
 -- ---- scopes
 

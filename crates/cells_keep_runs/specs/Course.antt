@@ -26,7 +26,7 @@ use Rattle.cells_keep_runs.specs.Entries.{call_seat}
 use Rattle.cells_keep_runs.specs.Handled.{handled_seats}
 use Rattle.cells_keep_runs.specs.Memory.{Seats}
 use Rattle.cells_keep_runs.specs.Named.{call_names, scoped_names}
-use Rattle.cells_keep_runs.specs.Ready.{AreFlattened, ClosureCall, CopyReady, HandlerReady, Keeping, Ready, ScopeReady}
+use Rattle.cells_keep_runs.specs.Ready.{AreApart, AreFlattened, ClosureCall, CopyReady, HandlerReady, Keeping, Ready, ScopeReady}
 use Rattle.cells_keep_runs.specs.Related.{Related}
 
 -- ---- the seats behind a step: those before it, and that of the record which it makes
@@ -75,7 +75,7 @@ pub data StepMatched (core core2 : Core) (kept : Keeping) (owners : List ℕ) (s
 -- Each step from related configurations that are ready is matched.
 abbrev pub StepsAreMatched : Type 0
 StepsAreMatched = (core core2 : Core) (kept : Keeping) (owners : List ℕ) (seats : Seats) (s t : Config)
-    → AreFlattened core core2 owners kept → KindsAreKept core core2 → Related owners seats s t → Ready core kept owners seats s t → StepMatched core core2 kept owners seats s t
+    → AreFlattened core core2 owners kept → AreApart core kept → KindsAreKept core core2 → Related owners seats s t → Ready core kept owners seats s t → StepMatched core core2 kept owners seats s t
 
 -- ---- a course
 

@@ -1,6 +1,7 @@
--- A core does behind the flattening of scopes what it did before, if what the laws of the steps ask holds wherever the two runs come to.
+-- A lawful core does behind the flattening of scopes what it did before, if what the laws of the steps ask holds wherever the two runs come to.
 use Rattle.std.specs.Prelude.{◌≡◌, [], length}
 use Rattle.runs.specs.Same.{Same}
+use Rattle.core_ast.specs.Lawful.{IsLawful}
 use Rattle.core_ast.specs.declared.whole.Core.{Core}
 use Rattle.core_meaning.specs.Modules.{runc}
 use Rattle.pass_rules.specs.Cells.{all_free, cells_at, found, holders}
@@ -10,7 +11,7 @@ use Rattle.cells_keep_runs.specs.Alike.{Config}
 use Rattle.cells_keep_runs.specs.Course.{Reached}
 use Rattle.cells_keep_runs.specs.Memory.{Seats}
 use Rattle.cells_keep_runs.specs.Ready.{AreFlattened, Keeping, Ready}
-use Rattle.cells_keep_runs.specs.Started.{ScopedApart, owners_of, part_seats}
+use Rattle.cells_keep_runs.specs.Started.{owners_of, part_seats}
 
 abbrev pub first_seats : Core → Seats
 first_seats core = part_seats (owners_of core) 0 core.parts
@@ -28,7 +29,7 @@ AllReady core = (seats : Seats) (s t : Config) → IsReached core seats s t → 
 
 -- The events are the same, and so is the ending.
 abbrev pub RunsAreKept : Type 0
-RunsAreKept = (core : Core) → ScopedApart core.parts → AllReady core → Same (λ e f. e ≡ f) (runc core) (runc (without_scopes core))
+RunsAreKept = (core : Core) → IsLawful core → AllReady core → Same (λ e f. e ≡ f) (runc core) (runc (without_scopes core))
 
 -- The pass flattens each function, with the cells that it keeps.
 abbrev pub FunctionsAreFlattened : Type 0

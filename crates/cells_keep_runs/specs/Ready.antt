@@ -80,6 +80,11 @@ abbrev pub AreFlattened : Core → Core → List ℕ → Keeping → Type 0
 AreFlattened core core2 owners kept = (f : FunctionId) (function : CoreFunction) → function_at core f ≡ Some function
     → function_at core2 f ≡ Some (function_flat owners (kept f) function)
 
+-- its functions aren't of scripts, and their names are apart
+abbrev pub AreApart : Core → Keeping → Type 0
+AreApart core kept = (f : FunctionId) (function : CoreFunction) → function_at core f ≡ Some function
+    → (function.declared ≡ []) × NamesApart function (kept f)
+
 -- the function is there, and both find the names whose cells it keeps
 pub record FunctionSeen (core : Core) (kept : Keeping) (owners : List ℕ) (seats : Seats) (s : CoreState) (f : FunctionId) : Type 0 where
   pub function : CoreFunction
@@ -130,7 +135,7 @@ pub record CopyReady (owners : List ℕ) (seats : Seats) (s : CoreState) (xs : L
   pub copyable : Copyable owners seats s.records s.context.environment number xs
   pub inside : InScope s.context.frames
 
--- The call of a closure of the program, whose function isn't of a script. Behind the pass it keeps cells of the names that its function keeps.
+-- The call of a closure of the program. It keeps no cells before the pass, and behind it those of the names that its function keeps.
 pub record ClosureCall (core : Core) (kept : Keeping) (c : Call) (s t : CoreState) : Type 0 where
   pub closure : Closure Own
   pub function : CoreFunction
@@ -140,9 +145,7 @@ pub record ClosureCall (core : Core) (kept : Keeping) (c : Call) (s t : CoreStat
   pub class_is : (object_at s.heap id).class ≡ class.Function number
   pub closure_at : slice_get s.closures number ≡ Some closure
   pub function_is : function_at core closure.function ≡ Some function
-  pub undeclared : function.declared ≡ []
   pub unkept : closure.own.cells ≡ []
-  pub apart : NamesApart function (kept closure.function)
   pub named : (behind : Closure Own) → slice_get t.closures number ≡ Some behind
       → (x : Var) (k : ℕ) → cell_found behind.own.cells x ≡ Some k → is_among x (kept closure.function) ≡ true
 
