@@ -35,3 +35,4 @@ pub mod Faced
 pub mod Matched
 pub mod Apart
 pub mod Kept
+pub mod Stays

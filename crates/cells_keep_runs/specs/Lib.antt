@@ -34,3 +34,4 @@ pub mod Ready
 pub mod Course
 pub mod Kept
 pub mod Apart
+pub mod Stays

@@ -29,6 +29,7 @@ ghost use Rattle.cells_keep_runs.specs.Places.{NewRecordsComeFirst, NewRecordsHi
 ghost use Rattle.cells_keep_runs.specs.Renewed.{ScopesAreRemembered};
 ghost use Rattle.cells_keep_runs.specs.Seen.{NamesAreRead, NamesAreWritten};
 ghost use Rattle.cells_keep_runs.specs.Started.{BeginningsAreRelated};
+ghost use Rattle.cells_keep_runs.specs.Stays.{CallsNamesAreSeen, KeptNamesAreSeen, ScopesNamesAreSeen, SeenNamesStay, SeenOutside, SeenWithin};
 ghost use Rattle.cells_keep_runs.specs.Taken.{ValuesAreTakenAlike};
 ghost use Rattle.cells_keep_runs.specs.Turned.{ContextsEndAlike, ListsRunOut, OtherCallsAreAlike, TurnsAreAlike};
 ghost use Rattle.cells_keep_runs.specs.Writes.{SharedAreWritten, UnsharedAreWritten};
@@ -259,6 +260,17 @@ pub fn lawful_names_are_apart()
     ensures modules { ModulesAreApart }
     ensures functions { FunctionsAreApart }
     ensures declared { NoneDeclared }
+{}
+
+/// Both machines find the names of a scope that is entered, and of a call with the names whose cells its closure keeps. They go on to find a
+/// name where there is a record more, and within a record that hasn't the name, and out of it.
+pub fn names_stay_seen()
+    ensures scopes { ScopesNamesAreSeen }
+    ensures calls { CallsNamesAreSeen }
+    ensures kept { KeptNamesAreSeen }
+    ensures more { SeenNamesStay }
+    ensures within { SeenWithin }
+    ensures outside { SeenOutside }
 {}
 
 /// Each step of the source from related configurations that are ready for it is matched: the target takes some steps too, or the source goes

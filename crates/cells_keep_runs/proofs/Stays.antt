@@ -1,0 +1,179 @@
+-- How both machines come to find a name, and when they go on to.
+use Rattle.std.proofs.Common.{◌≡◌, ◌≤◌, ◌+◌, ℕ, suc, Bool, true, false, ◌||◌, cond, List, [], ◌∷◌, ◌++◌, map, Option, None, Some, length, nat_eq, slice_get, refl, sym, ap, arith, subst, ◌∙◌, ◌⊎◌, inl, inr}
+use Rattle.std.specs.Prelude.{if◌then◌else◌}
+use Rattle.std.proofs.lemmas.Bool.{eqb-true}
+use Rattle.std.proofs.lemmas.List.{length_push}
+use Rattle.es_value.specs.declared.value.Value.{Value}
+use Rattle.core_ast.specs.declared.parts.ScopedName.{ScopedName}
+use Rattle.core_ast.specs.declared.parts.Var.{Var}
+use Rattle.core_meaning.specs.Marks.{CoreState, KeptCell}
+use Rattle.core_meaning.specs.State.{Environment}
+use Rattle.pass_rules.specs.Cells.{is_among, is_shared}
+use Rattle.pass_rules.specs.Scopes.{vars}
+use Rattle.cells_keep_runs.specs.Entered.{AllAt, entered_seats, reset_of}
+use Rattle.cells_keep_runs.specs.Entries.{call_seat}
+use Rattle.cells_keep_runs.specs.Memory.{IsNewest, Keeps, Seat, Seats, cell_along, cell_found, cells_in, is_scoped, or_outer}
+use Rattle.cells_keep_runs.specs.Places.{Below}
+use Rattle.cells_keep_runs.specs.Ready.{AllMarked, ScopeReady}
+use Rattle.cells_keep_runs.specs.Renewed.{NoValue, OwnCell, Renewal, cells_from, scope_seat}
+use Rattle.cells_keep_runs.specs.Seen.{Sees, image_with, or_image, sees_home, sees_kept, sees_plain, target_at}
+use Rattle.cells_keep_runs.specs.Stays.{CallsNamesAreSeen, KeptNamesAreSeen, ScopesNamesAreSeen, SeenNamesStay, SeenOutside, SeenWithin, with_call}
+use Rattle.cells_keep_runs.specs.Writes.{CellOf, PlaceOf, at_home, at_image}
+use Rattle.cells_keep_runs.proofs.Grown.{below_here, below_rest, cells_stay, slice_left}
+use Rattle.cells_keep_runs.proofs.Renewed.{got_below, got_last, old_or_new, still_got}
+use Rattle.cells_keep_runs.proofs.Writes.{differ, one_value, same_var}
+
+-- ---- with more records
+
+target_stays : (seats more : Seats) (e : Environment) (x : Var) → Below (length seats) e → target_at (seats ++ more) e x ≡ target_at seats e x
+target_stays seats more [] x below = refl
+target_stays seats more (n ∷ e) x below =
+    ap (λ o. image_with o x (target_at (seats ++ more) e x)) (slice_left seats more n (below_here (length seats) n e below))
+    ∙ ap (λ o. image_with (slice_get seats n) x o) (target_stays seats more e x (below_rest (length seats) n e below))
+
+-- the last record is the newest
+last_newest : (seats : Seats) (seat : Seat) (x : Var) → IsNewest (seats ++ seat ∷ []) (length seats) x
+last_newest seats seat x m here there at at2 same scoped =
+    let a = got_below (seats ++ seat ∷ []) m there at2 in
+    let b : length (seats ++ seat ∷ []) ≡ length seats + 1 = length_push seats seat in
+    omega arith
+
+newest_stays : (seats : Seats) (here new : Seat) (n : ℕ) (x : Var) → slice_get seats n ≡ Some here → (new.home ≡ here.home → is_scoped new x ≡ false) → IsNewest seats n x → IsNewest (seats ++ new ∷ []) n x
+newest_stays seats here new n x at away newest m a b a_at b_at same scoped = by_age (old_or_new seats new m b b_at)
+  where
+    a_is : a ≡ here
+    a_is = one_value (slice_get (seats ++ new ∷ []) n) a here a_at (still_got seats new n here at)
+
+    by_age : (slice_get seats m ≡ Some b) ⊎ ((m ≡ length seats) × (b ≡ new)) → m ≤ n
+    by_age (inl old) = newest m here b at old (same ∙ ap (λ z. z.home) a_is) scoped
+    by_age (inr (last, b_is)) =
+        absurd (differ (is_scoped new x) (ap (λ z. is_scoped z x) (sym b_is) ∙ scoped) (away (ap (λ z. z.home) (sym b_is) ∙ same ∙ ap (λ z. z.home) a_is)))
+
+abbrev cell_stays : (owners : List ℕ) (seats : Seats) (new : Seat) (n k : ℕ) (x : Var) → CellOf owners seats n x k → CellOf owners (seats ++ new ∷ []) n x k
+cell_stays owners seats new n k x c = record { seat = c.seat; seated = still_got seats new n c.seat c.seated; scoped = c.scoped; shared = c.shared; found = c.found }
+
+keeps_stays : (seats : Seats) (new : Seat) (n i k : ℕ) (x : Var) → Keeps seats n i x k → Keeps (seats ++ new ∷ []) n i x k
+keeps_stays seats new n i k x c = record { seat = c.seat; seated = still_got seats new n c.seat c.seated; image = c.image; plain = c.plain; found = c.found }
+
+place_stays : (owners : List ℕ) (seats : Seats) (here new : Seat) (n m : ℕ) (x : Var) → slice_get seats n ≡ Some here → (new.home ≡ here.home → is_scoped new x ≡ false) → PlaceOf owners seats n x m → PlaceOf owners (seats ++ new ∷ []) n x m
+place_stays owners seats here new n m x at away (at_image seat seated image unscoped) = at_image seat (still_got seats new n seat seated) image unscoped
+place_stays owners seats here new n m x at away (at_home seat seated home scoped unshared newest) =
+    at_home seat (still_got seats new n seat seated) home scoped unshared (newest_stays seats here new n x at away newest)
+
+pub seen_stays : SeenNamesStay
+seen_stays owners seats here new e n x below at away (sees_plain m unshared place target) =
+    sees_plain m unshared (place_stays owners seats here new n m x at away place) (target_stays seats (new ∷ []) e x below ∙ target)
+seen_stays owners seats here new e n x below at away (sees_home k c along newest target) =
+    sees_home k (cell_stays owners seats new n k x c) (cells_stay seats (new ∷ []) e x below ∙ along) (newest_stays seats here new n x at away newest) (target_stays seats (new ∷ []) e x below ∙ target)
+seen_stays owners seats here new e n x below at away (sees_kept k j i c along keeps target) =
+    sees_kept k j i (cell_stays owners seats new n k x c) (cells_stay seats (new ∷ []) e x below ∙ along) (keeps_stays seats new j i k x keeps) (target_stays seats (new ∷ []) e x below ∙ target)
+
+-- ---- within a record, and out of it
+
+past_target : (seats : Seats) (inner : Seat) (m : ℕ) (e : Environment) (x : Var) → slice_get seats m ≡ Some inner → is_among x inner.has ≡ false → target_at seats (m ∷ e) x ≡ target_at seats e x
+past_target seats inner m e x at away =
+    ap (λ o. image_with o x (target_at seats e x)) at ∙ ap (λ b. if b then or_image inner.image (target_at seats e x) else target_at seats e x) away
+
+past_cell : (seats : Seats) (inner : Seat) (m : ℕ) (e : Environment) (x : Var) → slice_get seats m ≡ Some inner → cell_found inner.cells x ≡ None → cell_along seats (m ∷ e) x ≡ cell_along seats e x
+past_cell seats inner m e x at none =
+    ap (λ o. or_outer (cell_found (cells_in o) x) (cell_along seats e x)) at ∙ ap (λ o. or_outer o (cell_along seats e x)) none
+
+pub seen_within : SeenWithin
+seen_within owners seats inner m e n x at away none (sees_plain i unshared place target) = sees_plain i unshared place (past_target seats inner m e x at away ∙ target)
+seen_within owners seats inner m e n x at away none (sees_home k c along newest target) =
+    sees_home k c (past_cell seats inner m e x at none ∙ along) newest (past_target seats inner m e x at away ∙ target)
+seen_within owners seats inner m e n x at away none (sees_kept k j i c along keeps target) =
+    sees_kept k j i c (past_cell seats inner m e x at none ∙ along) keeps (past_target seats inner m e x at away ∙ target)
+
+pub seen_outside : SeenOutside
+seen_outside owners seats inner m e n x at away none (sees_plain i unshared place target) = sees_plain i unshared place (sym (past_target seats inner m e x at away) ∙ target)
+seen_outside owners seats inner m e n x at away none (sees_home k c along newest target) =
+    sees_home k c (sym (past_cell seats inner m e x at none) ∙ along) newest (sym (past_target seats inner m e x at away) ∙ target)
+seen_outside owners seats inner m e n x at away none (sees_kept k j i c along keeps target) =
+    sees_kept k j i c (sym (past_cell seats inner m e x at none) ∙ along) keeps (sym (past_target seats inner m e x at away) ∙ target)
+
+-- ---- a call
+
+module _ (owners : List ℕ) (seats : Seats) (e : Environment) (i : ℕ) (locals has : List Var) (kept : List KeptCell) where
+  abbrev called : Seat
+  called = call_seat i locals has kept
+
+  last : slice_get (with_call seats i locals has kept) (length seats) ≡ Some called
+  last = got_last seats called
+
+  finds : (x : Var) → is_among x has ≡ true → target_at (with_call seats i locals has kept) (length seats ∷ e) x ≡ Some i
+  finds x here =
+      let outer = target_at (with_call seats i locals has kept) e x in
+      ap (λ o. image_with o x outer) last ∙ ap (λ b. if b then or_image (Some i) outer else outer) here
+
+  calls_see : (x : Var) → is_shared owners x ≡ false → is_among x has ≡ true → Sees owners (with_call seats i locals has kept) (length seats ∷ e) (length seats) x
+  calls_see x unshared here = sees_plain i unshared (at_image called last refl refl) (finds x here)
+
+  kept_see : (n k : ℕ) (x : Var) → CellOf owners seats n x k → cell_found kept x ≡ Some k → is_among x has ≡ true → Sees owners (with_call seats i locals has kept) (length seats ∷ e) n x
+  kept_see n k x c found here =
+      let outer = cell_along (with_call seats i locals has kept) e x in
+      sees_kept k (length seats) i (cell_stays owners seats called n k x c)
+      (ap (λ o. or_outer (cell_found (cells_in o) x) outer) last ∙ ap (λ o. or_outer o outer) found)
+      (record { seat = called; seated = last; image = refl; plain = refl; found = found }) (finds x here)
+
+pub calls_seen : CallsNamesAreSeen
+calls_seen owners seats e i locals has kept x unshared here = calls_see owners seats e i locals has kept x unshared here
+
+pub kept_seen : KeptNamesAreSeen
+kept_seen owners seats e i locals has kept n k x c found here = kept_see owners seats e i locals has kept n k x c found here
+
+-- ---- a scope
+
+all_at : (seats : Seats) (e : Environment) (h : ℕ) (names : List ScopedName) (x : Var) → AllAt seats e h names → is_among x (vars names) ≡ true → target_at seats e x ≡ Some h
+all_at seats e h [] x at among = cc
+all_at seats e h (n ∷ names) x (at, others) among = by_name (nat_eq n.var.0 x.0) refl among (λ here. all_at seats e h names x others here)
+  where
+    by_name : (b : Bool) → nat_eq n.var.0 x.0 ≡ b → b || is_among x (vars names) ≡ true → (is_among x (vars names) ≡ true → target_at seats e x ≡ Some h) → target_at seats e x ≡ Some h
+    by_name true same here on = ap (λ y. target_at seats e y) (sym (same_var n.var x (eqb-true n.var.0 x.0 same))) ∙ at
+    by_name false same here on = on here
+
+abbrev HasCell : List KeptCell → Var → Type 0
+HasCell ks x = (j : ℕ) × (cell_found ks x ≡ Some j)
+
+cell_here : (owners : List ℕ) (n : ScopedName) (names : List ScopedName) (k : ℕ) (x : Var) (shared same : Bool) → n.shared ≡ shared → nat_eq n.var.0 x.0 ≡ same → is_shared owners n.var ≡ n.shared
+    → is_shared owners x ≡ true → same || is_among x (vars names) ≡ true → ((k2 : ℕ) → is_among x (vars names) ≡ true → HasCell (cells_from k2 (map reset_of names)) x)
+    → HasCell (cells_from k (cond shared (OwnCell n.var None) (NoValue n.var) ∷ map reset_of names)) x
+cell_here owners n names k x true true is same marked shared among on = (k, ap (λ b. if b then Some k else cell_found (cells_from (suc k) (map reset_of names)) x) same)
+cell_here owners n names k x true false is same marked shared among on =
+    let later = on (suc k) among in
+    (later.0, ap (λ b. if b then Some k else cell_found (cells_from (suc k) (map reset_of names)) x) same ∙ later.1)
+cell_here owners n names k x false true is same marked shared among on =
+    absurd (differ (is_shared owners x) shared (ap (λ y. is_shared owners y) (sym (same_var n.var x (eqb-true n.var.0 x.0 same))) ∙ marked ∙ is))
+cell_here owners n names k x false false is same marked shared among on = on k among
+
+cell_of : (owners : List ℕ) (names : List ScopedName) (k : ℕ) (x : Var) → AllMarked owners names → is_shared owners x ≡ true → is_among x (vars names) ≡ true → HasCell (cells_from k (map reset_of names)) x
+cell_of owners [] k x marked shared among = cc
+cell_of owners (n ∷ names) k x (marked, others) shared among =
+    cell_here owners n names k x n.shared (nat_eq n.var.0 x.0) refl refl marked shared among (λ k2 here. cell_of owners names k2 x others shared here)
+
+module _ (owners : List ℕ) (seats : Seats) (s : CoreState) (names : List ScopedName) (k : ℕ) (x : Var) (r : ScopeReady owners seats s names) (below : Below (length seats) s.context.environment)
+    (among : is_among x (vars names) ≡ true) where
+  abbrev new : Seat
+  new = scope_seat r.home (vars names) k (map reset_of names)
+
+  abbrev seats2 : Seats
+  seats2 = entered_seats seats r.home names k
+
+  newest_at : slice_get seats2 (length seats) ≡ Some new
+  newest_at = got_last seats new
+
+  target : target_at seats2 (length seats ∷ s.context.environment) x ≡ Some r.home
+  target =
+      past_target seats2 new (length seats) s.context.environment x newest_at refl ∙ target_stays seats (new ∷ []) s.context.environment x below
+      ∙ all_at seats s.context.environment r.home names x r.at among
+
+  by_mark : (b : Bool) → is_shared owners x ≡ b → Sees owners seats2 (length seats ∷ s.context.environment) (length seats) x
+  by_mark false unshared = sees_plain r.home unshared (at_home new newest_at refl among unshared (last_newest seats new x)) target
+  by_mark true shared =
+      let c = cell_of owners names k x r.marked shared among in
+      let outer = cell_along seats2 s.context.environment x in
+      sees_home c.0 (record { seat = new; seated = newest_at; scoped = among; shared = shared; found = c.1 })
+      (ap (λ o. or_outer (cell_found (cells_in o) x) outer) newest_at ∙ ap (λ o. or_outer o outer) c.1) (last_newest seats new x) target
+
+pub scopes_seen : ScopesNamesAreSeen
+scopes_seen owners seats s names k x r below among = by_mark owners seats s names k x r below among (is_shared owners x) refl
