@@ -3,7 +3,7 @@ use Rattle.std.proofs.Common.{◌≡◌, ◌<◌, ◌≤◌, ◌+◌, ℕ, zero,
 use Rattle.std.specs.List.{list_all}
 use Rattle.std.proofs.lemmas.Bool.{and_parts, cases_lt, eq-eqb, eqb-true}
 use Rattle.std.proofs.lemmas.List.{get_or-replicate, get_or_past, length-replicate}
-use Rattle.core_ast.specs.Lawful.{IsLawful, all_differ, declarations, declared_in, function_lawful, functions_lawful, has_number, is_empty, is_generator, number_of, numbers, own_names as declared_names, resumed, round_function, scoped_numbers, stats_lawful}
+use Rattle.core_ast.specs.Lawful.{all_differ, declarations, declared_in, function_lawful, functions_lawful, has_number, is_empty, is_generator, number_of, numbers, own_names as declared_names, resumed, round_function, scoped_numbers, stats_lawful}
 use Rattle.core_ast.specs.Mentions.{function_mentions, part_mentions}
 use Rattle.core_ast.specs.declared.gathering.Mentions.{Mentions}
 use Rattle.core_ast.specs.declared.parts.FunctionId.{FunctionId}
@@ -12,12 +12,10 @@ use Rattle.core_ast.specs.declared.parts.Var.{Var}
 use Rattle.core_ast.specs.declared.whole.Core.{Core}
 use Rattle.core_ast.specs.declared.whole.CoreFunction.{CoreFunction}
 use Rattle.core_ast.specs.declared.whole.CorePart.{CorePart}
-use Rattle.core_meaning.specs.Expressions.{function_at}
-use Rattle.pass_rules.specs.Cells.{all_free, all_held, all_noted, all_owners, cells_at, found, free, holders, is_among, is_foreign, is_shared, noted, owner, with_owner, with_owners}
+use Rattle.pass_rules.specs.Cells.{all_free, all_held, all_noted, all_owners, found, free, is_among, is_foreign, is_shared, noted, owner, with_owner, with_owners}
 use Rattle.pass_rules.specs.Scopes.{vars}
-use Rattle.cells_keep_runs.specs.Apart.{FunctionsAreApart, ModulesAreApart, NoneDeclared}
-use Rattle.cells_keep_runs.specs.Kept.{kept_of}
-use Rattle.cells_keep_runs.specs.Named.{NamesApart, listed, own_names, scoped_names}
+use Rattle.cells_keep_runs.specs.Apart.{FunctionsAreApart, ModulesAreApart, NoneDeclared, OthersAreKept}
+use Rattle.cells_keep_runs.specs.Named.{listed, own_names, scoped_names}
 use Rattle.cells_keep_runs.specs.Started.{ScopedApart, owners_of}
 use Rattle.cells_keep_runs.proofs.Renewed.{old_or_new}
 use Rattle.cells_keep_runs.proofs.Writes.{differ, one_value, same_var}
@@ -300,7 +298,7 @@ filtered p (y ∷ xs) x among = by_test (p y) among (λ on. filtered p xs x on)
     by_test true h on = first (nat_eq y.0 x.0) h on
     by_test false h on = or_right (nat_eq y.0 x.0) (is_among x xs) (on h)
 
-kept_foreign : (core : Core) (f : FunctionId) (x : Var) → is_among x (kept_of core f) ≡ true → is_foreign (owners_of core) (f.0 + 1) x ≡ true
+pub kept_foreign : OthersAreKept
 kept_foreign core f x among = by_list (got_or (all_free (owners_of core) [] (found core)) f.0)
   where
     here : is_among x (get_or (all_free (owners_of core) [] (found core)) f.0 []) ≡ true
@@ -315,9 +313,9 @@ kept_foreign core f x among = by_list (got_or (all_free (owners_of core) [] (fou
     by_list (inr empty) = absurd (differ (is_among x (get_or (all_free (owners_of core) [] (found core)) f.0 [])) here (ap (λ ys. is_among x ys) empty))
 
 kept_elsewhere : (core : Core) (f : FunctionId) (function : CoreFunction) (x : Var) → all_differ (declarations core) ≡ true → slice_get core.functions f.0 ≡ Some function
-    → is_among x (kept_of core f) ≡ true → has_number x.0 (of_function function) ≡ true → ⊥
-kept_elsewhere core f function x d at among has =
-    let foreign = and_parts (is_shared (owners_of core) x) (not (nat_eq (owner (owners_of core) x) (f.0 + 1))) (kept_foreign core f x among) in
+    → is_foreign (owners_of core) (f.0 + 1) x ≡ true → has_number x.0 (of_function function) ≡ true → ⊥
+kept_elsewhere core f function x d at other has =
+    let foreign = and_parts (is_shared (owners_of core) x) (not (nat_eq (owner (owners_of core) x) (f.0 + 1))) other in
     by_owner foreign.0 foreign.1 (owner_of 0 (found core) (replicate (length core.fresh.hints) 0) x.0 (owner (owners_of core) x) refl)
   where
     by_owner : is_shared (owners_of core) x ≡ true → not (nat_eq (owner (owners_of core) x) (f.0 + 1)) ≡ true
@@ -397,17 +395,19 @@ functions_apart core f function lawful at =
       own_apart = λ x own. false_by (is_among x (scoped_names function))
           (λ scoped. differ_apart x.0 (declared_names function) (declared_in (function_mentions function)) own_differ (own_here function x own)
           (has_scoped x.0 (function_mentions function) [] (sym (scoped_is (function_mentions function).scoped x) ∙ scoped)));
-      kept_apart = λ x kept. false_by (is_among x (own_names function ++ scoped_names function)) (λ among. kept_elsewhere core f function x d at kept (declares function x among));
+      others_apart = λ x other. false_by (is_among x (own_names function ++ scoped_names function)) (λ among. kept_elsewhere core f function x d at other (declares function x among));
     }
 
 -- ---- modules
 
 parts_apart : (ps : List CorePart) → all_differ (flat_map of_part ps) ≡ true → ScopedApart ps
 parts_apart [] d = tt
-parts_apart (p ∷ ps) d =
-    (λ x scoped. false_by (is_among x (vars p.names))
-    (λ own. differ_apart x.0 (scoped_numbers p.names) (declared_in (part_mentions p)) (differ_left (of_part p) (flat_map of_part ps) d) (sym (scoped_is p.names x) ∙ own)
-    (has_scoped x.0 (part_mentions p) [] (sym (scoped_is (part_mentions p).scoped x) ∙ scoped))), parts_apart ps (differ_right (of_part p) (flat_map of_part ps) d))
+parts_apart (p ∷ ps) d = (
+  λ x scoped. false_by (is_among x (vars p.names))
+      (λ own. differ_apart x.0 (scoped_numbers p.names) (declared_in (part_mentions p)) (differ_left (of_part p) (flat_map of_part ps) d) (sym (scoped_is p.names x) ∙ own)
+      (has_scoped x.0 (part_mentions p) [] (sym (scoped_is (part_mentions p).scoped x) ∙ scoped))),
+  parts_apart ps (differ_right (of_part p) (flat_map of_part ps) d),
+)
 
 pub modules_apart : ModulesAreApart
 modules_apart core lawful = parts_apart core.parts (differ_right (flat_map of_function core.functions) (flat_map of_part core.parts) lawful.1.3)

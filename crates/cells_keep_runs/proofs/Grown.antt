@@ -120,16 +120,18 @@ module _ (owners : List ℕ) (seats more : Seats) where
   kept_stay e (k ∷ ks) h (is, (n, seat, at, found), r) =
       (cells_stay seats more e k.var h ∙ is, (n, seat, slice_left seats more n (got_below seats n seat at) ∙ at, found), kept_stay e ks h r)
 
-  pub closure_stays : (a b : Closure Own) → Closures seats a b → Closures (seats ++ more) a b
+  pub closure_stays : (a b : Closure Own) → Closures owners seats a b → Closures owners (seats ++ more) a b
   closure_stays a b r = record {
     function = r.function;
     environment = r.environment ∙ sym (environments_stay seats more a.environment r.below);
     below = below_more (length seats) (length (seats ++ more)) a.environment more_seats r.below;
     own = r.own;
     cells = kept_stay a.environment b.own.cells r.below r.cells;
+    uncelled = r.uncelled;
+    foreign = r.foreign;
   }
 
-  pub closures_stay : (xs ys : List (Closure Own)) → All (Closures seats) xs ys → All (Closures (seats ++ more)) xs ys
+  pub closures_stay : (xs ys : List (Closure Own)) → All (Closures owners seats) xs ys → All (Closures owners (seats ++ more)) xs ys
   closures_stay [] [] r = tt
   closures_stay (x ∷ xs) (y ∷ ys) (r, rs) = (closure_stays x y r, closures_stay xs ys rs)
   closures_stay [] (y ∷ ys) r = absurd r

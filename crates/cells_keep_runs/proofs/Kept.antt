@@ -12,16 +12,16 @@ use Rattle.core_meaning.specs.Modules.{core_step, start}
 use Rattle.pass_rules.specs.Scopes.{without_scopes}
 use Rattle.cells_keep_runs.specs.Alike.{Config}
 use Rattle.cells_keep_runs.specs.Course.{StepMatched, alone, answered, asks, begun, ends, gone_on, leaves, measure, no_more, together}
-use Rattle.cells_keep_runs.specs.Kept.{AllReady, IsReached, RunsAreKept, first_seats, kept_of}
+use Rattle.cells_keep_runs.specs.Kept.{AllReady, IsReached, NoneKept, RunsAreKept, first_seats, kept_of}
 use Rattle.cells_keep_runs.specs.Memory.{Seats}
 use Rattle.cells_keep_runs.specs.Related.{Related}
 use Rattle.cells_keep_runs.specs.Started.{owners_of}
-use Rattle.cells_keep_runs.proofs.Apart.{functions_apart, modules_apart, none_declared}
+use Rattle.cells_keep_runs.proofs.Apart.{functions_apart, kept_foreign, modules_apart, none_declared}
 use Rattle.cells_keep_runs.proofs.FunctionKinds.{functions_flattened, kinds_stay}
 use Rattle.cells_keep_runs.proofs.Matched.{steps_matched}
 use Rattle.cells_keep_runs.proofs.Started.{beginnings}
 
-module _ (core : Core) (lawful : IsLawful core) (ready : AllReady core) where
+module _ (core : Core) (lawful : IsLawful core) (none_kept : NoneKept core) (ready : AllReady core) where
   abbrev core2 : Core
   core2 = without_scopes core
 
@@ -64,7 +64,7 @@ module _ (core : Core) (lawful : IsLawful core) (ready : AllReady core) where
       → Matches (steps + measure ahead) (core_step core s) t
   matched_at s t seats ahead zero way reached related =
       let at : Matches (measure ahead) (core_step core ahead) t =
-      by_step seats ahead t reached (steps_matched core core2 (kept_of core) owners seats ahead t (functions_flattened core) (λ f function at. (none_declared core f function lawful at, functions_apart core f function lawful at)) (kinds_stay core) related (ready seats ahead t reached)) in
+      by_step seats ahead t reached (steps_matched core core2 (kept_of core) owners seats ahead t (functions_flattened core) (λ f function at. record { undeclared = none_declared core f function lawful at; names = functions_apart core f function lawful at; others = (none_kept f function at, λ x among. kept_foreign core f x among) }) (kinds_stay core) related (ready seats ahead t reached)) in
       let none : measure ahead ≡ 0 + measure ahead = omega arith in
       subst (λ a. Matches (0 + measure ahead) (core_step core a) t) (sym way) (subst (λ r. Matches r (core_step core ahead) t) none at)
   matched_at s t seats ahead (suc steps) (v, is, way) reached related =
@@ -78,6 +78,6 @@ module _ (core : Core) (lawful : IsLawful core) (ready : AllReady core) where
       (record { matched = λ a b x. matched_at a b x.seats x.ahead x.steps x.way x.reached x.related }) s t side
 
 pub runs_kept : RunsAreKept
-runs_kept core lawful ready =
-    both_run core lawful ready (start core) (start (without_scopes core))
-    (here core lawful ready (first_seats core) (start core) (start (without_scopes core)) begun (beginnings core (modules_apart core lawful)))
+runs_kept core lawful none_kept ready =
+    both_run core lawful none_kept ready (start core) (start (without_scopes core))
+    (here core lawful none_kept ready (first_seats core) (start core) (start (without_scopes core)) begun (beginnings core (modules_apart core lawful)))

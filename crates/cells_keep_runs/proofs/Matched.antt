@@ -72,7 +72,7 @@ use Rattle.cells_keep_runs.proofs.Turned.{contexts_end, leaves_scope, other_call
 abbrev Frames1 : Type 0
 Frames1 = List (Frame Mark CoreWork)
 
-module _ (core core2 : Core) (kept : Keeping) (owners : List ℕ) (seats : Seats) (flattened : AreFlattened core core2 owners kept) (apart : AreApart core kept) where
+module _ (core core2 : Core) (kept : Keeping) (owners : List ℕ) (seats : Seats) (flattened : AreFlattened core core2 owners kept) (apart : AreApart core kept owners) where
   abbrev R : Config → Config → Type 0
   R = Related owners seats
 
@@ -242,7 +242,7 @@ module _ (core core2 : Core) (kept : Keeping) (owners : List ℕ) (seats : Seats
   head_by (head.TypeOf y) x s t is ready holds stand r = absurd ready
   head_by (head.Function f) x s t is ready holds stand r =
       matched_here (with_control (Begin x) s) (with_control (Begin (expr_flat owners x)) t)
-      (closures_made core core2 owners seats x f ready.function (kept f) s t is ready.before (flattened f ready.function ready.before) ready.seen stand r holds)
+      (closures_made core core2 owners seats x f ready.function (kept f) s t is ready.before (flattened f ready.function ready.before) (apart f ready.function ready.before).others ready.seen stand r holds)
   head_by (head.Primitive p) x s t is ready holds stand r =
       matched_here (with_control (Begin x) s) (with_control (Begin (expr_flat owners x)) t) (primitives_begin core core2 owners seats x p s t is ready stand r holds)
   head_by (head.Copy xs) x s t is ready holds stand r =
@@ -293,7 +293,7 @@ module _ (core core2 : Core) (kept : Keeping) (owners : List ℕ) (seats : Seats
 
   class_parts : (site : Option Site) (c : Current Mark) (values : List (CoreValue Mark)) (xs : List CoreExpr) (links : List CoreLink) (s t : CoreState)
       → PartsReady core kept owners seats s (class_op primitive.ClassMake) values xs → Stand owners seats s t → BelowCells owners seats s links t → Parts primitive.ClassMake site c values xs links s t
-  class_parts site c values [] links s t ready stand below = classes_made core core2 owners seats site c values [] links s t (seen_in core core2 kept owners seats s flattened values ready) stand below
+  class_parts site c values [] links s t ready stand below = classes_made core core2 owners seats site c values [] links s t (seen_in core core2 kept owners seats s flattened apart values ready) stand below
   class_parts site c values (x ∷ xs) links s t ready stand below = begins_part primitive.ClassMake site c values x xs links s t stand below
 
   member_parts : (p : Primitive) (site : Option Site) (c : Current Mark) (values : List (CoreValue Mark)) (xs : List CoreExpr) (links : List CoreLink) (s t : CoreState)
@@ -459,7 +459,7 @@ module _ (core core2 : Core) (kept : Keeping) (owners : List ℕ) (seats : Seats
   no_links c d s t currents stand (gs, r, below) =
       a_step_each (with_control (Go c []) s) (with_control (Go d []) t) (links_end core core2 owners seats c d s t currents stand (subst (λ hs. At s.context.environment s.context.frames hs) (sym below) r))
 
-  links_by : (kinds : KindsAreKept core core2) (ls : List CoreLink) (c d : Current Mark) (s t : CoreState) → Currents s.context.frames ls c d → ControlReady core kept owners seats s t (Go c ls)
+  links_by : (kinds : KindsAreKept core core2) (ls : List CoreLink) (c d : Current Mark) (s t : CoreState) → Currents s.context.frames ls c d → ControlReady core kept owners seats s (Go c ls)
       → Stand owners seats s t → BelowCells owners seats s ls t
       → S (with_control (Go c ls) s) (with_control (Go d (opened owners (cell_along seats s.context.environment) ls).links) t)
   links_by kinds [] c d s t currents ready stand below = no_links c d s t currents stand below
@@ -487,7 +487,7 @@ module _ (core core2 : Core) (kept : Keeping) (owners : List ℕ) (seats : Seats
   waits_given v (WaitsHeritage f heritage) e ls fs gs s t kinds ready stand r =
       let o = Waiting e ls gs in
       a_step_each (with_control (Hand (Gives v)) (placed e (Work (Heritage f heritage ls) ∷ fs) s)) (with_control (Hand (Gives v)) (with_frames (Work (Heritage f heritage o.links) ∷ o.frames) t))
-      (heritages_taken core core2 owners seats f heritage v ls (placed e fs s) (with_frames o.frames t) (class_seen core core2 kept owners seats (placed e fs s) flattened f ready)
+      (heritages_taken core core2 owners seats f heritage v ls (placed e fs s) (with_frames o.frames t) (class_seen core core2 kept owners seats (placed e fs s) flattened apart f ready)
       (stand_under core core2 owners seats e (Work (Heritage f heritage ls) ∷ fs) (Work (Heritage f heritage o.links) ∷ o.frames) fs o.frames s t stand) (gs, r, refl))
   waits_given v WaitsPrototype e ls fs gs s t kinds ready stand r = absurd ready
   waits_given v (WaitsBehind x) e ls fs gs s t kinds ready stand r = given_each v e (waiting (WaitsBehind x) ls) fs _ s t kinds tt stand (waits (WaitsBehind x) ls r)
@@ -621,7 +621,7 @@ module _ (core core2 : Core) (kept : Keeping) (owners : List ℕ) (seats : Seats
   hand_by (Returns v) s t kinds ready stand r = abrupt_here (Returns v) t.context.frames s t 0 tt ready stand r refl
   hand_by (Jumps goes_on label) s t kinds ready stand r = abrupt_here (Jumps goes_on label) t.context.frames s t 0 tt ready stand r refl
 
-  call_by : (c : Call) (s t : CoreState) → CallReady core kept c s t → Stand owners seats s t → At s.context.environment s.context.frames t.context.frames
+  call_by : (c : Call) (s t : CoreState) → CallReady core c s → Stand owners seats s t → At s.context.environment s.context.frames t.context.frames
       → S (with_control (Calls c) s) (with_control (Calls c) t)
   call_by c s t (inl other) stand r = a_step_each (with_control (Calls c) s) (with_control (Calls c) t) (other_calls_alike core core2 owners seats c s t other stand r)
   call_by c s t (inr x) stand r =
@@ -634,7 +634,7 @@ module _ (core core2 : Core) (kept : Keeping) (owners : List ℕ) (seats : Seats
       (enters_of core core2 kept owners seats c s t flattened apart stand x) (closures_of core core2 kept owners seats c s t flattened apart stand x)
       (called_of core core2 kept owners seats c s t flattened apart stand x) (arguments_of core core2 kept owners seats c s t flattened apart stand x) stand r))
 
-  same_by : (c : Control Mark) (s t : CoreState) → KindsAreKept core core2 → IsBare c → ControlReady core kept owners seats s t c → Stand owners seats s t → At s.context.environment s.context.frames t.context.frames
+  same_by : (c : Control Mark) (s t : CoreState) → KindsAreKept core core2 → IsBare c → ControlReady core kept owners seats s c → Stand owners seats s t → At s.context.environment s.context.frames t.context.frames
       → S (with_control c s) (with_control c t)
   same_by (Turn site c) s t kinds bare ready stand r = a_step_each (with_control (Turn site c) s) (with_control (Turn site c) t) (turns_alike core core2 owners seats site c s t stand r)
   same_by (Calls c) s t kinds bare ready stand r = call_by c s t ready stand r
@@ -643,7 +643,7 @@ module _ (core core2 : Core) (kept : Keeping) (owners : List ℕ) (seats : Seats
   same_by (Go c ls) s t kinds bare ready stand r = absurd bare
   same_by (Run xs) s t kinds bare ready stand r = absurd bare
 
-  matched_by : (s t : Config) → KindsAreKept core core2 → R s t → ControlReady core kept owners seats s.state t.state s.control → S s t
+  matched_by : (s t : Config) → KindsAreKept core core2 → R s t → ControlReady core kept owners seats s.state s.control → S s t
   matched_by s t kinds (at_same {s = a} {t = b} c bare stand r) ready = same_by c a b kinds bare ready stand r
   matched_by s t kinds (at_copy {s = a} {t = b} n drops stand r) ready =
       a_step_each (with_control (Hand (Gives (User value.Undefined))) a) (with_control (Hand (Gives (Extra (Cell n)))) b) (copies_dropped core core2 owners seats n a b drops stand r)

@@ -197,7 +197,7 @@ entered_names c now st k = refl
 
 -- ---- the two records
 
-module _ (f : CoreFunction) (v : Value) (args : List Value) (kept : List Var) (cells : List KeptCell) (made : List (Option Value)) (apart : NamesApart f kept) (of : CellsOf cells kept made) where
+module _ (f : CoreFunction) (v : Value) (args : List Value) (owners : List ℕ) (number : ℕ) (cells : List KeptCell) (made : List (Option Value)) (apart : NamesApart owners number f) (of : CellsOf owners number cells made) where
   abbrev P : Record
   P = passed f.parameters args
 
@@ -234,7 +234,7 @@ module _ (f : CoreFunction) (v : Value) (args : List Value) (kept : List Var) (c
 
   -- a name whose cell is kept is none of the function's
   foreign : (x : Var) (k : ℕ) → cell_found cells x ≡ Some k → (is_among x (own_names f) ≡ false) × (is_among x (scoped_names f) ≡ false)
-  foreign x k found = not_among (own_names f) (scoped_names f) x (apart.kept_apart x (of.named x k found))
+  foreign x k found = not_among (own_names f) (scoped_names f) x (apart.others_apart x (of.foreign x k found))
 
   own_uncelled : (x : Var) → is_among x (listed f.own) ≡ true → (k : ℕ) → cell_found cells x ≡ Some k → ⊥
   own_uncelled x own k found =
@@ -365,13 +365,13 @@ target_is owners f kept b c t undeclared =
     ∙ ap (λ ds. passed f.parameters c.args ++ (map (λ d. undefined_binding d.var) ds ++ (name_bound f.arguments ++ (undefined_all (f.locals ++ scoped_names f) ++ ((entered b (function_flat owners kept f) c t).names ++ own_name f.own c.function))))) undeclared
     ∙ ap (λ zs. passed f.parameters c.args ++ (name_bound f.arguments ++ (undefined_all (f.locals ++ scoped_names f) ++ (zs ++ own_name f.own c.function)))) (entered_names b c t f.kind)
 
-calls_named : (owners : List ℕ) (f : CoreFunction) (kept : List Var) (a b : Closure Own) (c : Call) (s t : CoreState)
-    → f.declared ≡ [] → a.own.cells ≡ [] → NamesApart f kept → CellsOf b.own.cells kept t.store.cells
+calls_named : (owners : List ℕ) (number : ℕ) (f : CoreFunction) (kept : List Var) (a b : Closure Own) (c : Call) (s t : CoreState)
+    → f.declared ≡ [] → a.own.cells ≡ [] → NamesApart owners number f → CellsOf owners number b.own.cells t.store.cells
     → NewCall (bindings_of (function_flat owners kept f) b c t) (bindings_of f a c s) t.store.cells (scoped_names f) (call_names f b.own.cells) b.own.cells
-calls_named owners f kept a b c s t undeclared unkept apart of =
+calls_named owners number f kept a b c s t undeclared unkept apart of =
     subst (λ bs. NewCall bs (bindings_of f a c s) t.store.cells (scoped_names f) (call_names f b.own.cells) b.own.cells) (sym (target_is owners f kept b c t undeclared))
     (subst (λ bs. NewCall (passed f.parameters c.args ++ (name_bound f.arguments ++ (undefined_all (f.locals ++ scoped_names f) ++ (cell_record b.own.cells ++ own_name f.own c.function)))) bs t.store.cells (scoped_names f) (call_names f b.own.cells) b.own.cells) (sym (source_is f a c s undeclared unkept))
-    (new_call f c.function c.args kept b.own.cells t.store.cells apart of))
+    (new_call f c.function c.args owners number b.own.cells t.store.cells apart of))
 
 -- the arguments object has its name
 arguments_by : (o : Option Var) (first rest : Record) → ArgumentsBound (first ++ (name_bound o ++ rest)) o

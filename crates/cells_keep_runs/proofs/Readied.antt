@@ -1,5 +1,5 @@
 -- From what is asked of the source to what the laws of the steps ask of both.
-use Rattle.std.proofs.Common.{◌≡◌, ◌<◌, ℕ, zero, suc, Bool, true, false, ◌||◌, cond, List, [], ◌∷◌, map, Option, None, Some, length, nat_eq, slice_get, refl, sym, ap, subst, ◌∙◌, ◌⊎◌, inl, inr}
+use Rattle.std.proofs.Common.{◌≡◌, ◌<◌, ◌+◌, ℕ, zero, suc, Bool, true, false, ◌||◌, cond, List, [], ◌∷◌, map, Option, None, Some, length, nat_eq, slice_get, refl, sym, ap, subst, ◌∙◌, ◌⊎◌, inl, inr}
 use Rattle.std.specs.Prelude.{if◌then◌else◌}
 use Rattle.std.proofs.lemmas.Bool.{eq-eqb, eqb-true}
 use Rattle.core_ast.specs.declared.parts.FunctionId.{FunctionId}
@@ -44,9 +44,9 @@ module _ (owners : List ℕ) (seats : Seats) (s t : CoreState) (stand : Stand ow
 
 -- ---- functions
 
-module _ (core core2 : Core) (kept : Keeping) (owners : List ℕ) (seats : Seats) (s : CoreState) (flattened : AreFlattened core core2 owners kept) where
+module _ (core core2 : Core) (kept : Keeping) (owners : List ℕ) (seats : Seats) (s : CoreState) (flattened : AreFlattened core core2 owners kept) (apart : AreApart core kept owners) where
   pub class_seen : (f : FunctionId) → FunctionSeen core kept owners seats s f → ClassSeen core core2 owners seats s f
-  class_seen f x = record { function = x.function; kept = kept f; before = x.before; flat = flattened f x.function x.before; seen = x.seen }
+  class_seen f x = record { function = x.function; kept = kept f; before = x.before; flat = flattened f x.function x.before; others = (apart f x.function x.before).others; seen = x.seen }
 
   pub seen_in : (vs : List (CoreValue Mark)) → ValuesSeen core kept owners seats s vs → SeenIn core core2 owners seats s vs
   seen_in (User heritage ∷ Extra (Unmade f) ∷ []) x = class_seen f x
@@ -68,13 +68,13 @@ kept_in seats e (c ∷ ks) x k (along, at, kept) is = by_name (nat_eq c.var.0 x.
     by_name true e2 here on = subst (λ j. IsCellIn seats x j) (one_value (Some c.cell) c.cell k refl here) (subst (λ y. IsCellIn seats y c.cell) (same_var c.var x (eqb-true c.var.0 x.0 e2)) at)
     by_name false e2 here on = on here
 
-module _ (core core2 : Core) (kept : Keeping) (owners : List ℕ) (seats : Seats) (c : Call) (s t : CoreState) (flattened : AreFlattened core core2 owners kept) (apart : AreApart core kept)
-    (stand : Stand owners seats s t) (x : ClosureCall core kept c s t) where
+module _ (core core2 : Core) (kept : Keeping) (owners : List ℕ) (seats : Seats) (c : Call) (s t : CoreState) (flattened : AreFlattened core core2 owners kept) (apart : AreApart core kept owners)
+    (stand : Stand owners seats s t) (x : ClosureCall core c s) where
   undeclared : x.function.declared ≡ []
-  undeclared = (apart x.closure.function x.function x.function_is).0
+  undeclared = (apart x.closure.function x.function x.function_is).undeclared
 
-  pub behind_all : (b : Closure Own) × (slice_get t.closures x.number ≡ Some b) × Closures seats x.closure b
-  behind_all = related_at (Closures seats) s.closures t.closures x.number x.closure stand.states.closures x.closure_at
+  pub behind_all : (b : Closure Own) × (slice_get t.closures x.number ≡ Some b) × Closures owners seats x.closure b
+  behind_all = related_at (Closures owners seats) s.closures t.closures x.number x.closure stand.states.closures x.closure_at
 
   abbrev pub behind_of : Closure Own
   behind_of = behind_all.0
@@ -82,7 +82,7 @@ module _ (core core2 : Core) (kept : Keeping) (owners : List ℕ) (seats : Seats
   pub behind_at : slice_get t.closures x.number ≡ Some behind_of
   behind_at = behind_all.1
 
-  pub closures_of : Closures seats x.closure behind_of
+  pub closures_of : Closures owners seats x.closure behind_of
   closures_of = behind_all.2
 
   pub enters_of : Enters core core2 owners c s t x.closure behind_of x.function (kept x.closure.function)
@@ -101,15 +101,15 @@ module _ (core core2 : Core) (kept : Keeping) (owners : List ℕ) (seats : Seats
   made_at : (y : Var) (k : ℕ) → IsCellIn seats y k → k < length t.store.cells
   made_at y k (n, seat, at, found) = stand.states.memory.cells_made n k seat y at found
 
-  pub cells_of : CellsOf behind_of.own.cells (kept x.closure.function) t.store.cells
+  pub cells_of : CellsOf owners (x.closure.function.0 + 1) behind_of.own.cells t.store.cells
   cells_of = record {
-    named = x.named behind_of behind_at;
+    foreign = closures_of.foreign;
     there = λ y k found. made_at y k (kept_in seats x.closure.environment behind_of.own.cells y k closures_of.cells found);
   }
 
   pub called_of : NewCall (bindings_of (function_flat owners (kept x.closure.function) x.function) behind_of c t) (bindings_of x.function x.closure c s) t.store.cells
       (scoped_names x.function) (call_names x.function behind_of.own.cells) behind_of.own.cells
-  called_of = calls_have_names.called owners x.function (kept x.closure.function) x.closure behind_of c s t undeclared x.unkept (apart x.closure.function x.function x.function_is).1 cells_of
+  called_of = calls_have_names.called owners (x.closure.function.0 + 1) x.function (kept x.closure.function) x.closure behind_of c s t undeclared closures_of.uncelled (apart x.closure.function x.function x.function_is).names cells_of
 
   pub arguments_of : ArgumentsBound (bindings_of x.function x.closure c s) x.function.arguments
   arguments_of = calls_have_names.arguments x.function x.closure c s undeclared

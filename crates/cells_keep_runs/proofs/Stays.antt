@@ -1,9 +1,8 @@
 -- How both machines come to find a name, and when they go on to.
-use Rattle.std.proofs.Common.{◌≡◌, ◌≤◌, ◌+◌, ℕ, suc, Bool, true, false, ◌||◌, cond, List, [], ◌∷◌, ◌++◌, map, Option, None, Some, length, nat_eq, slice_get, refl, sym, ap, arith, subst, ◌∙◌, ◌⊎◌, inl, inr}
+use Rattle.std.proofs.Common.{◌≡◌, ◌≤◌, ◌+◌, ℕ, suc, Bool, true, false, ◌||◌, cond, List, [], ◌∷◌, ◌++◌, map, None, Some, length, nat_eq, slice_get, refl, sym, ap, arith, ◌∙◌, ◌⊎◌, inl, inr}
 use Rattle.std.specs.Prelude.{if◌then◌else◌}
 use Rattle.std.proofs.lemmas.Bool.{eqb-true}
 use Rattle.std.proofs.lemmas.List.{length_push}
-use Rattle.es_value.specs.declared.value.Value.{Value}
 use Rattle.core_ast.specs.declared.parts.ScopedName.{ScopedName}
 use Rattle.core_ast.specs.declared.parts.Var.{Var}
 use Rattle.core_meaning.specs.Marks.{CoreState, KeptCell}
@@ -15,7 +14,7 @@ use Rattle.cells_keep_runs.specs.Entries.{call_seat}
 use Rattle.cells_keep_runs.specs.Memory.{IsNewest, Keeps, Seat, Seats, cell_along, cell_found, cells_in, is_scoped, or_outer}
 use Rattle.cells_keep_runs.specs.Places.{Below}
 use Rattle.cells_keep_runs.specs.Ready.{AllMarked, ScopeReady}
-use Rattle.cells_keep_runs.specs.Renewed.{NoValue, OwnCell, Renewal, cells_from, scope_seat}
+use Rattle.cells_keep_runs.specs.Renewed.{NoValue, OwnCell, cells_from, scope_seat}
 use Rattle.cells_keep_runs.specs.Seen.{Sees, image_with, or_image, sees_home, sees_kept, sees_plain, target_at}
 use Rattle.cells_keep_runs.specs.Stays.{CallsNamesAreSeen, KeptNamesAreSeen, ScopesNamesAreSeen, SeenNamesStay, SeenOutside, SeenWithin, with_call}
 use Rattle.cells_keep_runs.specs.Writes.{CellOf, PlaceOf, at_home, at_image}

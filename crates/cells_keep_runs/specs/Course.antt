@@ -39,7 +39,7 @@ pub data NewSeats (core : Core) (kept : Keeping) (owners : List ℕ) (seats : Se
   a_copy_more : (x : CoreExpr) (xs : List Var) (r : CopyReady owners seats s.state xs (out-CoreExpr x).links)
       → s.control ≡ Begin x → (out-CoreExpr x).head ≡ head.Copy xs
       → NewSeats core kept owners seats s t (copied_seats owners seats r.copyable.seat (record_at s.state.records r.number) xs (length t.state.store.cells))
-  a_call_more : (c : Call) (r : ClosureCall core kept c s.state t.state) (behind : Closure Own)
+  a_call_more : (c : Call) (r : ClosureCall core c s.state) (behind : Closure Own)
       → s.control ≡ Calls c → slice_get t.state.closures r.number ≡ Some behind
       → NewSeats core kept owners seats s t
       (seats ++ call_seat (length t.state.records) (scoped_names r.function) (call_names r.function behind.own.cells) behind.own.cells ∷ [])
@@ -75,7 +75,7 @@ pub data StepMatched (core core2 : Core) (kept : Keeping) (owners : List ℕ) (s
 -- Each step from related configurations that are ready is matched.
 abbrev pub StepsAreMatched : Type 0
 StepsAreMatched = (core core2 : Core) (kept : Keeping) (owners : List ℕ) (seats : Seats) (s t : Config)
-    → AreFlattened core core2 owners kept → AreApart core kept → KindsAreKept core core2 → Related owners seats s t → Ready core kept owners seats s t → StepMatched core core2 kept owners seats s t
+    → AreFlattened core core2 owners kept → AreApart core kept owners → KindsAreKept core core2 → Related owners seats s t → Ready core kept owners seats s → StepMatched core core2 kept owners seats s t
 
 -- ---- a course
 

@@ -7,7 +7,7 @@ use Rattle.core_ast.specs.declared.parts.Var.{Var}
 use Rattle.core_ast.specs.declared.whole.CoreFunction.{CoreFunction}
 use Rattle.core_meaning.specs.Marks.{CoreState, KeptCell, Own}
 use Rattle.core_meaning.specs.State.{Call, Closure}
-use Rattle.pass_rules.specs.Cells.{is_among}
+use Rattle.pass_rules.specs.Cells.{is_among, is_foreign}
 use Rattle.pass_rules.specs.Scopes.{function_flat, vars}
 use Rattle.cells_keep_runs.specs.Called.{ArgumentsBound, bindings_of}
 use Rattle.cells_keep_runs.specs.Entries.{NewCall}
@@ -29,19 +29,19 @@ abbrev pub call_names : CoreFunction → List KeptCell → List Var
 call_names f cells =
     f.parameters ++ (listed f.arguments ++ ((f.locals ++ scoped_names f) ++ (map (λ k. k.var) cells ++ listed f.own)))
 
--- its own name is none of its scopes', and a name whose cell it keeps is neither its own nor of its scopes
-pub record NamesApart (f : CoreFunction) (kept : List Var) : Type 0 where
+-- its own name is none of its scopes', and a shared name of others is neither its own nor of its scopes
+pub record NamesApart (owners : List ℕ) (number : ℕ) (f : CoreFunction) : Type 0 where
   pub own_apart : (x : Var) → is_among x (listed f.own) ≡ true → is_among x (scoped_names f) ≡ false
-  pub kept_apart : (x : Var) → is_among x kept ≡ true → is_among x (own_names f ++ scoped_names f) ≡ false
+  pub others_apart : (x : Var) → is_foreign owners number x ≡ true → is_among x (own_names f ++ scoped_names f) ≡ false
 
--- cells of these names, each of which is made
-pub record CellsOf (cells : List KeptCell) (kept : List Var) (made : List (Option Value)) : Type 0 where
-  pub named : (x : Var) (k : ℕ) → cell_found cells x ≡ Some k → is_among x kept ≡ true
+-- cells of shared names of others, each of which is made
+pub record CellsOf (owners : List ℕ) (number : ℕ) (cells : List KeptCell) (made : List (Option Value)) : Type 0 where
+  pub foreign : (x : Var) (k : ℕ) → cell_found cells x ≡ Some k → is_foreign owners number x ≡ true
   pub there : (x : Var) (k : ℕ) → cell_found cells x ≡ Some k → k < length made
 
 -- Then the target's record of a call has what the source's has, and its arguments object has a name there.
 pub record CallsHaveTheirNames : Type 0 where
-  pub called : (owners : List ℕ) (f : CoreFunction) (kept : List Var) (a b : Closure Own) (c : Call) (s t : CoreState)
-      → f.declared ≡ [] → a.own.cells ≡ [] → NamesApart f kept → CellsOf b.own.cells kept t.store.cells
+  pub called : (owners : List ℕ) (number : ℕ) (f : CoreFunction) (kept : List Var) (a b : Closure Own) (c : Call) (s t : CoreState)
+      → f.declared ≡ [] → a.own.cells ≡ [] → NamesApart owners number f → CellsOf owners number b.own.cells t.store.cells
       → NewCall (bindings_of (function_flat owners kept f) b c t) (bindings_of f a c s) t.store.cells (scoped_names f) (call_names f b.own.cells) b.own.cells
   pub arguments : (f : CoreFunction) (a : Closure Own) (c : Call) (s : CoreState) → f.declared ≡ [] → ArgumentsBound (bindings_of f a c s) f.arguments

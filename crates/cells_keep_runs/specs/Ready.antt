@@ -1,6 +1,6 @@
--- What the laws of the steps ask of two related configurations, by what the next step does. Names are found where they are mentioned, and
+-- What the laws of the steps ask of the source's configuration and of its seats, by what the next step does. Names are found where they are mentioned, and
 -- what makes a record may make it.
-use Rattle.std.specs.Prelude.{◌≡◌, ◌⊎◌, true, false, List, [], ◌∷◌, ◌++◌, map, Option, None, Some, slice_get, ℕ}
+use Rattle.std.specs.Prelude.{◌≡◌, ◌+◌, ◌⊎◌, true, false, List, [], ◌∷◌, ◌++◌, map, Option, None, Some, slice_get, ℕ}
 use Rattle.es_outside.specs.declared.events.Site.{Site}
 use Rattle.es_value.specs.declared.value.ObjId.{ObjId}
 use Rattle.es_value.specs.declared.value.Value.TheVariants as value
@@ -31,7 +31,7 @@ use Rattle.pass_rules.specs.Cells.{is_among, is_shared}
 use Rattle.pass_rules.specs.Scopes.{function_flat, vars}
 use Rattle.cells_keep_runs.specs.Acted.{IsAlikeOp}
 use Rattle.cells_keep_runs.specs.Alike.{Config}
-use Rattle.cells_keep_runs.specs.Closed.{AllSeen, SeenShared}
+use Rattle.cells_keep_runs.specs.Closed.{AllSeen, KeepsOthers, SeenShared}
 use Rattle.cells_keep_runs.specs.Copied.{Copyable, GoesToThen, InScope, NoWrites}
 use Rattle.cells_keep_runs.specs.Entered.{AllAt, reset_of}
 use Rattle.cells_keep_runs.specs.Named.{NamesApart}
@@ -80,10 +80,14 @@ abbrev pub AreFlattened : Core → Core → List ℕ → Keeping → Type 0
 AreFlattened core core2 owners kept = (f : FunctionId) (function : CoreFunction) → function_at core f ≡ Some function
     → function_at core2 f ≡ Some (function_flat owners (kept f) function)
 
--- its functions aren't of scripts, and their names are apart
-abbrev pub AreApart : Core → Keeping → Type 0
-AreApart core kept = (f : FunctionId) (function : CoreFunction) → function_at core f ≡ Some function
-    → (function.declared ≡ []) × NamesApart function (kept f)
+-- its functions aren't of scripts, their names are apart, and they keep cells of others
+pub record IsApart (core : Core) (kept : Keeping) (owners : List ℕ) (f : FunctionId) (function : CoreFunction) : Type 0 where
+  pub undeclared : function.declared ≡ []
+  pub names : NamesApart owners (f.0 + 1) function
+  pub others : KeepsOthers owners f function (kept f)
+
+abbrev pub AreApart : Core → Keeping → List ℕ → Type 0
+AreApart core kept owners = (f : FunctionId) (function : CoreFunction) → function_at core f ≡ Some function → IsApart core kept owners f function
 
 -- the function is there, and both find the names whose cells it keeps
 pub record FunctionSeen (core : Core) (kept : Keeping) (owners : List ℕ) (seats : Seats) (s : CoreState) (f : FunctionId) : Type 0 where
@@ -135,8 +139,8 @@ pub record CopyReady (owners : List ℕ) (seats : Seats) (s : CoreState) (xs : L
   pub copyable : Copyable owners seats s.records s.context.environment number xs
   pub inside : InScope s.context.frames
 
--- The call of a closure of the program. It keeps no cells before the pass, and behind it those of the names that its function keeps.
-pub record ClosureCall (core : Core) (kept : Keeping) (c : Call) (s t : CoreState) : Type 0 where
+-- the call of a closure of the program
+pub record ClosureCall (core : Core) (c : Call) (s : CoreState) : Type 0 where
   pub closure : Closure Own
   pub function : CoreFunction
   pub id : ObjId
@@ -145,12 +149,9 @@ pub record ClosureCall (core : Core) (kept : Keeping) (c : Call) (s t : CoreStat
   pub class_is : (object_at s.heap id).class ≡ class.Function number
   pub closure_at : slice_get s.closures number ≡ Some closure
   pub function_is : function_at core closure.function ≡ Some function
-  pub unkept : closure.own.cells ≡ []
-  pub named : (behind : Closure Own) → slice_get t.closures number ≡ Some behind
-      → (x : Var) (k : ℕ) → cell_found behind.own.cells x ≡ Some k → is_among x (kept closure.function) ≡ true
 
-abbrev pub CallReady : Core → Keeping → Call → CoreState → CoreState → Type 0
-CallReady core kept c s t = CallsNoClosure s.heap c.function ⊎ ClosureCall core kept c s t
+abbrev pub CallReady : Core → Call → CoreState → Type 0
+CallReady core c s = CallsNoClosure s.heap c.function ⊎ ClosureCall core c s
 
 -- ---- operations
 
@@ -222,15 +223,15 @@ HandReady core kept owners seats s Done = EndReady owners s.context.frames
 HandReady core kept owners seats s (Throws v) = ThrowReady owners seats s s.context.frames
 HandReady core kept owners seats s c = Unit {0}
 
-abbrev pub ControlReady : Core → Keeping → List ℕ → Seats → CoreState → CoreState → Control Mark → Type 0
-ControlReady core kept owners seats s t (Begin x) =
+abbrev pub ControlReady : Core → Keeping → List ℕ → Seats → CoreState → Control Mark → Type 0
+ControlReady core kept owners seats s (Begin x) =
     WritesSeen owners seats s (out-CoreExpr x).links × HeadReady core kept owners seats s (out-CoreExpr x).links (out-CoreExpr x).head
-ControlReady core kept owners seats s t (Go c []) = Unit {0}
-ControlReady core kept owners seats s t (Go c (l ∷ links)) = LinkReady owners seats s c l (out-CoreLink l)
-ControlReady core kept owners seats s t (Run xs) = ListReady owners seats s xs
-ControlReady core kept owners seats s t (Turn site c) = Unit {0}
-ControlReady core kept owners seats s t (Calls c) = CallReady core kept c s t
-ControlReady core kept owners seats s t (Hand c) = HandReady core kept owners seats s c
+ControlReady core kept owners seats s (Go c []) = Unit {0}
+ControlReady core kept owners seats s (Go c (l ∷ links)) = LinkReady owners seats s c l (out-CoreLink l)
+ControlReady core kept owners seats s (Run xs) = ListReady owners seats s xs
+ControlReady core kept owners seats s (Turn site c) = Unit {0}
+ControlReady core kept owners seats s (Calls c) = CallReady core c s
+ControlReady core kept owners seats s (Hand c) = HandReady core kept owners seats s c
 
-abbrev pub Ready : Core → Keeping → List ℕ → Seats → Config → Config → Type 0
-Ready core kept owners seats s t = ControlReady core kept owners seats s.state t.state s.control
+abbrev pub Ready : Core → Keeping → List ℕ → Seats → Config → Type 0
+Ready core kept owners seats s = ControlReady core kept owners seats s.state s.control

@@ -5,7 +5,7 @@
 -- Frames are those of the source, flattened, but for three things. A scope has left a Restore and a Rest on the source's stack, whose
 -- statements stand behind those of the target's Rest. A shared name that an expression writes waits as a frame of its own. And where
 -- a frame would wait with no links but for such a name, there may be none.
-use Rattle.std.specs.Prelude.{◌≡◌, List, [], ◌∷◌, ◌++◌, map, Option, Some, length, slice_get, ℕ}
+use Rattle.std.specs.Prelude.{◌≡◌, List, [], ◌∷◌, ◌++◌, ◌+◌, true, map, Option, Some, length, slice_get, ℕ}
 use Rattle.es_outside.specs.declared.events.Site.{Site}
 use Rattle.es_value.specs.declared.value.Value.{Value}
 use Rattle.es_value.specs.declared.value.Value.TheVariants as value
@@ -27,6 +27,7 @@ use Rattle.core_ast.specs.declared.tree.CoreStat.{CoreStat}
 use Rattle.core_meaning.specs.Marks.{AtStart, AtYield, Cell, Completed, CoreList, CoreState, CoreStore, CoreStrict, CoreWork, DelegateDone, DelegateStart, DelegateTurn, DelegateValue, Delegates, Derived, Executing, Generator, Heritage, Instantiates, KeptCell, Mark, Own, Prototype, PrototypeFor, Resumes, SpreadStart, SpreadStep, SpreadValue, Starts, YieldsIn, sorts}
 use Rattle.core_meaning.specs.Rows.{with_control}
 use Rattle.core_meaning.specs.State.{After, Begin, Behind, Calls, Catching, Choice, Closure, Completion, Configuration, Context, Control, CoreValue, Current, Environment, Extra, Fetch, Finishing, Frame, Gives, Go, Hand, Has, Keyed, Loop, LoopBody, LoopTest, LoopUpdate, Matching, Part, Pending, Rest, Restore, Returning, Run, StepAt, Store, Subject, Target, Throwing, Turn, User, Work}
+use Rattle.pass_rules.specs.Cells.{is_foreign}
 use Rattle.pass_rules.specs.Scopes.{case_flat, expr_flat, reset, stats_flat}
 use Rattle.cells_keep_runs.specs.Alike.{IsPlain}
 pub use Rattle.cells_keep_runs.specs.Memory.{IsScope, Memory, Seat, Seats, cell_along, cell_found, cells_in, image_in, images, or_outer, with_image}
@@ -223,12 +224,14 @@ abbrev pub Kept : Seats → Environment → List KeptCell → Type 0
 Kept seats e [] = Unit {0}
 Kept seats e (k ∷ ks) = (cell_along seats e k.var ≡ k.cell) × IsCellIn seats k.var k.cell × Kept seats e ks
 
-pub record Closures (seats : Seats) (a b : Closure Own) : Type 0 where
+pub record Closures (owners : List ℕ) (seats : Seats) (a b : Closure Own) : Type 0 where
   pub function : b.function ≡ a.function
   pub environment : b.environment ≡ images seats a.environment
   pub below : Below (length seats) a.environment
   pub own : Owns a.own b.own
   pub cells : Kept seats a.environment b.own.cells
+  pub uncelled : a.own.cells ≡ []
+  pub foreign : (x : Var) (k : ℕ) → cell_found b.own.cells x ≡ Some k → is_foreign owners (a.function.0 + 1) x ≡ true
 
 pub data Generators (owners : List ℕ) (seats : Seats) : Generator → Generator → Type 0 where
   at_start : {a b : Context Mark Own CoreWork} → Contexts owners seats a b → Generators owners seats (AtStart a) (AtStart b)
@@ -247,7 +250,7 @@ All R xs ys = ⊥
 pub record States (owners : List ℕ) (seats : Seats) (s t : CoreState) : Type 0 where
   pub heap : t.heap ≡ s.heap
   pub memory : Memory owners seats s.records t.records t.store.cells
-  pub closures : All (Closures seats) s.closures t.closures
+  pub closures : All (Closures owners seats) s.closures t.closures
   pub callers : All (Contexts owners seats) s.callers t.callers
   pub ahead : t.ahead ≡ map (stats_flat owners) s.ahead
   pub this_values : t.store.this_values ≡ s.store.this_values

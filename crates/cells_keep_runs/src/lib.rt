@@ -4,7 +4,7 @@
 
 ghost use Rattle.cells_keep_runs.specs.Acted.{OperationsActAlike};
 ghost use Rattle.cells_keep_runs.specs.Alike.{UntouchedAreAlike};
-ghost use Rattle.cells_keep_runs.specs.Apart.{FunctionsAreApart, ModulesAreApart, NoneDeclared};
+ghost use Rattle.cells_keep_runs.specs.Apart.{FunctionsAreApart, ModulesAreApart, NoneDeclared, OthersAreKept};
 ghost use Rattle.cells_keep_runs.specs.Passed.{CopiesAreTaken, PlacesAreKept, ScopesAreEntered, ScopesAreLeft, ScopesEnd};
 ghost use Rattle.cells_keep_runs.specs.Begun.{UntouchedHeadsKeepRelated};
 ghost use Rattle.cells_keep_runs.specs.Called.{CallsEnterAlike};
@@ -254,12 +254,13 @@ pub fn calls_have_their_names()
     ensures { CallsHaveTheirNames }
 {}
 
-/// In a lawful core no name of a module's scopes is one of its own, none of a function's scopes is its own name, no name whose cell it keeps is
-/// one of its own, and no function is declared in another as in scripts.
+/// In a lawful core no name of a module's scopes is one of its own, none of a function's scopes is its own name, the names whose cells it keeps
+/// are shared ones of others, of which none is one of its own, and no function is declared in another as in scripts.
 pub fn lawful_names_are_apart()
     ensures modules { ModulesAreApart }
     ensures functions { FunctionsAreApart }
     ensures declared { NoneDeclared }
+    ensures kept { OthersAreKept }
 {}
 
 /// Both machines find the names of a scope that is entered, and of a call with the names whose cells its closure keeps. They go on to find a
