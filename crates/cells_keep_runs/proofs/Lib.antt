@@ -36,3 +36,5 @@ pub mod Matched
 pub mod Apart
 pub mod Kept
 pub mod Stays
+pub mod Placing
+pub mod Staying

@@ -35,3 +35,4 @@ pub mod Course
 pub mod Kept
 pub mod Apart
 pub mod Stays
+pub mod Placing

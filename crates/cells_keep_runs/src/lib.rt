@@ -25,6 +25,7 @@ ghost use Rattle.cells_keep_runs.specs.Linked.{CellsTakeReads, CopiesAreDropped,
 ghost use Rattle.cells_keep_runs.specs.Links.{UntouchedLinksKeepRelated};
 ghost use Rattle.cells_keep_runs.specs.Named.{CallsHaveTheirNames};
 ghost use Rattle.cells_keep_runs.specs.Opened.{BeginsOpenCells, CopiesAreMade};
+ghost use Rattle.cells_keep_runs.specs.Placing.{CodeStays};
 ghost use Rattle.cells_keep_runs.specs.Places.{NewRecordsComeFirst, NewRecordsHideNothing, WritesAreSeen};
 ghost use Rattle.cells_keep_runs.specs.Renewed.{ScopesAreRemembered};
 ghost use Rattle.cells_keep_runs.specs.Seen.{NamesAreRead, NamesAreWritten};
@@ -290,4 +291,10 @@ pub fn functions_are_flattened()
 /// runs come to is ready.
 pub fn runs_are_kept_where_ready()
     ensures { RunsAreKept }
+{}
+
+/// A step that makes no record leaves all code of a state where it may stand, by the environment along which it runs. Where it may is given by
+/// the values that stand for the places, and is any relation that holds of the parts of code where it holds of the code.
+pub fn code_stays_where_it_may_stand<V, W, X, Y>()
+    ensures { CodeStays V W X Y }
 {}
