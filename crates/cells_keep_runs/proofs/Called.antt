@@ -301,7 +301,7 @@ begin_is f a c s kind.Accessor = refl
 begin_is f a c s (kind.Class derived) = refl
 begin_is f a c s kind.Generator = refl
 
-within_is : (core : Core) (f : CoreFunction) (a : Closure Own) (c : Call) (s : CoreState) → f.declared ≡ []
+pub within_is : (core : Core) (f : CoreFunction) (a : Closure Own) (c : Call) (s : CoreState) → f.declared ≡ []
     → within_call (rows core) core f a c s
     ≡ with_arguments Sixth f.arguments c.args (record (entered a f c s).state {
       records = s.records ++ bindings_of f a c s ∷ [];
@@ -312,7 +312,7 @@ within_is core f a c s undeclared =
     ap (λ ds. with_arguments Sixth f.arguments c.args (fold (declare_one (rows core) core) (with_record (names_of_call f (entered a f c s).names c) (with_context a.environment c (entered a f c s))) ds)) undeclared
     ∙ ap (λ st. with_arguments Sixth f.arguments c.args st) (begin_is f a c s f.kind)
 
-calls_step : (core : Core) (c : Call) (s : CoreState) (id : ObjId) (n : ℕ) (a : Closure Own) (f : CoreFunction) → c.function ≡ value.Object id → (object_at s.heap id).class ≡ class.Function n
+pub calls_step : (core : Core) (c : Call) (s : CoreState) (id : ObjId) (n : ℕ) (a : Closure Own) (f : CoreFunction) → c.function ≡ value.Object id → (object_at s.heap id).class ≡ class.Function n
     → slice_get s.closures n ≡ Some a → function_at core a.function ≡ Some f → core_step core (with_control (Calls c) s) ≡ run_body f (within_call (rows core) core f a c s)
 unfolding step call_class
 calls_step core c s id n a f object class_is closure function =

@@ -295,11 +295,11 @@ begins_undefined : (core : Core) (site : Option Site) (ls : List CoreLink) (st :
 unfolding begin_head
 begins_undefined core site ls st = begin_at core site (head.Constant Undefined) ls st
 
-copies_step : (core : Core) (x : CoreExpr) (xs : List Var) (s : CoreState) → (out-CoreExpr x).head ≡ head.Copy xs → core_step core (with_control (Begin x) s) ≡ Goes (with_control (Go (Has (User value.Undefined)) (out-CoreExpr x).links) (copied s))
+pub copies_step : (core : Core) (x : CoreExpr) (xs : List Var) (s : CoreState) → (out-CoreExpr x).head ≡ head.Copy xs → core_step core (with_control (Begin x) s) ≡ Goes (with_control (Go (Has (User value.Undefined)) (out-CoreExpr x).links) (copied s))
 unfolding step begin_head
 copies_step core x xs s is = ap (λ h. begin_head (rows core) core h (out-CoreExpr x).links s) is
 
-copied_at : (s : CoreState) (n : ℕ) (o : Environment) → s.context.environment ≡ n ∷ o
+pub copied_at : (s : CoreState) (n : ℕ) (o : Environment) → s.context.environment ≡ n ∷ o
     → copied s ≡ record s { records = s.records ++ record_at s.records n ∷ []; context = record s.context { environment = length s.records ∷ o } }
 copied_at s n o is = ap (λ e. copied (record s { context = record s.context { environment = e } })) is
 

@@ -38,3 +38,4 @@ pub mod Kept
 pub mod Stays
 pub mod Placing
 pub mod Staying
+pub mod Recorded

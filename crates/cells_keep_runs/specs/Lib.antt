@@ -36,3 +36,4 @@ pub mod Kept
 pub mod Apart
 pub mod Stays
 pub mod Placing
+pub mod Recorded

@@ -27,6 +27,7 @@ ghost use Rattle.cells_keep_runs.specs.Named.{CallsHaveTheirNames};
 ghost use Rattle.cells_keep_runs.specs.Opened.{BeginsOpenCells, CopiesAreMade};
 ghost use Rattle.cells_keep_runs.specs.Placing.{CodeStays};
 ghost use Rattle.cells_keep_runs.specs.Places.{NewRecordsComeFirst, NewRecordsHideNothing, WritesAreSeen};
+ghost use Rattle.cells_keep_runs.specs.Recorded.{CodeStaysInRecords};
 ghost use Rattle.cells_keep_runs.specs.Renewed.{ScopesAreRemembered};
 ghost use Rattle.cells_keep_runs.specs.Seen.{NamesAreRead, NamesAreWritten};
 ghost use Rattle.cells_keep_runs.specs.Started.{BeginningsAreRelated};
@@ -297,4 +298,10 @@ pub fn runs_are_kept_where_ready()
 /// the values that stand for the places, and is any relation that holds of the parts of code where it holds of the code.
 pub fn code_stays_where_it_may_stand<V, W, X, Y>()
     ensures { CodeStays V W X Y }
+{}
+
+/// So does what makes a record, if what runs along the new environment may stand there: a scope, a handler, a copy and a call, and the next
+/// body of a module.
+pub fn code_stays_in_new_records<V, W, X, Y>()
+    ensures { CodeStaysInRecords V W X Y }
 {}
