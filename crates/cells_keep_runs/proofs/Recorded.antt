@@ -1,15 +1,13 @@
 -- What makes a record leaves code where it may stand.
-use Rattle.std.proofs.Common.{◌≡◌, ℕ, Bool, true, false, List, [], ◌∷◌, ◌++◌, Option, None, Some, length, refl, sym, ap, subst, ◌∙◌}
+use Rattle.std.proofs.Common.{◌≡◌, Bool, true, false, List, [], ◌∷◌, ◌++◌, Option, None, Some, length, refl, sym, ap, subst, ◌∙◌}
 use Rattle.std.specs.Prelude.{if◌then◌else◌}
 use Rattle.runs.specs.Run.{Goes}
 use Rattle.es_value.specs.declared.value.Value.{Value}
 use Rattle.es_value.specs.declared.value.Value.TheVariants as value
 use Rattle.es_realm.specs.declared.edition.Edition.TheVariants.{Sixth}
 use Rattle.es_calls.specs.Making.{arguments_heap}
-use Rattle.core_ast.specs.declared.parts.CoreHead.TheVariants as head
 use Rattle.core_ast.specs.declared.parts.ScopedName.{ScopedName}
 use Rattle.core_ast.specs.declared.parts.Var.{Var}
-use Rattle.core_ast.specs.declared.tree.CoreCase.{CoreCase, out-CoreCase}
 use Rattle.core_ast.specs.declared.tree.CoreExpr.{CoreExpr, out-CoreExpr}
 use Rattle.core_ast.specs.declared.tree.CoreLink.{CoreLink}
 use Rattle.core_ast.specs.declared.tree.CoreLink.TheOpen as layer
@@ -27,12 +25,12 @@ use Rattle.core_meaning.specs.Marks.{CoreNext, CoreState, CoreWork, Mark, Own}
 use Rattle.core_meaning.specs.Modules.{core_step, rows, stat_of}
 use Rattle.core_meaning.specs.Names.{Resolved, initialize_found, initialized, resolve}
 use Rattle.core_meaning.specs.Rows.{controls, or_else, place_of, pushed, with_control, with_heap}
-use Rattle.core_meaning.specs.State.{Begin, Call, Calls, Catching, Closure, CoreValue, Done, Environment, Frame, Hand, Loop, LoopUpdate, Rest, Go, Has, Restore, Run, Throws, User}
+use Rattle.core_meaning.specs.State.{Call, Calls, Closure, CoreValue, Done, Environment, Frame, Hand, LoopUpdate, Rest, Go, Has, Restore, Run, User}
 use Rattle.core_meaning.specs.Statements.{begin_stat}
-use Rattle.core_meaning.specs.Step.{abrupt, hand, next_body, outermost, returned, step}
+use Rattle.core_meaning.specs.Step.{abrupt, hand, next_body, returned, step}
 use Rattle.cells_keep_runs.specs.Copied.{InScope}
 use Rattle.cells_keep_runs.specs.Recorded.{BodiesStay, CallsStay, CopiesStay, HandlersStay, RecordsStay, ScopesStay, inner}
-use Rattle.cells_keep_runs.specs.Placing.{AllGenerators, At, Everywhere, FramesAt, Handler, IfAt, LoopAt, NextAt, Placing, StateAt}
+use Rattle.cells_keep_runs.specs.Placing.{AllGenerators, At, FramesAt, Handler, IfAt, NextAt, Placing, StateAt}
 use Rattle.cells_keep_runs.specs.Called.{bindings_of}
 use Rattle.cells_keep_runs.proofs.Called.{calls_step, within_is}
 use Rattle.cells_keep_runs.proofs.Copied.{copied_at, copies_step}

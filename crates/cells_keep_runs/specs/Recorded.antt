@@ -1,5 +1,5 @@
 -- What makes a record leaves code where it may stand too, if what runs along the new environment may stand there.
-use Rattle.std.specs.Prelude.{◌≡◌, List, [], ◌∷◌, ◌++◌, Some, length, ℕ}
+use Rattle.std.specs.Prelude.{◌≡◌, List, [], ◌∷◌, length, ℕ}
 use Rattle.runs.specs.Laws.{spanned}
 use Rattle.es_value.specs.declared.value.Value.{Value}
 use Rattle.core_ast.specs.declared.parts.CoreHead.TheVariants as head
@@ -13,8 +13,7 @@ use Rattle.core_ast.specs.declared.whole.Core.{Core}
 use Rattle.core_meaning.specs.Marks.{CoreState}
 use Rattle.core_meaning.specs.Modules.{core_step}
 use Rattle.core_meaning.specs.Rows.{pushed, with_control}
-use Rattle.core_meaning.specs.State.{Begin, Call, Calls, Catching, Closure, Done, Environment, Hand, Run, Throws}
-use Rattle.cells_keep_runs.specs.Alike.{Config}
+use Rattle.core_meaning.specs.State.{Begin, Call, Calls, Catching, Done, Environment, Hand, Run, Throws}
 use Rattle.cells_keep_runs.specs.Copied.{InScope}
 use Rattle.cells_keep_runs.specs.Placing.{At, Everywhere, Handler, NextAt, Placing}
 use Rattle.cells_keep_runs.specs.Ready.{ClosureCall}
