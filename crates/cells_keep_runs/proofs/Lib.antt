@@ -39,3 +39,4 @@ pub mod Stays
 pub mod Placing
 pub mod Staying
 pub mod Recorded
+pub mod Copying

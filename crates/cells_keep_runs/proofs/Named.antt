@@ -63,7 +63,7 @@ none_there bs x away = by_found (binding_in bs x) (has_names bs x ∙ away)
     by_found None is = refl
     by_found (Some b) is = cc
 
-some_there : (bs : Record) (x : Var) → is_among x (map (λ b. b.var) bs) ≡ true → (b : Binding Mark) × (binding_in bs x ≡ Some b)
+pub some_there : (bs : Record) (x : Var) → is_among x (map (λ b. b.var) bs) ≡ true → (b : Binding Mark) × (binding_in bs x ≡ Some b)
 some_there bs x here = by_found (binding_in bs x) (has_names bs x ∙ here)
   where
     by_found : (o : Option (Binding Mark)) → is_some o ≡ true → (b : Binding Mark) × (o ≡ Some b)

@@ -24,20 +24,20 @@ use Rattle.cells_keep_runs.proofs.Writes.{differ, one_value, same_var}
 
 -- ---- with more records
 
-target_stays : (seats more : Seats) (e : Environment) (x : Var) → Below (length seats) e → target_at (seats ++ more) e x ≡ target_at seats e x
+pub target_stays : (seats more : Seats) (e : Environment) (x : Var) → Below (length seats) e → target_at (seats ++ more) e x ≡ target_at seats e x
 target_stays seats more [] x below = refl
 target_stays seats more (n ∷ e) x below =
     ap (λ o. image_with o x (target_at (seats ++ more) e x)) (slice_left seats more n (below_here (length seats) n e below))
     ∙ ap (λ o. image_with (slice_get seats n) x o) (target_stays seats more e x (below_rest (length seats) n e below))
 
 -- the last record is the newest
-last_newest : (seats : Seats) (seat : Seat) (x : Var) → IsNewest (seats ++ seat ∷ []) (length seats) x
+pub last_newest : (seats : Seats) (seat : Seat) (x : Var) → IsNewest (seats ++ seat ∷ []) (length seats) x
 last_newest seats seat x m here there at at2 same scoped =
     let a = got_below (seats ++ seat ∷ []) m there at2 in
     let b : length (seats ++ seat ∷ []) ≡ length seats + 1 = length_push seats seat in
     omega arith
 
-newest_stays : (seats : Seats) (here new : Seat) (n : ℕ) (x : Var) → slice_get seats n ≡ Some here → (new.home ≡ here.home → is_scoped new x ≡ false) → IsNewest seats n x → IsNewest (seats ++ new ∷ []) n x
+pub newest_stays : (seats : Seats) (here new : Seat) (n : ℕ) (x : Var) → slice_get seats n ≡ Some here → (new.home ≡ here.home → is_scoped new x ≡ false) → IsNewest seats n x → IsNewest (seats ++ new ∷ []) n x
 newest_stays seats here new n x at away newest m a b a_at b_at same scoped = by_age (old_or_new seats new m b b_at)
   where
     a_is : a ≡ here
@@ -69,7 +69,7 @@ seen_stays owners seats here new e n x below at away (sees_kept k j i c along ke
 
 -- ---- within a record, and out of it
 
-past_target : (seats : Seats) (inner : Seat) (m : ℕ) (e : Environment) (x : Var) → slice_get seats m ≡ Some inner → is_among x inner.has ≡ false → target_at seats (m ∷ e) x ≡ target_at seats e x
+pub past_target : (seats : Seats) (inner : Seat) (m : ℕ) (e : Environment) (x : Var) → slice_get seats m ≡ Some inner → is_among x inner.has ≡ false → target_at seats (m ∷ e) x ≡ target_at seats e x
 past_target seats inner m e x at away =
     ap (λ o. image_with o x (target_at seats e x)) at ∙ ap (λ b. if b then or_image inner.image (target_at seats e x) else target_at seats e x) away
 
@@ -123,7 +123,7 @@ kept_seen owners seats e i locals has kept n k x c found here = kept_see owners 
 
 -- ---- a scope
 
-all_at : (seats : Seats) (e : Environment) (h : ℕ) (names : List ScopedName) (x : Var) → AllAt seats e h names → is_among x (vars names) ≡ true → target_at seats e x ≡ Some h
+pub all_at : (seats : Seats) (e : Environment) (h : ℕ) (names : List ScopedName) (x : Var) → AllAt seats e h names → is_among x (vars names) ≡ true → target_at seats e x ≡ Some h
 all_at seats e h [] x at among = cc
 all_at seats e h (n ∷ names) x (at, others) among = by_name (nat_eq n.var.0 x.0) refl among (λ here. all_at seats e h names x others here)
   where

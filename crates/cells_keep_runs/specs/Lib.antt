@@ -37,3 +37,4 @@ pub mod Apart
 pub mod Stays
 pub mod Placing
 pub mod Recorded
+pub mod Copying

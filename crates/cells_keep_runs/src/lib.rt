@@ -12,6 +12,7 @@ ghost use Rattle.cells_keep_runs.specs.Carried.{UntouchedKeepRelated};
 ghost use Rattle.cells_keep_runs.specs.Classed.{ClassesAreMadeAlike, HeritagesAreTakenAlike, MembersArePutAlike};
 ghost use Rattle.cells_keep_runs.specs.Closed.{ClosuresAreMadeAlike};
 ghost use Rattle.cells_keep_runs.specs.Copied.{CopiesBeginAlike};
+ghost use Rattle.cells_keep_runs.specs.Copying.{CopiesMayBeCopied, CopyableStays, ScopesMayBeCopied};
 ghost use Rattle.cells_keep_runs.specs.Course.{StepsAreMatched};
 ghost use Rattle.cells_keep_runs.specs.Ended.{AbruptEndsAlike, CellsArePassed, ScopesArePassed, StatementsEndAlike};
 ghost use Rattle.cells_keep_runs.specs.Entered.{ScopesAreEnteredAlike};
@@ -274,6 +275,14 @@ pub fn names_stay_seen()
     ensures more { SeenNamesStay }
     ensures within { SeenWithin }
     ensures outside { SeenOutside }
+{}
+
+/// A scope that is entered may be copied, and so may its copy, also where there is a record more, if that isn't one of the same home with one of
+/// its names.
+pub fn scopes_may_be_copied()
+    ensures entered { ScopesMayBeCopied }
+    ensures copied { CopiesMayBeCopied }
+    ensures more { CopyableStays }
 {}
 
 /// Each step of the source from related configurations that are ready for it is matched: the target takes some steps too, or the source goes
