@@ -1,6 +1,5 @@
 -- When the innermost record may be copied.
-use Rattle.std.proofs.Common.{◌≡◌, ◌<◌, ℕ, Bool, true, false, ◌||◌, List, [], ◌∷◌, ◌++◌, map, Option, None, Some, length, nat_eq, slice_get, refl, sym, ap, subst, ◌∙◌}
-use Rattle.std.specs.Prelude.{if◌then◌else◌}
+use Rattle.std.proofs.Common.{◌≡◌, ◌<◌, ℕ, Bool, true, false, ◌||◌, List, [], ◌∷◌, ◌++◌, map, Some, length, nat_eq, slice_get, refl, sym, ap, subst, ◌∙◌}
 use Rattle.std.proofs.lemmas.Bool.{eq-eqb}
 use Rattle.std.proofs.lemmas.List.{get_or_append_left, get_or_at}
 use Rattle.core_ast.specs.declared.parts.ScopedName.{ScopedName}
@@ -8,7 +7,7 @@ use Rattle.core_ast.specs.declared.parts.Var.{Var}
 use Rattle.core_meaning.specs.Cells.{uninitialized}
 use Rattle.core_meaning.specs.Marks.{Mark}
 use Rattle.core_meaning.specs.Names.{binding_in, record_at}
-use Rattle.core_meaning.specs.State.{Binding, Environment, EnvironmentRecord}
+use Rattle.core_meaning.specs.State.{Binding, EnvironmentRecord}
 use Rattle.pass_rules.specs.Cells.{is_among}
 use Rattle.pass_rules.specs.Scopes.{vars}
 use Rattle.cells_keep_runs.specs.Copied.{AllBound, content_in, copy_renewals}
@@ -16,10 +15,9 @@ use Rattle.cells_keep_runs.specs.Copying.{CopiesMayBeCopied, CopyableStays, Scop
 use Rattle.cells_keep_runs.specs.Entered.{entered_seats, reset_of}
 use Rattle.cells_keep_runs.specs.Memory.{Seat, Seats}
 use Rattle.cells_keep_runs.specs.Renewed.{scope_seat}
-use Rattle.cells_keep_runs.specs.Seen.{image_with, or_image, target_at}
 use Rattle.cells_keep_runs.proofs.Named.{some_there}
 use Rattle.cells_keep_runs.proofs.Renewed.{got_below, got_last, still_got}
-use Rattle.cells_keep_runs.proofs.Stays.{all_at, last_newest, newest_stays, past_target, target_stays}
+use Rattle.cells_keep_runs.proofs.Stays.{all_at, last_newest, newest_stays, past_scope, past_target, target_stays}
 
 abbrev Bindings1 : Type 0
 Bindings1 = EnvironmentRecord Mark
@@ -71,15 +69,6 @@ scopes_copied owners seats s names k xs r below seated copies =
     }
 
 -- ---- a copy
-
--- a scope's record has no image
-past_scope : (seats : Seats) (seat : Seat) (n : ℕ) (o : Environment) (x : Var) → slice_get seats n ≡ Some seat → seat.image ≡ None → target_at seats (n ∷ o) x ≡ target_at seats o x
-past_scope seats seat n o x at scope =
-    ap (λ a. image_with a x (target_at seats o x)) at ∙ ap (λ i. if is_among x seat.has then or_image i (target_at seats o x) else target_at seats o x) scope ∙ either_same (is_among x seat.has) (target_at seats o x)
-  where
-    either_same : (b : Bool) (t : Option ℕ) → (if b then t else t) ≡ t
-    either_same true t = refl
-    either_same false t = refl
 
 pub copies_copied : CopiesMayBeCopied
 copies_copied owners seats rs n o xs k c below seated =

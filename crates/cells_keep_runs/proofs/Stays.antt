@@ -1,23 +1,27 @@
 -- How both machines come to find a name, and when they go on to.
-use Rattle.std.proofs.Common.{◌≡◌, ◌≤◌, ◌+◌, ℕ, suc, Bool, true, false, ◌||◌, cond, List, [], ◌∷◌, ◌++◌, map, None, Some, length, nat_eq, slice_get, refl, sym, ap, arith, ◌∙◌, ◌⊎◌, inl, inr}
+use Rattle.std.proofs.Common.{subst, ◌≡◌, ◌≤◌, ◌+◌, ℕ, suc, Bool, true, false, ◌||◌, cond, List, [], ◌∷◌, ◌++◌, map, None, Some, length, nat_eq, slice_get, refl, sym, ap, arith, ◌∙◌, ◌⊎◌, inl, inr, Option}
 use Rattle.std.specs.Prelude.{if◌then◌else◌}
-use Rattle.std.proofs.lemmas.Bool.{eqb-true}
+use Rattle.std.proofs.lemmas.Bool.{eqb-true, eq-eqb}
 use Rattle.std.proofs.lemmas.List.{length_push}
 use Rattle.core_ast.specs.declared.parts.ScopedName.{ScopedName}
 use Rattle.core_ast.specs.declared.parts.Var.{Var}
-use Rattle.core_meaning.specs.Marks.{CoreState, KeptCell}
-use Rattle.core_meaning.specs.State.{Environment}
+use Rattle.core_meaning.specs.Marks.{CoreState, KeptCell, Mark, value_or_empty}
+use Rattle.core_meaning.specs.State.{Environment, EnvironmentRecord, Binding}
 use Rattle.pass_rules.specs.Cells.{is_among, is_shared}
 use Rattle.pass_rules.specs.Scopes.{vars}
+use Rattle.es_value.specs.declared.value.Value.{Value}
+use Rattle.core_meaning.specs.Names.{record_at}
+use Rattle.cells_keep_runs.specs.Handled.{handled_seats, with_own_image}
+use Rattle.cells_keep_runs.specs.Copied.{Copyable, content_in, copied_seats, copy_renewals}
 use Rattle.cells_keep_runs.specs.Entered.{AllAt, entered_seats, reset_of}
 use Rattle.cells_keep_runs.specs.Entries.{call_seat}
-use Rattle.cells_keep_runs.specs.Memory.{IsNewest, Keeps, Seat, Seats, cell_along, cell_found, cells_in, is_scoped, or_outer}
+use Rattle.cells_keep_runs.specs.Memory.{IsNewest, Keeps, Seat, Seats, cell_along, cell_found, cells_in, is_scoped, or_outer, Names, in_image, in_cell, in_home}
 use Rattle.cells_keep_runs.specs.Places.{Below}
-use Rattle.cells_keep_runs.specs.Ready.{AllMarked, ScopeReady}
+use Rattle.cells_keep_runs.specs.Ready.{AllMarked, ScopeReady, HandlerReady}
 use Rattle.cells_keep_runs.specs.Renewed.{NoValue, OwnCell, cells_from, scope_seat}
 use Rattle.cells_keep_runs.specs.Seen.{Sees, image_with, or_image, sees_home, sees_kept, sees_plain, target_at}
-use Rattle.cells_keep_runs.specs.Stays.{CallsNamesAreSeen, KeptNamesAreSeen, ScopesNamesAreSeen, SeenNamesStay, SeenOutside, SeenWithin, with_call}
-use Rattle.cells_keep_runs.specs.Writes.{CellOf, PlaceOf, at_home, at_image}
+use Rattle.cells_keep_runs.specs.Stays.{CallsNamesAreSeen, KeptNamesAreSeen, ScopesNamesAreSeen, SeenNamesStay, SeenOutside, SeenWithin, with_call, PatternsAreSeen, ParametersAreSeen, CopiesNamesAreSeen, SharedNamesAreHeld}
+use Rattle.cells_keep_runs.specs.Writes.{CellOf, PlaceOf, at_home, at_image, IsHeld}
 use Rattle.cells_keep_runs.proofs.Grown.{below_here, below_rest, cells_stay, slice_left}
 use Rattle.cells_keep_runs.proofs.Renewed.{got_below, got_last, old_or_new, still_got}
 use Rattle.cells_keep_runs.proofs.Writes.{differ, one_value, same_var}
@@ -176,3 +180,117 @@ module _ (owners : List ℕ) (seats : Seats) (s : CoreState) (names : List Scope
 
 pub scopes_seen : ScopesNamesAreSeen
 scopes_seen owners seats s names k x r below among = by_mark owners seats s names k x r below among (is_shared owners x) refl
+
+-- ---- a handler
+
+other_name : (x y : Var) (names : List ScopedName) → is_among x (vars names) ≡ false → is_among y (vars names) ≡ true → is_among y (x ∷ []) ≡ false
+other_name x y names away among = by_name (nat_eq x.0 y.0) refl
+  where
+    by_name : (b : Bool) → nat_eq x.0 y.0 ≡ b → b || false ≡ false
+    by_name true same = absurd (differ (is_among x (vars names)) (ap (λ z. is_among z (vars names)) (same_var x y (eqb-true x.0 y.0 same)) ∙ among) away)
+    by_name false same = refl
+
+module _ (owners : List ℕ) (seats : Seats) (s : CoreState) (x : Var) (names : List ScopedName) (i k : ℕ) (y : Var) (r : HandlerReady owners seats s x names) (below : Below (length seats) s.context.environment)
+    (among : is_among y (vars names) ≡ true) where
+  abbrev taken : Seat
+  taken = with_own_image i x (scope_seat r.pattern.home (vars names) k (map reset_of names))
+
+  abbrev seats3 : Seats
+  seats3 = handled_seats seats i x r.pattern.home names k
+
+  taken_at : slice_get seats3 (length seats) ≡ Some taken
+  taken_at = got_last seats taken
+
+  taken_target : target_at seats3 (length seats ∷ s.context.environment) y ≡ Some r.pattern.home
+  taken_target =
+      past_target seats3 taken (length seats) s.context.environment y taken_at (other_name x y names r.apart among) ∙ target_stays seats (taken ∷ []) s.context.environment y below
+      ∙ all_at seats s.context.environment r.pattern.home names y r.pattern.at among
+
+  pattern_by : (b : Bool) → is_shared owners y ≡ b → Sees owners seats3 (length seats ∷ s.context.environment) (length seats) y
+  pattern_by false unshared = sees_plain r.pattern.home unshared (at_home taken taken_at refl among unshared (last_newest seats taken y)) taken_target
+  pattern_by true shared =
+      let c = cell_of owners names k y r.pattern.marked shared among in
+      let outer = cell_along seats3 s.context.environment y in
+      sees_home c.0 (record { seat = taken; seated = taken_at; scoped = among; shared = shared; found = c.1 })
+      (ap (λ o. or_outer (cell_found (cells_in o) y) outer) taken_at ∙ ap (λ o. or_outer o outer) c.1) (last_newest seats taken y) taken_target
+
+pub patterns_seen : PatternsAreSeen
+patterns_seen owners seats s x names i k y r below among = pattern_by owners seats s x names i k y r below among (is_shared owners y) refl
+
+own_among : (x : Var) → is_among x (x ∷ []) ≡ true
+own_among x = ap (λ b. b || false) (eq-eqb x.0 x.0 refl)
+
+pub parameters_seen : ParametersAreSeen
+parameters_seen owners seats e x names i h k apart unshared =
+    let new : Seat = with_own_image i x (scope_seat h (vars names) k (map reset_of names)) in
+    let at : slice_get (handled_seats seats i x h names k) (length seats) ≡ Some new = got_last seats new in
+    let outer = target_at (handled_seats seats i x h names k) e x in
+    sees_plain i unshared (at_image new at refl apart)
+    (ap (λ o. image_with o x outer) at ∙ ap (λ b. if b then or_image (Some i) outer else outer) (own_among x))
+
+-- ---- a copy
+
+copy_cell : (owners : List ℕ) (content : Var → Option Value) (x : Var) (xs : List Var) (k : ℕ) (y : Var) (shared same : Bool) → is_shared owners x ≡ shared → nat_eq x.0 y.0 ≡ same → is_shared owners y ≡ true → same || is_among y xs ≡ true
+    → ((k2 : ℕ) → is_among y xs ≡ true → HasCell (cells_from k2 (copy_renewals owners content xs)) y)
+    → HasCell (cells_from k (cond shared (OwnCell x (content x) ∷ copy_renewals owners content xs) (copy_renewals owners content xs))) y
+copy_cell owners content x xs k y true true is same shared among on = (k, ap (λ b. if b then Some k else cell_found (cells_from (suc k) (copy_renewals owners content xs)) y) same)
+copy_cell owners content x xs k y true false is same shared among on =
+    let later = on (suc k) among in
+    (later.0, ap (λ b. if b then Some k else cell_found (cells_from (suc k) (copy_renewals owners content xs)) y) same ∙ later.1)
+copy_cell owners content x xs k y false true is same shared among on =
+    absurd (differ (is_shared owners y) shared (ap (λ z. is_shared owners z) (sym (same_var x y (eqb-true x.0 y.0 same))) ∙ is))
+copy_cell owners content x xs k y false false is same shared among on = on k among
+
+copied_cell : (owners : List ℕ) (content : Var → Option Value) (xs : List Var) (k : ℕ) (y : Var) → is_shared owners y ≡ true → is_among y xs ≡ true → HasCell (cells_from k (copy_renewals owners content xs)) y
+copied_cell owners content [] k y shared among = cc
+copied_cell owners content (x ∷ xs) k y shared among =
+    copy_cell owners content x xs k y (is_shared owners x) (nat_eq x.0 y.0) refl refl shared among (λ k2 here. copied_cell owners content xs k2 y shared here)
+
+-- a scope's record has no image
+pub past_scope : (seats : Seats) (seat : Seat) (n : ℕ) (o : Environment) (x : Var) → slice_get seats n ≡ Some seat → seat.image ≡ None → target_at seats (n ∷ o) x ≡ target_at seats o x
+past_scope seats seat n o x at scope =
+    ap (λ a. image_with a x (target_at seats o x)) at ∙ ap (λ i. if is_among x seat.has then or_image i (target_at seats o x) else target_at seats o x) scope ∙ either_same (is_among x seat.has) (target_at seats o x)
+  where
+    either_same : (b : Bool) (t : Option ℕ) → (if b then t else t) ≡ t
+    either_same true t = refl
+    either_same false t = refl
+
+module _ (owners : List ℕ) (seats : Seats) (rs : List (EnvironmentRecord Mark)) (n : ℕ) (o : Environment) (xs : List Var) (k : ℕ) (y : Var) (c : Copyable owners seats rs (n ∷ o) n xs)
+    (below : Below (length seats) o) (among : is_among y c.seat.scoped ≡ true) where
+  abbrev copy : Seat
+  copy = scope_seat c.seat.home c.seat.scoped k (copy_renewals owners (content_in (record_at rs n)) xs)
+
+  abbrev seats4 : Seats
+  seats4 = copied_seats owners seats c.seat (record_at rs n) xs k
+
+  copy_at : slice_get seats4 (length seats) ≡ Some copy
+  copy_at = got_last seats copy
+
+  copy_target : target_at seats4 (length seats ∷ o) y ≡ Some c.seat.home
+  copy_target = past_scope seats4 copy (length seats) o y copy_at refl ∙ target_stays seats (copy ∷ []) o y below ∙ sym (past_scope seats c.seat n o y c.seated c.scope) ∙ c.found y among
+
+  copy_by : (b : Bool) → is_shared owners y ≡ b → Sees owners seats4 (length seats ∷ o) (length seats) y
+  copy_by false unshared = sees_plain c.seat.home unshared (at_home copy copy_at refl among unshared (last_newest seats copy y)) copy_target
+  copy_by true shared =
+      let j = copied_cell owners (content_in (record_at rs n)) xs k y shared (c.listed y among shared) in
+      let outer = cell_along seats4 o y in
+      sees_home j.0 (record { seat = copy; seated = copy_at; scoped = among; shared = shared; found = j.1 })
+      (ap (λ a. or_outer (cell_found (cells_in a) y) outer) copy_at ∙ ap (λ a. or_outer a outer) j.1) (last_newest seats copy y) copy_target
+
+pub copies_seen : CopiesNamesAreSeen
+copies_seen owners seats rs n o xs k y c below among = copy_by owners seats rs n o xs k y c below among (is_shared owners y) refl
+
+-- ---- what a shared name has
+
+held_value : (v : Option Value) → IsHeld (value_or_empty v)
+held_value None = refl
+held_value (Some v) = refl
+
+held_by : (owners : List ℕ) (seats : Seats) (ts : List (EnvironmentRecord Mark)) (cells : List (Option Value)) (n k : ℕ) (x : Var) (b : Binding Mark) → CellOf owners seats n x k → Names owners seats ts cells n x b → IsHeld b.value
+held_by owners seats ts cells n k x b c (in_image seat m d at image unscoped bound alike) =
+    absurd (differ (is_scoped c.seat x) c.scoped (ap (λ z. is_scoped z x) (one_value (slice_get seats n) c.seat seat c.seated at) ∙ unscoped))
+held_by owners seats ts cells n k x b c (in_cell seat j v at scoped shared found content is newest) = subst (λ w. IsHeld w) (sym is) (held_value v)
+held_by owners seats ts cells n k x b c (in_home seat at scoped unshared open_here) = absurd (differ (is_shared owners x) c.shared unshared)
+
+pub names_held : SharedNamesAreHeld
+names_held owners seats rs ts cells n k x b mem bound c = held_by owners seats ts cells n k x b c (mem.names n x b bound)

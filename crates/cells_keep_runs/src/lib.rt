@@ -32,7 +32,7 @@ ghost use Rattle.cells_keep_runs.specs.Recorded.{CodeStaysInRecords};
 ghost use Rattle.cells_keep_runs.specs.Renewed.{ScopesAreRemembered};
 ghost use Rattle.cells_keep_runs.specs.Seen.{NamesAreRead, NamesAreWritten};
 ghost use Rattle.cells_keep_runs.specs.Started.{BeginningsAreRelated};
-ghost use Rattle.cells_keep_runs.specs.Stays.{CallsNamesAreSeen, KeptNamesAreSeen, ScopesNamesAreSeen, SeenNamesStay, SeenOutside, SeenWithin};
+ghost use Rattle.cells_keep_runs.specs.Stays.{CallsNamesAreSeen, CopiesNamesAreSeen, KeptNamesAreSeen, ParametersAreSeen, PatternsAreSeen, ScopesNamesAreSeen, SeenNamesStay, SeenOutside, SeenWithin, SharedNamesAreHeld};
 ghost use Rattle.cells_keep_runs.specs.Taken.{ValuesAreTakenAlike};
 ghost use Rattle.cells_keep_runs.specs.Turned.{ContextsEndAlike, ListsRunOut, OtherCallsAreAlike, TurnsAreAlike};
 ghost use Rattle.cells_keep_runs.specs.Writes.{SharedAreWritten, UnsharedAreWritten};
@@ -266,15 +266,20 @@ pub fn lawful_names_are_apart()
     ensures kept { OthersAreKept }
 {}
 
-/// Both machines find the names of a scope that is entered, and of a call with the names whose cells its closure keeps. They go on to find a
-/// name where there is a record more, and within a record that hasn't the name, and out of it.
+/// Both machines find the names of a scope that is entered, and of its copy, of a handler, and of a call with the names whose cells its
+/// closure keeps. They go on to find a name where there is a record more, and within a record that hasn't the name, and out of it.
+/// A shared name has a value of programs, or none.
 pub fn names_stay_seen()
     ensures scopes { ScopesNamesAreSeen }
     ensures calls { CallsNamesAreSeen }
     ensures kept { KeptNamesAreSeen }
+    ensures patterns { PatternsAreSeen }
+    ensures parameters { ParametersAreSeen }
+    ensures copies { CopiesNamesAreSeen }
     ensures more { SeenNamesStay }
     ensures within { SeenWithin }
     ensures outside { SeenOutside }
+    ensures held { SharedNamesAreHeld }
 {}
 
 /// A scope that is entered may be copied, and so may its copy, also where there is a record more, if that isn't one of the same home with one of
