@@ -228,7 +228,7 @@ module _ (core core2 : Core) (owners : List ℕ) (seats : Seats) where
   -- ---- constructions
 
   module _ (kinds : KindsAreKept core core2) where
-    got_derived : (xs ys : List (Closure Own)) (n : ℕ) → All (Closures seats) xs ys → is_derived_function (function_of core2 (slice_get ys n)) ≡ is_derived_function (function_of core (slice_get xs n))
+    got_derived : (xs ys : List (Closure Own)) (n : ℕ) → All (Closures owners seats) xs ys → is_derived_function (function_of core2 (slice_get ys n)) ≡ is_derived_function (function_of core (slice_get xs n))
     got_derived [] [] n rs = refl
     got_derived [] (y ∷ ys) n rs = absurd rs
     got_derived (x ∷ xs) [] n rs = absurd rs

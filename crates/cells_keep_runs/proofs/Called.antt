@@ -45,11 +45,11 @@ use Rattle.cells_keep_runs.proofs.Writes.{unshared_written}
 
 -- ---- what a context begins with
 
-owns_plain : (owners : List ℕ) (seats : Seats) (a b : Closure Own) (c : Call) (s t : CoreState) → Closures seats a b → States owners seats s t → Owns (own_of a c s) (own_of b c t)
+owns_plain : (owners : List ℕ) (seats : Seats) (a b : Closure Own) (c : Call) (s t : CoreState) → Closures owners seats a b → States owners seats s t → Owns (own_of a c s) (own_of b c t)
 owns_plain owners seats a b c s t r x =
     record { this_record = ap (λ vs. length vs) x.this_values; callee = refl; target = refl; home = r.own.home; passed = refl }
 
-owns_by : (owners : List ℕ) (seats : Seats) (a b : Closure Own) (c : Call) (s t : CoreState) (k : CoreKind) → Closures seats a b → States owners seats s t
+owns_by : (owners : List ℕ) (seats : Seats) (a b : Closure Own) (c : Call) (s t : CoreState) (k : CoreKind) → Closures owners seats a b → States owners seats s t
     → Owns (entered_by a c s k).own (entered_by b c t k).own
 owns_by owners seats a b c s t kind.Arrow r x =
     record { this_record = r.own.this_record; callee = r.own.callee; target = r.own.target; home = r.own.home; passed = refl }
@@ -106,7 +106,7 @@ first_found x v st n e b env bound =
     ∙ ap (λ o. initialize_found x v st (or_outer n o (resolved st.records e x))) bound
 
 module _ (core core2 : Core) (owners : List ℕ) (seats : Seats) (c : Call) (s t : CoreState) (a b : Closure Own) (f : CoreFunction) (kept locals has : List Var)
-    (closures : Closures seats a b)
+    (closures : Closures owners seats a b)
     (call : NewCall (bindings_of (function_flat owners kept f) b c t) (bindings_of f a c s) t.store.cells locals has b.own.cells)
     (stand : Stand owners seats s t) (frames : Frames owners seats s.context.environment s.context.frames t.context.frames) where
   abbrev g : CoreFunction
@@ -301,7 +301,7 @@ begin_is f a c s kind.Accessor = refl
 begin_is f a c s (kind.Class derived) = refl
 begin_is f a c s kind.Generator = refl
 
-within_is : (core : Core) (f : CoreFunction) (a : Closure Own) (c : Call) (s : CoreState) → f.declared ≡ []
+pub within_is : (core : Core) (f : CoreFunction) (a : Closure Own) (c : Call) (s : CoreState) → f.declared ≡ []
     → within_call (rows core) core f a c s
     ≡ with_arguments Sixth f.arguments c.args (record (entered a f c s).state {
       records = s.records ++ bindings_of f a c s ∷ [];
@@ -312,7 +312,7 @@ within_is core f a c s undeclared =
     ap (λ ds. with_arguments Sixth f.arguments c.args (fold (declare_one (rows core) core) (with_record (names_of_call f (entered a f c s).names c) (with_context a.environment c (entered a f c s))) ds)) undeclared
     ∙ ap (λ st. with_arguments Sixth f.arguments c.args st) (begin_is f a c s f.kind)
 
-calls_step : (core : Core) (c : Call) (s : CoreState) (id : ObjId) (n : ℕ) (a : Closure Own) (f : CoreFunction) → c.function ≡ value.Object id → (object_at s.heap id).class ≡ class.Function n
+pub calls_step : (core : Core) (c : Call) (s : CoreState) (id : ObjId) (n : ℕ) (a : Closure Own) (f : CoreFunction) → c.function ≡ value.Object id → (object_at s.heap id).class ≡ class.Function n
     → slice_get s.closures n ≡ Some a → function_at core a.function ≡ Some f → core_step core (with_control (Calls c) s) ≡ run_body f (within_call (rows core) core f a c s)
 unfolding step call_class
 calls_step core c s id n a f object class_is closure function =

@@ -1,5 +1,5 @@
 -- Classes and their members are made alike.
-use Rattle.std.specs.List.{filter_map}
+use Rattle.std.specs.List.{filter_map, flat_map}
 use Rattle.std.proofs.Common.{◌≡◌, ℕ, zero, suc, Bool, true, false, List, [], ◌∷◌, ◌++◌, Option, None, Some, length, slice_get, refl, sym, ap, subst, ◌∙◌, ◌⊎◌, inl, inr}
 use Rattle.std.specs.Prelude.{if◌then◌else◌}
 use Rattle.es_outside.specs.declared.events.Site.{Site}
@@ -32,7 +32,8 @@ use Rattle.core_ast.specs.declared.whole.Core.{Core}
 use Rattle.core_ast.specs.declared.whole.CoreFunction.{CoreFunction}
 use Rattle.core_meaning.specs.Classes.{accessor_put, class_by, class_closure, class_made, class_make, heritage_given, homed, homed_class, make_class, method_noted, method_put, noted, put_accessor, put_member, recorded_for, still_there, with_home, with_key}
 use Rattle.core_meaning.specs.Expressions.{has_given}
-use Rattle.core_meaning.specs.Functions.{with_closure}
+use Rattle.core_meaning.specs.Functions.{cell_found, with_closure}
+use Rattle.core_meaning.specs.Names.{resolve}
 use Rattle.core_meaning.specs.Marks.{CoreNext, CoreState, CoreStrict, Mark, Own, Unmade, with_store}
 use Rattle.core_meaning.specs.Modules.{primitive_act, rows, work_given}
 use Rattle.core_meaning.specs.Properties.{defined, with_object}
@@ -42,13 +43,13 @@ use Rattle.core_meaning.specs.Step.{act, act_by, given, hand, step}
 use Rattle.pass_rules.specs.Scopes.{function_flat}
 use Rattle.cells_keep_runs.specs.Alike.{Alike, Along, Config, strict}
 use Rattle.cells_keep_runs.specs.Classed.{ClassSeen, ClassesAreMadeAlike, HeritagesAreTakenAlike, MembersArePutAlike, SeenIn}
-use Rattle.cells_keep_runs.specs.Closed.{AllSeen}
+use Rattle.cells_keep_runs.specs.Closed.{AllSeen, KeepsOthers}
 use Rattle.cells_keep_runs.specs.Opened.{opened}
 use Rattle.cells_keep_runs.specs.Related.{All, BelowCells, Closures, Related, Seats, Stand, WaitsHeritage, at_links, cell_along, same_current}
 use Rattle.cells_keep_runs.proofs.Acted.{goes_on, works_on}
 use Rattle.cells_keep_runs.proofs.Alike.{an_object, at_heap, raised}
 use Rattle.cells_keep_runs.proofs.Carried.{B, U, carries, stand_heap}
-use Rattle.cells_keep_runs.proofs.Closed.{all_length, all_push, kept_all}
+use Rattle.cells_keep_runs.proofs.Closed.{all_length, all_push, kept_all, kept_among}
 use Rattle.cells_keep_runs.proofs.Ended.{set_all}
 
 module _ (core core2 : Core) (owners : List ℕ) (seats : Seats) where
@@ -80,19 +81,21 @@ module _ (core core2 : Core) (owners : List ℕ) (seats : Seats) where
   recorded_is (value.Number n) s t x = refl
   recorded_is (value.Text us) s t x = refl
 
-  stand_class : (f : FunctionId) (function : CoreFunction) (kept : List Var) (home : Value) (h : Heap) (s t : CoreState) → Stand owners seats s t → AllSeen owners seats s kept
+  stand_class : (f : FunctionId) (function : CoreFunction) (kept : List Var) (home : Value) (h : Heap) (s t : CoreState) → KeepsOthers owners f function kept → Stand owners seats s t → AllSeen owners seats s kept
       → Stand owners seats (with_closure (class_closure f function home s) (with_heap h s)) (with_closure (class_closure f (function_flat owners kept function) home t) (with_heap h t))
-  stand_class f function kept home h s t x seen = record {
+  stand_class f function kept home h s t others x seen = record {
     states = record {
       heap = refl;
       memory = x.states.memory;
-      closures = all_push (Closures seats) s.closures t.closures (class_closure f function home s) (class_closure f (function_flat owners kept function) home t) x.states.closures
+      closures = all_push (Closures owners seats) s.closures t.closures (class_closure f function home s) (class_closure f (function_flat owners kept function) home t) x.states.closures
           (record {
             function = refl;
             environment = x.environment;
             below = x.below;
             own = record { this_record = refl; callee = refl; target = refl; home = refl; passed = refl };
             cells = kept_all owners seats s t x kept seen;
+            uncelled = ap (λ cs. flat_map (λ y. cell_found y (resolve s y)) cs) others.0;
+            foreign = λ y k found. others.1 y (kept_among t kept y k found);
           });
       callers = x.states.callers;
       ahead = x.states.ahead;
@@ -114,9 +117,9 @@ module _ (core core2 : Core) (owners : List ℕ) (seats : Seats) where
       goes (Has (User (value.Object (next_id h)))) q.links
       (with_closure (class_closure f g (value.Object (class_prototype h)) q.state) (with_heap (with_recorded (class_function Sixth h n count parent above) (next_id h) keys) q.state))
 
-  class_alike : (f : FunctionId) (function : CoreFunction) (kept : List Var) (heritage : Value) (parent : ObjId) (above : Option ObjId) (p q : Along) → AllSeen owners seats p.state kept → BB p q
+  class_alike : (f : FunctionId) (function : CoreFunction) (kept : List Var) (heritage : Value) (parent : ObjId) (above : Option ObjId) (p q : Along) → KeepsOthers owners f function kept → AllSeen owners seats p.state kept → BB p q
       → A (has_given p.links (class_made f function heritage parent above p.state)) (has_given q.links (class_made f (function_flat owners kept function) heritage parent above q.state))
-  class_alike f function kept heritage parent above p q seen (stand, below, is) =
+  class_alike f function kept heritage parent above p q others seen (stand, below, is) =
       let s : CoreState = p.state in
       let t : CoreState = q.state in
       let g = function_flat owners kept function in
@@ -131,17 +134,17 @@ module _ (core core2 : Core) (owners : List ℕ) (seats : Seats) where
         refl,
         subst (λ ls. R (with_control (Go (Has (User (value.Object (next_id s.heap)))) p.links) (with_closure (class_closure f function home s) (with_heap h s)))
             (with_control (Go (Has (User (value.Object (next_id s.heap)))) ls) (with_closure (class_closure f g home t) (with_heap h t)))) (sym is)
-            (at_links p.links same_current (stand_class f function kept home h s t stand seen) below),
+            (at_links p.links same_current (stand_class f function kept home h s t others stand seen) below),
       ) in
       subst (λ heap. A first (class_with f g count parent above q heap (length t.closures) (recorded_for t heritage))) (sym stand.states.heap)
-      (subst (λ m. A first (class_with f g count parent above q s.heap m (recorded_for t heritage))) (sym (all_length (Closures seats) s.closures t.closures stand.states.closures))
+      (subst (λ m. A first (class_with f g count parent above q s.heap m (recorded_for t heritage))) (sym (all_length (Closures owners seats) s.closures t.closures stand.states.closures))
       (subst (λ ks. A first (class_with f g count parent above q s.heap n ks)) (sym (recorded_is heritage s t stand)) here))
 
   made_alike : (f : FunctionId) (heritage : Value) (parent : ObjId) (above : Option ObjId) (p q : Along) → ClassSeen core core2 owners seats p.state f → BB p q → A (make_class core f heritage parent above p.links p.state) (make_class core2 f heritage parent above q.links q.state)
   made_alike f heritage parent above p q c b =
       subst (λ o. A (with_option o p.state (λ function. has_given p.links (class_made f function heritage parent above p.state))) (make_class core2 f heritage parent above q.links q.state)) (sym c.before)
       (subst (λ o. A (has_given p.links (class_made f c.function heritage parent above p.state)) (with_option o q.state (λ function. has_given q.links (class_made f function heritage parent above q.state)))) (sym c.flat)
-      (class_alike f c.function c.kept heritage parent above p q c.seen b))
+      (class_alike f c.function c.kept heritage parent above p q c.others c.seen b))
 
   abbrev making : Option Site → Current Mark → List (CoreValue Mark) → List CoreExpr → Along → CoreStrict
   making site c vs xs p = strict (op.Primitive primitive.ClassMake) site c vs xs p.links
@@ -176,9 +179,9 @@ module _ (core core2 : Core) (owners : List ℕ) (seats : Seats) where
 
   data BothGot : Option (Closure Own) → Option (Closure Own) → Type 0 where
     got_none : BothGot None None
-    got_both : {a b : Closure Own} → Closures seats a b → BothGot (Some a) (Some b)
+    got_both : {a b : Closure Own} → Closures owners seats a b → BothGot (Some a) (Some b)
 
-  both_got : (xs ys : List (Closure Own)) (n : ℕ) → All (Closures seats) xs ys → BothGot (slice_get xs n) (slice_get ys n)
+  both_got : (xs ys : List (Closure Own)) (n : ℕ) → All (Closures owners seats) xs ys → BothGot (slice_get xs n) (slice_get ys n)
   both_got [] [] n rs = got_none
   both_got [] (y ∷ ys) n rs = absurd rs
   both_got (x ∷ xs) [] n rs = absurd rs
@@ -192,13 +195,15 @@ module _ (core core2 : Core) (owners : List ℕ) (seats : Seats) where
       states = record {
         heap = x.stood.states.heap;
         memory = x.stood.states.memory;
-        closures = set_all (Closures seats) s.closures t.closures n (record a { own = record a.own { home = home } }) (record b { own = record b.own { home = home } })
+        closures = set_all (Closures owners seats) s.closures t.closures n (record a { own = record a.own { home = home } }) (record b { own = record b.own { home = home } })
             (record {
               function = r.function;
               environment = r.environment;
               below = r.below;
               own = record { this_record = r.own.this_record; callee = r.own.callee; target = r.own.target; home = refl; passed = r.own.passed };
               cells = r.cells;
+              uncelled = r.uncelled;
+              foreign = r.foreign;
             })
             x.stood.states.closures;
         callers = x.stood.states.callers;

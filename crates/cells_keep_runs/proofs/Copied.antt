@@ -27,14 +27,15 @@ use Rattle.core_meaning.specs.Step.{step}
 use Rattle.pass_rules.specs.Cells.{is_among, is_shared}
 use Rattle.pass_rules.specs.Scopes.{copies, expr_flat}
 use Rattle.cells_keep_runs.specs.Begun.{Matched}
-use Rattle.cells_keep_runs.specs.Copied.{AllBound, AtScope, CopiesBeginAlike, Copyable, NoWrites, content_in, content_of, copied_seats, copy_renewals, in_body, in_update}
+use Rattle.cells_keep_runs.specs.Copied.{AllBound, CopiesBeginAlike, Copyable, NoWrites, content_in, content_of, copied_seats, copy_renewals}
 use Rattle.cells_keep_runs.specs.Memory.{HasOpen, Memory, Names, OpenAt, Seat, Seats, cell_along, image_in, images, in_cell, in_home, in_image, is_scoped, with_image}
 use Rattle.cells_keep_runs.specs.Opened.{AllApart, AllHold, AllHoldValues, Apart, HoldsValue, Opened, WriteHolds, all_copied, begun_head, begun_links, copy_given, copy_steps, flat_begun, link_in, opened, opened_by, opening_steps, with_more_frames, write_in}
 use Rattle.cells_keep_runs.specs.Places.{Below, written}
-use Rattle.cells_keep_runs.specs.Related.{Currents, Frames, IsScope, Related, Stand, a_scope, at_links, behind_copy, loop_update, rest, same_current}
+use Rattle.cells_keep_runs.specs.Related.{Currents, Drops, Frames, IsScope, Related, Stand, a_scope, at_links, behind_copy, loop_update, rest, same_current}
 use Rattle.cells_keep_runs.specs.Renewed.{AllDiffer, AllNamed, Among, ApartFrom, Gets, Held, NewScope, OwnCell, Renewal, all_renewed, gets_cell, renewed_by, scope_seat, stays}
 use Rattle.cells_keep_runs.specs.Ways.{with_new_cell, with_own_cell}
 use Rattle.cells_keep_runs.proofs.Entered.{found_written, held_of, initialized_is, open_at, with_held}
+use Rattle.cells_keep_runs.proofs.Inside.{AtScope, at_scope, drops_then, in_body, in_update}
 use Rattle.cells_keep_runs.proofs.Grown.{below_cons, below_more, below_rest, environments_stay, frames_stay, states_stay, tail_below, tail_stays}
 use Rattle.cells_keep_runs.proofs.Opened.{begins, copies_made}
 use Rattle.cells_keep_runs.proofs.Renewed.{got_last, scopes_remembered}
@@ -263,14 +264,17 @@ holds_none owners cell [] st h = tt
 holds_none owners cell (l ∷ ls) st (is, h) = (subst (λ w. WriteHolds st cell w) (sym is) tt, holds_none owners cell ls st h)
 
 -- what goes on is undefined, or a cell
-one_given : (st : CoreState) (w : CoreValue Mark) (b : Bool) → Currents (Has (User value.Undefined)) (Has w) → Currents (Has (User value.Undefined)) (Has (cond b (Extra (Cell (length st.store.cells))) w))
-one_given st w true c = behind_copy
-one_given st w false c = c
+one_given : (fs : List (Frame Mark CoreWork)) (links : List CoreLink) (st : CoreState) (w : CoreValue Mark) (b : Bool) → Drops fs links → Currents fs links (Has (User value.Undefined)) (Has w)
+    → Currents fs links (Has (User value.Undefined)) (Has (cond b (Extra (Cell (length st.store.cells))) w))
+one_given fs links st w true drops c = behind_copy drops
+one_given fs links st w false drops c = c
 
-given_by : (owners : List ℕ) (content : Contents) (xs : List Var) (st : CoreState) (w : CoreValue Mark) → Currents (Has (User value.Undefined)) (Has w) → Currents (Has (User value.Undefined)) (Has (copy_given owners content xs st w))
-given_by owners contents [] st w c = c
-given_by owners contents (x ∷ xs) st w c =
-    given_by owners contents xs (cond (is_shared owners x) (with_own_cell x (contents x) st) st) (cond (is_shared owners x) (Extra (Cell (length st.store.cells))) w) (one_given st w (is_shared owners x) c)
+given_by : (owners : List ℕ) (fs : List (Frame Mark CoreWork)) (links : List CoreLink) (content : Contents) (xs : List Var) (st : CoreState) (w : CoreValue Mark) → Drops fs links
+    → Currents fs links (Has (User value.Undefined)) (Has w) → Currents fs links (Has (User value.Undefined)) (Has (copy_given owners content xs st w))
+given_by owners fs links contents [] st w drops c = c
+given_by owners fs links contents (x ∷ xs) st w drops c =
+    given_by owners fs links contents xs (cond (is_shared owners x) (with_own_cell x (contents x) st) st) (cond (is_shared owners x) (Extra (Cell (length st.store.cells))) w) drops
+    (one_given fs links st w (is_shared owners x) drops c)
 
 -- ---- frames along the new record
 
@@ -291,17 +295,17 @@ begins_undefined : (core : Core) (site : Option Site) (ls : List CoreLink) (st :
 unfolding begin_head
 begins_undefined core site ls st = begin_at core site (head.Constant Undefined) ls st
 
-copies_step : (core : Core) (x : CoreExpr) (xs : List Var) (s : CoreState) → (out-CoreExpr x).head ≡ head.Copy xs → core_step core (with_control (Begin x) s) ≡ Goes (with_control (Go (Has (User value.Undefined)) (out-CoreExpr x).links) (copied s))
+pub copies_step : (core : Core) (x : CoreExpr) (xs : List Var) (s : CoreState) → (out-CoreExpr x).head ≡ head.Copy xs → core_step core (with_control (Begin x) s) ≡ Goes (with_control (Go (Has (User value.Undefined)) (out-CoreExpr x).links) (copied s))
 unfolding step begin_head
 copies_step core x xs s is = ap (λ h. begin_head (rows core) core h (out-CoreExpr x).links s) is
 
-copied_at : (s : CoreState) (n : ℕ) (o : Environment) → s.context.environment ≡ n ∷ o
+pub copied_at : (s : CoreState) (n : ℕ) (o : Environment) → s.context.environment ≡ n ∷ o
     → copied s ≡ record s { records = s.records ++ record_at s.records n ∷ []; context = record s.context { environment = length s.records ∷ o } }
 copied_at s n o is = ap (λ e. copied (record s { context = record s.context { environment = e } })) is
 
 module _ (core2 : Core) (owners : List ℕ) (seats : Seats) (x : CoreExpr) (xs : List Var) (n : ℕ) (o : Environment) (s t : CoreState)
     (head_is : (out-CoreExpr x).head ≡ head.Copy xs) (no_writes : NoWrites owners (out-CoreExpr x).links) (env : s.context.environment ≡ n ∷ o)
-    (c : Copyable owners seats s.records s.context.environment n xs) (stand : Stand owners seats s t) (at : AtScope owners seats o s.context.frames t.context.frames) where
+    (c : Copyable owners seats s.records s.context.environment n xs) (stand : Stand owners seats s t) (at : AtScope owners seats o s.context.frames t.context.frames) (drops : Drops s.context.frames (out-CoreExpr x).links) where
   abbrev copies_of : Contents
   copies_of = content_in (record_at s.records n)
 
@@ -387,13 +391,15 @@ module _ (core2 : Core) (owners : List ℕ) (seats : Seats) (x : CoreExpr) (xs :
       let same = same_opened owners cell_of cell2_of links no_writes in
       let frames : Frames owners seats2 (length s.records ∷ o) s.context.frames t.context.frames = over owners seats (seat2 ∷ []) (length s.records) o below_o is_scope s.context.frames t.context.frames at in
       subst (λ os. Related owners seats2 (with_control (Go (Has (User value.Undefined)) links) source) (with_control (Go (Has given) os.links) after)) (sym same)
-      (at_links links (given_by owners copies_of xs t (User value.Undefined) same_current) stand_after
+      (at_links links (given_by owners s.context.frames links copies_of xs t (User value.Undefined) drops same_current) stand_after
       (t.context.frames, frames, ap (λ fs. fs ++ t.context.frames) (sym (no_frames owners cell2_of links no_writes))))
 
 pub copies_begin : CopiesBeginAlike
-copies_begin core core2 owners seats x xs n o s t head_is no_writes env c stand at =
+copies_begin core core2 owners seats x xs n o s t head_is no_writes goes env c inside stand r =
     let seats3 = copied_seats owners seats c.seat (record_at s.records n) xs (length t.store.cells) in
-    let source_is : core_step core (with_control (Begin x) s) ≡ Goes (with_control (Go (Has (User value.Undefined)) (out-CoreExpr x).links) (source core2 owners seats x xs n o s t head_is no_writes env c stand at)) =
+    let at : AtScope owners seats o s.context.frames t.context.frames = at_scope owners seats n o (c.seat, c.seated, c.scope) s.context.environment s.context.frames t.context.frames inside env r in
+    let drops : Drops s.context.frames (out-CoreExpr x).links = drops_then s.context.frames (out-CoreExpr x).links inside goes in
+    let source_is : core_step core (with_control (Begin x) s) ≡ Goes (with_control (Go (Has (User value.Undefined)) (out-CoreExpr x).links) (source core2 owners seats x xs n o s t head_is no_writes env c stand at drops)) =
     copies_step core x xs s head_is ∙ ap (λ u. Goes (with_control (Go (Has (User value.Undefined)) (out-CoreExpr x).links) u)) (copied_at s n o env) in
     subst (λ m. Matched (Related owners seats3) core2 m (with_control (Begin (expr_flat owners x)) t)) (sym source_is)
-    (_, _, way core2 owners seats x xs n o s t head_is no_writes env c stand at, related core2 owners seats x xs n o s t head_is no_writes env c stand at)
+    (_, _, way core2 owners seats x xs n o s t head_is no_writes env c stand at drops, related core2 owners seats x xs n o s t head_is no_writes env c stand at drops)

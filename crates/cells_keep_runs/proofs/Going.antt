@@ -42,7 +42,7 @@ use Rattle.cells_keep_runs.proofs.Links.{after_frames, fetch_frames}
 use Rattle.cells_keep_runs.proofs.Opened.{begins}
 use Rattle.cells_keep_runs.proofs.Taken.{next_part}
 
-writes_none : (owners : List ℕ) (o : CoreOp) → IsAlikeOp o → written_by owners o ≡ None
+pub writes_none : (owners : List ℕ) (o : CoreOp) → IsAlikeOp o → written_by owners o ≡ None
 unfolding IsAlikeOp written_by
 writes_none owners (op.Set x) is = absurd is
 writes_none owners (op.Init x) is = absurd is

@@ -12,6 +12,7 @@ use Rattle.cells_keep_runs.specs.Places.{Below}
 use Rattle.cells_keep_runs.specs.Ways.{writing}
 use Rattle.cells_keep_runs.specs.Grown.{CellsStay, EnvironmentsStay, FramesStay}
 use Rattle.cells_keep_runs.specs.Related.{All, Closures, Contexts, Frames, Generators, IsScope, Kept, Memory, Seats, States, Tail, a_scope, at_start, at_yield, completed, executing, catching, cell_along, cell_found, cells_in, choice, derived, fetch, finishing, image_in, images, instantiates, loop_body, loop_test, loop_update, matching, no_scope, none, or_outer, part, part_flat, pending, plain, prototype, rest, restore, resumes, returning, starts, subject, target, throwing, waiting, waits, waits_for_cell, with_image}
+use Rattle.cells_keep_runs.proofs.Renewed.{got_below}
 
 pub slice_left : {A : Type 0} (xs ys : List A) (n : ℕ) → n < length xs → slice_get (xs ++ ys) n ≡ slice_get xs n
 slice_left [] ys n h = absurd (omega arith)
@@ -116,18 +117,21 @@ module _ (owners : List ℕ) (seats more : Seats) where
 
   kept_stay : (e : Environment) (ks : List KeptCell) → Below (length seats) e → Kept seats e ks → Kept (seats ++ more) e ks
   kept_stay e [] h r = tt
-  kept_stay e (k ∷ ks) h (is, r) = (cells_stay seats more e k.var h ∙ is, kept_stay e ks h r)
+  kept_stay e (k ∷ ks) h (is, (n, seat, at, found), r) =
+      (cells_stay seats more e k.var h ∙ is, (n, seat, slice_left seats more n (got_below seats n seat at) ∙ at, found), kept_stay e ks h r)
 
-  pub closure_stays : (a b : Closure Own) → Closures seats a b → Closures (seats ++ more) a b
+  pub closure_stays : (a b : Closure Own) → Closures owners seats a b → Closures owners (seats ++ more) a b
   closure_stays a b r = record {
     function = r.function;
     environment = r.environment ∙ sym (environments_stay seats more a.environment r.below);
     below = below_more (length seats) (length (seats ++ more)) a.environment more_seats r.below;
     own = r.own;
     cells = kept_stay a.environment b.own.cells r.below r.cells;
+    uncelled = r.uncelled;
+    foreign = r.foreign;
   }
 
-  pub closures_stay : (xs ys : List (Closure Own)) → All (Closures seats) xs ys → All (Closures (seats ++ more)) xs ys
+  pub closures_stay : (xs ys : List (Closure Own)) → All (Closures owners seats) xs ys → All (Closures owners (seats ++ more)) xs ys
   closures_stay [] [] r = tt
   closures_stay (x ∷ xs) (y ∷ ys) (r, rs) = (closure_stays x y r, closures_stay xs ys rs)
   closures_stay [] (y ∷ ys) r = absurd r

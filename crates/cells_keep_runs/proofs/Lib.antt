@@ -15,6 +15,7 @@ pub mod Renewed
 pub mod Seen
 pub mod Entered
 pub mod Ended
+pub mod Inside
 pub mod Copied
 pub mod Entries
 pub mod Called
@@ -27,3 +28,15 @@ pub mod Going
 pub mod Handled
 pub mod Classed
 pub mod Started
+pub mod FunctionKinds
+pub mod Named
+pub mod Readied
+pub mod Faced
+pub mod Matched
+pub mod Apart
+pub mod Kept
+pub mod Stays
+pub mod Placing
+pub mod Staying
+pub mod Recorded
+pub mod Copying

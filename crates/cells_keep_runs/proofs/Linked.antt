@@ -26,10 +26,10 @@ use Rattle.pass_rules.specs.Cells.{is_shared}
 use Rattle.pass_rules.specs.Scopes.{expr_flat}
 use Rattle.cells_keep_runs.specs.Alike.{Alike, Along, Config, IsPlain, strict}
 use Rattle.cells_keep_runs.specs.Begun.{Matched}
-use Rattle.cells_keep_runs.specs.Linked.{CellsTakeReads, CopiesAreDropped, CopiesGoOnAlike, DropsHere, LinksEndAlike, ReferencesAreReadAlike}
+use Rattle.cells_keep_runs.specs.Linked.{CellsTakeReads, CopiesAreDropped, CopiesGoOnAlike, LinksEndAlike, ReferencesAreReadAlike}
 use Rattle.cells_keep_runs.specs.Opened.{Opened, if_shared, link_in, opened, opened_by, write_in}
 use Rattle.cells_keep_runs.specs.Passed.{placed}
-use Rattle.cells_keep_runs.specs.Related.{Currents, Frames, Related, Seats, Stand, at_copy, at_expression, at_same, at_statements, behind_copy, catching, cell_along, choice, derived, fetch, finishing, instantiates, loop_body, loop_test, loop_update, matching, none, part, pending, plain, prototype, rest, restore, resumes, returning, same_current, starts, subject, target, then_part, throwing, Waits, WaitsAfter, WaitsBehind, WaitsKeyed, WaitsToStore, WaitsToStep, WaitsSpread, WaitsSpreadStep, WaitsSpreadValue, WaitsHeritage, WaitsPrototype, WaitsYield, WaitsDelegate, WaitsDelegateStart, WaitsDelegateTurn, WaitsDelegateDone, WaitsDelegateValue, waiting, waits, waits_for_cell}
+use Rattle.cells_keep_runs.specs.Related.{Currents, DropsHere, Frames, Related, Seats, Stand, at_copy, at_expression, at_same, at_statements, behind_copy, catching, cell_along, choice, derived, fetch, finishing, instantiates, loop_body, loop_test, loop_update, matching, none, part, pending, plain, prototype, rest, restore, resumes, returning, same_current, starts, subject, target, then_part, throwing, Waits, WaitsAfter, WaitsBehind, WaitsKeyed, WaitsToStore, WaitsToStep, WaitsSpread, WaitsSpreadStep, WaitsSpreadValue, WaitsHeritage, WaitsPrototype, WaitsYield, WaitsDelegate, WaitsDelegateStart, WaitsDelegateTurn, WaitsDelegateDone, WaitsDelegateValue, waiting, waits, waits_for_cell}
 use Rattle.cells_keep_runs.specs.Seen.{IsWrite}
 use Rattle.cells_keep_runs.proofs.Carried.{B, stand_pushed, stand_source}
 use Rattle.cells_keep_runs.proofs.Ended.{stand_under}
@@ -61,9 +61,9 @@ module _ (core core2 : Core) (owners : List ℕ) (seats : Seats) where
   ends_same (Method f v) s t stand r = tt
   ends_same (Hosted n) s t stand r = tt
 
-  ends_by : (c d : Current Mark) (s t : CoreState) → Currents c d → Stand owners seats s t → At s s.context.frames t.context.frames → A (go_end s c) (go_end t d)
+  ends_by : (c d : Current Mark) (s t : CoreState) → Currents s.context.frames [] c d → Stand owners seats s t → At s s.context.frames t.context.frames → A (go_end s c) (go_end t d)
   ends_by c d s t same_current stand r = ends_same c s t stand r
-  ends_by c d s t (behind_copy {n = n}) stand r = (_, refl, at_copy n stand r)
+  ends_by c d s t (behind_copy {n = n} drops) stand r = (_, refl, at_copy n drops stand r)
 
   -- ---- behind a copy
 

@@ -38,7 +38,7 @@ unfolding step begin_head
 taken core site xs links st =
     (_, ap (λ y. begin_head (rows core) core y.head y.links st) (out-roll-CoreExpr (record { site = site; head = head.Copy xs; links = links })), refl)
 
-past_restore : (core : Core) (c : Completion Mark) (n : ℕ) (e : Environment) (fs : List (Frame Mark CoreWork)) (st : CoreState) → IsAbrupt c → core_step core (with_control (Hand c) (placed (n ∷ e) (Restore e ∷ fs) st)) ≡ controls (Hand c) (placed e fs st)
+pub past_restore : (core : Core) (c : Completion Mark) (n : ℕ) (e : Environment) (fs : List (Frame Mark CoreWork)) (st : CoreState) → IsAbrupt c → core_step core (with_control (Hand c) (placed (n ∷ e) (Restore e ∷ fs) st)) ≡ controls (Hand c) (placed e fs st)
 unfolding step hand abrupt
 past_restore core (Throws v) n e fs st h = refl
 past_restore core (Returns v) n e fs st h = refl
@@ -46,7 +46,7 @@ past_restore core (Jumps goes_on label) n e fs st h = refl
 past_restore core (Gives v) n e fs st h = absurd h
 past_restore core Done n e fs st h = absurd h
 
-past_rest : (core : Core) (c : Completion Mark) (e : Environment) (xs : List CoreStat) (fs : List (Frame Mark CoreWork)) (st : CoreState) → IsAbrupt c → core_step core (with_control (Hand c) (placed e (Rest xs ∷ fs) st)) ≡ controls (Hand c) (placed e fs st)
+pub past_rest : (core : Core) (c : Completion Mark) (e : Environment) (xs : List CoreStat) (fs : List (Frame Mark CoreWork)) (st : CoreState) → IsAbrupt c → core_step core (with_control (Hand c) (placed e (Rest xs ∷ fs) st)) ≡ controls (Hand c) (placed e fs st)
 unfolding step hand abrupt
 past_rest core (Throws v) e xs fs st h = refl
 past_rest core (Returns v) e xs fs st h = refl

@@ -9,9 +9,13 @@ use Rattle.core_ast.specs.declared.parts.CoreHead.{CoreHead}
 use Rattle.core_ast.specs.declared.parts.CoreHead.TheVariants as head
 use Rattle.core_ast.specs.declared.parts.CoreOp.TheVariants as op
 use Rattle.core_ast.specs.declared.parts.Var.{Var}
+use Rattle.core_ast.specs.declared.tree.CoreCase.{CoreCase}
 use Rattle.core_ast.specs.declared.tree.CoreExpr.{CoreExpr, out-CoreExpr}
 use Rattle.core_ast.specs.declared.tree.CoreLink.{CoreLink, out-CoreLink}
+use Rattle.core_ast.specs.declared.tree.CoreLink.TheOpen as layer
+use Rattle.core_ast.specs.declared.tree.CoreLink.TheOpen.{CoreLink-F}
 use Rattle.core_ast.specs.declared.tree.CoreLink.TheVariants as link
+use Rattle.core_ast.specs.declared.tree.CoreStat.{CoreStat}
 use Rattle.core_ast.specs.declared.whole.Core.{Core}
 use Rattle.core_ast.specs.Made.{act, expression}
 use Rattle.core_meaning.specs.Cells.{with_cell}
@@ -30,7 +34,7 @@ use Rattle.cells_keep_runs.specs.Memory.{CellAt, HasOpen, Memory, IsNewest, Name
 use Rattle.cells_keep_runs.specs.Opened.{AllHold, Opened, begun_head, begun_links, flat_begun, if_shared, link_in, opened, opened_by, opening_steps, with_more_frames, write_in, written_by}
 use Rattle.cells_keep_runs.specs.Places.{written}
 use Rattle.cells_keep_runs.specs.Related.{Frames, Related, Stand, States, at_links, same_current}
-use Rattle.cells_keep_runs.specs.Seen.{IsWrite, NamesAreRead, NamesAreWritten, Sees, image_with, or_image, sees_home, sees_kept, sees_plain, target_at}
+use Rattle.cells_keep_runs.specs.Seen.{Assigns, IsWrite, NamesAreRead, NamesAreWritten, Sees, image_with, or_image, sees_home, sees_kept, sees_plain, target_at}
 use Rattle.cells_keep_runs.specs.Ways.{Holds, writing}
 use Rattle.cells_keep_runs.specs.Writes.{CellOf, IsHeld, PlaceOf, at_home, at_image}
 use Rattle.cells_keep_runs.proofs.Carried.{stand_frames}
@@ -318,13 +322,13 @@ names_read core core2 owners seats x y s t is sees stand r held =
 -- ---- writing
 
 pub writes_step : (core : Core) (l : CoreLink) (ls : List CoreLink) (x : Var) (site : Option Site) (v : CoreValue Mark) (r : Resolved Mark) (st : CoreState)
-    → IsWrite l x site → resolve st x ≡ Some r → r.binding.mutable ≡ true
+    → IsWrite l x site → resolve st x ≡ Some r → (Assigns l x site → r.binding.mutable ≡ true)
     → core_step core (with_control (Go (Has v) (l ∷ ls)) st) ≡ controls (Go (Has v) ls) (stored_at r.at x v st)
 unfolding step go act_by write initialized
 writes_step core l ls x site v r st (inl is) e may =
     ap (λ y. go_value (rows core) core (Has v) ls st y) is
     ∙ ap (λ o. write_found (rows core) x v v ls st o) e
-    ∙ ap (λ b. if_mutable b st (controls (Go (Has v) ls) (stored_at r.at x v st))) may
+    ∙ ap (λ b. if_mutable b st (controls (Go (Has v) ls) (stored_at r.at x v st))) (may is)
 writes_step core l ls x site v r st (inr is) e may =
     ap (λ y. go_value (rows core) core (Has v) ls st y) is ∙ ap (λ o. controls (Go (Has v) ls) (initialize_found x v st o)) e
 
@@ -337,6 +341,15 @@ module _ (owners : List ℕ) (l : CoreLink) (x : Var) (site : Option Site) where
   pub link_is : IsWrite l x site → IsWrite (link_in owners (out-CoreLink l)) x site
   link_is (inl is) = inl (ap (λ y. out-CoreLink (link_in owners y)) is ∙ link.outs-Strict (op.Set x) [] site)
   link_is (inr is) = inr (ap (λ y. out-CoreLink (link_in owners y)) is ∙ link.outs-Strict (op.Init x) [] site)
+
+  no_set : (y : CoreLink-F CoreLink CoreStat CoreCase CoreExpr) → y ≡ layer.Strict (op.Init x) [] site → y ≡ layer.Strict (op.Set x) [] site → ⊥
+  no_set y p q = cc
+
+  -- what holds if the link writes the name holds if the flattened one does
+  pub set_is : {P : Type 0} → IsWrite l x site → (Assigns l x site → P) → Assigns (link_in owners (out-CoreLink l)) x site → P
+  set_is (inl is) may flat = may is
+  set_is (inr is) may flat =
+      absurd (no_set (out-CoreLink (link_in owners (out-CoreLink l))) (ap (λ y. out-CoreLink (link_in owners y)) is ∙ link.outs-Strict (op.Init x) [] site) flat)
 
 module _ (core2 : Core) (owners : List ℕ) (seats : Seats) (links : List CoreLink) (x : Var) (v : CoreValue Mark) (r : Resolved Mark) (s t : CoreState) (stand : Stand owners seats s t) (found : resolve s x ≡ Some r) where
   abbrev along : Var → ℕ
@@ -354,13 +367,13 @@ module _ (core2 : Core) (owners : List ℕ) (seats : Seats) (links : List CoreLi
   bound : binding_in (record_at s.records r.at) x ≡ Some r.binding
   bound = state_bound s x r found
 
-  plain_written : (k : CoreLink) (site : Option Site) (m : ℕ) → IsWrite k x site → r.binding.mutable ≡ true → PlaceOf owners seats r.at x m → target_at seats s.context.environment x ≡ Some m → BelowBy None k → GoalBy None k
+  plain_written : (k : CoreLink) (site : Option Site) (m : ℕ) → IsWrite k x site → (Assigns k x site → r.binding.mutable ≡ true) → PlaceOf owners seats r.at x m → target_at seats s.context.environment x ≡ Some m → BelowBy None k → GoalBy None k
   plain_written k site m is may place at (gs, fr, below) =
       let mem = stand.states.memory in
       let p : Plain owners seats s.records t.records t.store.cells mem m x r.binding =
       plain_by owners seats s.records t.records t.store.cells mem r.at m x r.binding place (mem.names r.at x r.binding bound) in
       let f : FoundAt t x m = resolved_on t (images seats s.context.environment) x m stand.environment (found_at owners seats s.records t.records t.store.cells mem s.context.environment x m at) in
-      let open2 : f.found.binding.mutable ≡ true = ap (λ b. b.mutable) (one_value (binding_in (record_at t.records m) x) f.found.binding p.binding f.bound p.there) ∙ p.mutable may in
+      let open2 : Assigns k x site → f.found.binding.mutable ≡ true = λ set. ap (λ b. b.mutable) (one_value (binding_in (record_at t.records m) x) f.found.binding p.binding f.bound p.there) ∙ p.mutable (may set) in
       let after : Memory owners seats (written r.at x v s.records) (written f.found.at x v t.records) t.store.cells =
       subst (λ j. Memory owners seats (written r.at x v s.records) (written j x v t.records) t.store.cells) (sym f.at)
       (unshared_written owners seats s.records t.records t.store.cells r.at m x v r.binding mem bound place) in
@@ -382,7 +395,7 @@ module _ (core2 : Core) (owners : List ℕ) (seats : Seats) (links : List CoreLi
       let fill : core_step core2 (with_control (Hand (Gives v)) t) ≡ Goes u = ap (λ z. core_step core2 (with_control (Hand (Gives v)) z)) here ∙ fill_cell core2 st (along x) rest.links v in
       (1, u, (with_control (Hand (Gives v)) t, go_end core2 v t, (u, fill, refl)), at_links links same_current stand2 (gs, fr, refl))
 
-  written_by_sight : (k : CoreLink) (site : Option Site) → IsWrite k x site → r.binding.mutable ≡ true → (is_shared owners x ≡ true → IsHeld v) → Sees owners seats s.context.environment r.at x
+  written_by_sight : (k : CoreLink) (site : Option Site) → IsWrite k x site → (Assigns k x site → r.binding.mutable ≡ true) → (is_shared owners x ≡ true → IsHeld v) → Sees owners seats s.context.environment r.at x
       → BelowBy (if_shared owners x) k → GoalBy (if_shared owners x) k
   written_by_sight k site is may held (sees_plain m unshared place at) below =
       let w : if_shared owners x ≡ None = ap (λ b. cond b (Some x) None) unshared in
@@ -404,5 +417,5 @@ names_written core core2 owners seats l links x site v r s t is found may sees h
     subst (λ a. BelowBy core2 owners seats links x v r s t stand found a k) w below in
     let goal : GoalBy core2 owners seats links x v r s t stand found (write_in owners (out-CoreLink l)) k =
     subst (λ a. GoalBy core2 owners seats links x v r s t stand found a k) (sym w)
-    (written_by_sight core2 owners seats links x v r s t stand found k site (link_is owners l x site is) may held sees below2) in
+    (written_by_sight core2 owners seats links x v r s t stand found k site (link_is owners l x site is) (set_is owners l x site is may) held sees below2) in
     subst (λ n. Matched (Related owners seats) core2 n (with_control (Go (Has v) (opened owners cell (l ∷ links)).links) t)) (sym (writes_step core l links x site v r s is found may)) goal

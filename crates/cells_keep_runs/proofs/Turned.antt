@@ -316,7 +316,7 @@ module _ (core core2 : Core) (owners : List ℕ) (seats : Seats) where
       Alike (Related owners seats) (core_step core (with_control (Run []) (placed e fs s))) (core_step core2 (with_control (Run ys) t))
       ⊎ ((xs : List CoreStat) × (u : CoreState) × Way core 3 (Run []) (placed e fs s) (Run xs) u × Related owners seats (with_control (Run xs) u) (with_control (Run ys) t))
 
-  leaves_scope : (n : ℕ) (e : Environment) (fs fs2 : Frames1) (s t : CoreState) → IsScope seats n → Stand owners seats (placed (n ∷ e) fs s) t → Stand owners seats (placed e fs2 s) t
+  pub leaves_scope : (n : ℕ) (e : Environment) (fs fs2 : Frames1) (s t : CoreState) → IsScope seats n → Stand owners seats (placed (n ∷ e) fs s) t → Stand owners seats (placed e fs2 s) t
   leaves_scope n e fs fs2 s t (seat, at, away) x = record {
     states = record {
       heap = x.states.heap;

@@ -45,7 +45,7 @@ pub record Enters (core core2 : Core) (owners : List ℕ) (c : Call) (s t : Core
 -- A call of a closure begins alike with related records, and comes to related states, with its record more.
 abbrev pub CallsEnterAlike : Type 0
 CallsEnterAlike = (core core2 : Core) (owners : List ℕ) (seats : Seats) (c : Call) (s t : CoreState) (a b : Closure Own) (f : CoreFunction) (kept locals has : List Var)
-    → Enters core core2 owners c s t a b f kept → Closures seats a b
+    → Enters core core2 owners c s t a b f kept → Closures owners seats a b
     → NewCall (bindings_of (function_flat owners kept f) b c t) (bindings_of f a c s) t.store.cells locals has b.own.cells
     → ArgumentsBound (bindings_of f a c s) f.arguments
     → Stand owners seats s t → Frames owners seats s.context.environment s.context.frames t.context.frames

@@ -18,7 +18,7 @@ use Rattle.core_meaning.specs.State.{CoreValue, Current, Extra, User, Work}
 use Rattle.core_meaning.specs.Step.{act}
 use Rattle.pass_rules.specs.Scopes.{function_flat}
 use Rattle.cells_keep_runs.specs.Alike.{Alike, strict}
-use Rattle.cells_keep_runs.specs.Closed.{AllSeen}
+use Rattle.cells_keep_runs.specs.Closed.{AllSeen, KeepsOthers}
 use Rattle.cells_keep_runs.specs.Given.{given_to}
 use Rattle.cells_keep_runs.specs.Memory.{Seats, cell_along}
 use Rattle.cells_keep_runs.specs.Opened.{opened}
@@ -30,6 +30,7 @@ pub record ClassSeen (core core2 : Core) (owners : List ℕ) (seats : Seats) (s 
   pub kept : List Var
   pub before : function_at core f ≡ Some function
   pub flat : function_at core2 f ≡ Some (function_flat owners kept function)
+  pub others : KeepsOthers owners f function kept
   pub seen : AllSeen owners seats s kept
 
 -- so it is for the function among these values

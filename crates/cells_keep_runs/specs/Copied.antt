@@ -5,19 +5,18 @@ use Rattle.core_ast.specs.declared.parts.CoreHead.TheVariants as head
 use Rattle.core_ast.specs.declared.parts.Var.{Var}
 use Rattle.core_ast.specs.declared.tree.CoreExpr.{CoreExpr, out-CoreExpr}
 use Rattle.core_ast.specs.declared.tree.CoreLink.{CoreLink, out-CoreLink}
-use Rattle.core_ast.specs.declared.tree.CoreStat.{CoreStat}
 use Rattle.core_ast.specs.declared.whole.Core.{Core}
 use Rattle.core_meaning.specs.Marks.{CoreState, CoreWork, Mark, value_in}
 use Rattle.core_meaning.specs.Modules.{core_step}
 use Rattle.core_meaning.specs.Names.{binding_in, record_at}
 use Rattle.core_meaning.specs.Rows.{with_control}
-use Rattle.core_meaning.specs.State.{Begin, Binding, Environment, EnvironmentRecord, Frame, Loop, LoopUpdate, Rest, Restore}
+use Rattle.core_meaning.specs.State.{Begin, Binding, Environment, EnvironmentRecord, Frame, LoopUpdate, Rest, Restore}
 use Rattle.pass_rules.specs.Cells.{is_among, is_shared}
-use Rattle.pass_rules.specs.Scopes.{expr_flat, stats_flat}
+use Rattle.pass_rules.specs.Scopes.{expr_flat}
 use Rattle.cells_keep_runs.specs.Begun.{Matched}
 use Rattle.cells_keep_runs.specs.Memory.{IsNewest, Seat, Seats}
 use Rattle.cells_keep_runs.specs.Opened.{AllApart, write_in}
-use Rattle.cells_keep_runs.specs.Related.{Frames, Related, Stand, Tail, loop_flat}
+use Rattle.cells_keep_runs.specs.Related.{Frames, IsThen, Related, Stand}
 use Rattle.cells_keep_runs.specs.Renewed.{OwnCell, Renewal, scope_seat}
 use Rattle.cells_keep_runs.specs.Seen.{target_at}
 
@@ -58,13 +57,21 @@ abbrev pub NoWrites : List ℕ → List CoreLink → Type 0
 NoWrites owners [] = Unit {0}
 NoWrites owners (l ∷ ls) = (write_in owners (out-CoreLink l) ≡ None) × NoWrites owners ls
 
--- the frames of the source and of the target stand at the statements of a scope, or at the update of a loop there
-pub data AtScope (owners : List ℕ) (seats : Seats) (o : Environment) : List (Frame Mark CoreWork) → List (Frame Mark CoreWork) → Type 0 where
-  in_body : {e : Environment} {fs fs2 gs : List (Frame Mark CoreWork)} {ys : List CoreStat} (xs xs2 : List CoreStat)
-      → Tail owners seats o fs ys e fs2 → Frames owners seats e fs2 gs
-      → AtScope owners seats o (Rest xs ∷ Restore o ∷ Rest xs2 ∷ fs) (Rest (stats_flat owners xs ++ (stats_flat owners xs2 ++ ys)) ∷ gs)
-  in_update : {fs gs : List (Frame Mark CoreWork)} (l : Loop) → AtScope owners seats o fs gs
-      → AtScope owners seats o (LoopUpdate l ∷ fs) (LoopUpdate (loop_flat owners l) ∷ gs)
+-- the source is at the end of a scope's statements, or of such a handler's
+abbrev pub EndsScope : List (Frame Mark CoreWork) → Type 0
+EndsScope (Restore e ∷ fs) = Unit {0}
+EndsScope fs = ⊥
+
+-- it stands in the statements of a scope, or in the update of a loop there
+abbrev pub InScope : List (Frame Mark CoreWork) → Type 0
+InScope (Rest xs ∷ fs) = EndsScope fs
+InScope (LoopUpdate l ∷ fs) = InScope fs
+InScope fs = ⊥
+
+-- what a copy gives goes on to another expression, or to no link
+abbrev pub GoesToThen : List CoreLink → Type 0
+GoesToThen [] = Unit {0}
+GoesToThen (l ∷ links) = IsThen (out-CoreLink l)
 
 abbrev pub copied_seats : List ℕ → Seats → Seat → EnvironmentRecord Mark → List Var → ℕ → Seats
 copied_seats owners seats seat bindings xs k =
@@ -74,8 +81,8 @@ copied_seats owners seats seat bindings xs k =
 -- cell that it made.
 abbrev pub CopiesBeginAlike : Type 0
 CopiesBeginAlike = (core core2 : Core) (owners : List ℕ) (seats : Seats) (x : CoreExpr) (xs : List Var) (n : ℕ) (o : Environment) (s t : CoreState)
-    → (out-CoreExpr x).head ≡ head.Copy xs → NoWrites owners (out-CoreExpr x).links → s.context.environment ≡ n ∷ o
+    → (out-CoreExpr x).head ≡ head.Copy xs → NoWrites owners (out-CoreExpr x).links → GoesToThen (out-CoreExpr x).links → s.context.environment ≡ n ∷ o
     → (c : Copyable owners seats s.records s.context.environment n xs)
-    → Stand owners seats s t → AtScope owners seats o s.context.frames t.context.frames
+    → InScope s.context.frames → Stand owners seats s t → Frames owners seats s.context.environment s.context.frames t.context.frames
     → Matched (Related owners (copied_seats owners seats c.seat (record_at s.records n) xs (length t.store.cells))) core2
     (core_step core (with_control (Begin x) s)) (with_control (Begin (expr_flat owners x)) t)

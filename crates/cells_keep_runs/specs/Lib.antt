@@ -29,3 +29,12 @@ pub mod Going
 pub mod Handled
 pub mod Classed
 pub mod Started
+pub mod Named
+pub mod Ready
+pub mod Course
+pub mod Kept
+pub mod Apart
+pub mod Stays
+pub mod Placing
+pub mod Recorded
+pub mod Copying

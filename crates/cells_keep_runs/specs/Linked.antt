@@ -10,35 +10,29 @@ use Rattle.core_ast.specs.declared.tree.CoreExpr.{CoreExpr}
 use Rattle.core_ast.specs.declared.tree.CoreLink.{CoreLink, out-CoreLink}
 use Rattle.core_ast.specs.declared.tree.CoreLink.TheOpen as layer
 use Rattle.core_ast.specs.declared.whole.Core.{Core}
-use Rattle.core_meaning.specs.Marks.{Cell, CoreState, CoreWork, Mark}
+use Rattle.core_meaning.specs.Marks.{Cell, CoreState, Mark}
 use Rattle.core_meaning.specs.Modules.{core_step}
 use Rattle.core_meaning.specs.Names.{Resolved, resolve, stored_at}
 use Rattle.core_meaning.specs.Rows.{pushed, with_control}
-use Rattle.core_meaning.specs.State.{After, CoreValue, Current, Extra, Frame, Gives, Go, Hand, Has, LoopUpdate, Reference, Rest, User}
+use Rattle.core_meaning.specs.State.{After, CoreValue, Current, Extra, Gives, Go, Hand, Has, Reference, User}
 use Rattle.pass_rules.specs.Cells.{is_shared}
 use Rattle.runs.specs.Simulation.{Reaches}
 use Rattle.cells_keep_runs.specs.Alike.{Alike, Config}
 use Rattle.cells_keep_runs.specs.Memory.{Seats, cell_along}
 use Rattle.cells_keep_runs.specs.Opened.{link_in, opened}
-use Rattle.cells_keep_runs.specs.Related.{BelowCells, Currents, Frames, Related, Stand}
-use Rattle.cells_keep_runs.specs.Seen.{IsWrite, Sees}
+use Rattle.cells_keep_runs.specs.Related.{BelowCells, Currents, DropsHere, Frames, Related, Stand}
+use Rattle.cells_keep_runs.specs.Seen.{Assigns, IsWrite, Sees}
 use Rattle.cells_keep_runs.specs.Ways.{Way}
 use Rattle.cells_keep_runs.specs.Writes.{IsHeld}
 
 -- At the end of links both hand the value on, or read the reference.
 abbrev pub LinksEndAlike : Type 0
 LinksEndAlike = (core core2 : Core) (owners : List ℕ) (seats : Seats) (c d : Current Mark) (s t : CoreState)
-    → Currents c d → Stand owners seats s t → Frames owners seats s.context.environment s.context.frames t.context.frames
+    → Currents s.context.frames [] c d → Stand owners seats s t → Frames owners seats s.context.environment s.context.frames t.context.frames
     → Alike (Related owners seats) (core_step core (with_control (Go c []) s)) (core_step core2 (with_control (Go d []) t))
 
 abbrev pub copy_behind : CoreState → ℕ → Config
 copy_behind t n = with_control (Hand (Gives (Extra (Cell n)))) t
-
--- a list of statements goes on, or a loop
-abbrev pub DropsHere : List (Frame Mark CoreWork) → Type 0
-DropsHere (Rest xs ∷ fs) = Unit {0}
-DropsHere (LoopUpdate l ∷ fs) = Unit {0}
-DropsHere fs = ⊥
 
 -- What a copy gives is dropped, whether it is undefined or a cell,
 abbrev pub CopiesAreDropped : Type 0
@@ -64,7 +58,7 @@ ReferencesAreReadAlike = (core core2 : Core) (owners : List ℕ) (seats : Seats)
 -- Then the source writes it in two steps, and the target's cell takes it.
 abbrev pub CellsTakeReads : Type 0
 CellsTakeReads = (core core2 : Core) (owners : List ℕ) (seats : Seats) (l : CoreLink) (links : List CoreLink) (x : Var) (site : Option Site) (v : CoreValue Mark) (r : Resolved Mark) (s t : CoreState)
-    → IsWrite l x site → is_shared owners x ≡ true → resolve s x ≡ Some r → r.binding.mutable ≡ true
+    → IsWrite l x site → is_shared owners x ≡ true → resolve s x ≡ Some r → (Assigns l x site → r.binding.mutable ≡ true)
     → Sees owners seats s.context.environment r.at x → IsHeld v
     → Stand owners seats s t → BelowCells owners seats s (l ∷ links) t
     → (k : ℕ) × (u : Config) × Way core 2 (Hand (Gives v)) (pushed (After (l ∷ links)) s) (Go (Has v) links) (stored_at r.at x v s)

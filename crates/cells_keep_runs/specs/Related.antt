@@ -5,7 +5,8 @@
 -- Frames are those of the source, flattened, but for three things. A scope has left a Restore and a Rest on the source's stack, whose
 -- statements stand behind those of the target's Rest. A shared name that an expression writes waits as a frame of its own. And where
 -- a frame would wait with no links but for such a name, there may be none.
-use Rattle.std.specs.Prelude.{◌≡◌, List, [], ◌∷◌, ◌++◌, map, Option, Some, length, ℕ}
+use Rattle.std.specs.Prelude.{◌≡◌, List, [], ◌∷◌, ◌++◌, ◌+◌, true, map, Option, Some, length, slice_get, ℕ}
+use Rattle.es_outside.specs.declared.events.Site.{Site}
 use Rattle.es_value.specs.declared.value.Value.{Value}
 use Rattle.es_value.specs.declared.value.Value.TheVariants as value
 use Rattle.es_heap.specs.declared.key.Key.{Key}
@@ -20,10 +21,13 @@ use Rattle.core_ast.specs.declared.parts.Var.{Var}
 use Rattle.core_ast.specs.declared.tree.CoreCase.{CoreCase}
 use Rattle.core_ast.specs.declared.tree.CoreExpr.{CoreExpr}
 use Rattle.core_ast.specs.declared.tree.CoreLink.{CoreLink, out-CoreLink}
+use Rattle.core_ast.specs.declared.tree.CoreLink.TheOpen as layer
+use Rattle.core_ast.specs.declared.tree.CoreLink.TheOpen.{CoreLink-F}
 use Rattle.core_ast.specs.declared.tree.CoreStat.{CoreStat}
 use Rattle.core_meaning.specs.Marks.{AtStart, AtYield, Cell, Completed, CoreList, CoreState, CoreStore, CoreStrict, CoreWork, DelegateDone, DelegateStart, DelegateTurn, DelegateValue, Delegates, Derived, Executing, Generator, Heritage, Instantiates, KeptCell, Mark, Own, Prototype, PrototypeFor, Resumes, SpreadStart, SpreadStep, SpreadValue, Starts, YieldsIn, sorts}
 use Rattle.core_meaning.specs.Rows.{with_control}
 use Rattle.core_meaning.specs.State.{After, Begin, Behind, Calls, Catching, Choice, Closure, Completion, Configuration, Context, Control, CoreValue, Current, Environment, Extra, Fetch, Finishing, Frame, Gives, Go, Hand, Has, Keyed, Loop, LoopBody, LoopTest, LoopUpdate, Matching, Part, Pending, Rest, Restore, Returning, Run, StepAt, Store, Subject, Target, Throwing, Turn, User, Work}
+use Rattle.pass_rules.specs.Cells.{is_foreign}
 use Rattle.pass_rules.specs.Scopes.{case_flat, expr_flat, reset, stats_flat}
 use Rattle.cells_keep_runs.specs.Alike.{IsPlain}
 pub use Rattle.cells_keep_runs.specs.Memory.{IsScope, Memory, Seat, Seats, cell_along, cell_found, cells_in, image_in, images, or_outer, with_image}
@@ -87,10 +91,24 @@ pub data Tail (owners : List ℕ) (seats : Seats) : Environment → List (Frame 
       → IsScope seats n → Tail owners seats e fs ys e2 gs
       → Tail owners seats (n ∷ e) (Restore e ∷ Rest xs ∷ fs) (stats_flat owners xs ++ ys) e2 gs
 
--- the value that a part waits with: behind a copy it is a cell in the place of undefined
-pub data Currents : Current Mark → Current Mark → Type 0 where
-  same_current : {c : Current Mark} → Currents c c
-  behind_copy : {n : ℕ} → Currents (Has (User value.Undefined)) (Has (Extra (Cell n)))
+-- a value is dropped: a list of statements goes on, or a loop
+abbrev pub DropsHere : List (Frame Mark CoreWork) → Type 0
+DropsHere (Rest xs ∷ fs) = Unit {0}
+DropsHere (LoopUpdate l ∷ fs) = Unit {0}
+DropsHere fs = ⊥
+
+-- or another expression follows
+abbrev pub IsThen : CoreLink-F CoreLink CoreStat CoreCase CoreExpr → Type 0
+IsThen y = (x : CoreExpr) × (site : Option Site) × (y ≡ layer.Strict op.Then (x ∷ []) site)
+
+abbrev pub Drops : List (Frame Mark CoreWork) → List CoreLink → Type 0
+Drops fs [] = DropsHere fs
+Drops fs (l ∷ links) = IsThen (out-CoreLink l)
+
+-- the value that goes on along links: behind a copy it is a cell in the place of undefined, and is dropped
+pub data Currents (fs : List (Frame Mark CoreWork)) (links : List CoreLink) : Current Mark → Current Mark → Type 0 where
+  same_current : {c : Current Mark} → Currents fs links c c
+  behind_copy : {n : ℕ} → Drops fs links → Currents fs links (Has (User value.Undefined)) (Has (Extra (Cell n)))
 
 -- so does an operation whose parts are evaluated, if it drops it
 pub data PartCurrents (o : CoreOp) (c d : Current Mark) : Type 0 where
@@ -197,17 +215,23 @@ pub record Contexts (owners : List ℕ) (seats : Seats) (a b : Context Mark Own 
   pub own : Owns a.own b.own
   pub frames : Frames owners seats a.environment a.frames b.frames
 
+-- a record has the cell
+abbrev pub IsCellIn : Seats → Var → ℕ → Type 0
+IsCellIn seats x k = (n : ℕ) × (seat : Seat) × (slice_get seats n ≡ Some seat) × (cell_found seat.cells x ≡ Some k)
+
 -- each cell that is kept is that of the name where the closure was made
 abbrev pub Kept : Seats → Environment → List KeptCell → Type 0
 Kept seats e [] = Unit {0}
-Kept seats e (k ∷ ks) = (cell_along seats e k.var ≡ k.cell) × Kept seats e ks
+Kept seats e (k ∷ ks) = (cell_along seats e k.var ≡ k.cell) × IsCellIn seats k.var k.cell × Kept seats e ks
 
-pub record Closures (seats : Seats) (a b : Closure Own) : Type 0 where
+pub record Closures (owners : List ℕ) (seats : Seats) (a b : Closure Own) : Type 0 where
   pub function : b.function ≡ a.function
   pub environment : b.environment ≡ images seats a.environment
   pub below : Below (length seats) a.environment
   pub own : Owns a.own b.own
   pub cells : Kept seats a.environment b.own.cells
+  pub uncelled : a.own.cells ≡ []
+  pub foreign : (x : Var) (k : ℕ) → cell_found b.own.cells x ≡ Some k → is_foreign owners (a.function.0 + 1) x ≡ true
 
 pub data Generators (owners : List ℕ) (seats : Seats) : Generator → Generator → Type 0 where
   at_start : {a b : Context Mark Own CoreWork} → Contexts owners seats a b → Generators owners seats (AtStart a) (AtStart b)
@@ -226,7 +250,7 @@ All R xs ys = ⊥
 pub record States (owners : List ℕ) (seats : Seats) (s t : CoreState) : Type 0 where
   pub heap : t.heap ≡ s.heap
   pub memory : Memory owners seats s.records t.records t.store.cells
-  pub closures : All (Closures seats) s.closures t.closures
+  pub closures : All (Closures owners seats) s.closures t.closures
   pub callers : All (Contexts owners seats) s.callers t.callers
   pub ahead : t.ahead ≡ map (stats_flat owners) s.ahead
   pub this_values : t.store.this_values ≡ s.store.this_values
@@ -270,13 +294,13 @@ pub data Related (owners : List ℕ) (seats : Seats) : Configuration sorts CoreS
       → Frames owners seats s.context.environment s.context.frames t.context.frames
       → Related owners seats (with_control c s) (with_control c t)
   -- behind a copy a cell is handed in the place of undefined
-  at_copy : {s t : CoreState} (n : ℕ) → Stand owners seats s t
+  at_copy : {s t : CoreState} (n : ℕ) → DropsHere s.context.frames → Stand owners seats s t
       → Frames owners seats s.context.environment s.context.frames t.context.frames
       → Related owners seats (with_control (Hand (Gives (User value.Undefined))) s) (with_control (Hand (Gives (Extra (Cell n)))) t)
   at_expression : {s t : CoreState} (x : CoreExpr) → Stand owners seats s t
       → Frames owners seats s.context.environment s.context.frames t.context.frames
       → Related owners seats (with_control (Begin x) s) (with_control (Begin (expr_flat owners x)) t)
-  at_links : {s t : CoreState} {c d : Current Mark} (ls : List CoreLink) → Currents c d → Stand owners seats s t
+  at_links : {s t : CoreState} {c d : Current Mark} (ls : List CoreLink) → Currents s.context.frames ls c d → Stand owners seats s t
       → BelowCells owners seats s ls t
       → Related owners seats (with_control (Go c ls) s)
       (with_control (Go d (opened owners (cell_along seats s.context.environment) ls).links) t)

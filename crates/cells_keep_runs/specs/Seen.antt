@@ -61,10 +61,14 @@ NamesAreRead = (core core2 : Core) (owners : List ℕ) (seats : Seats) (x : Core
 abbrev pub IsWrite : CoreLink → Var → Option Site → Type 0
 IsWrite l x site = (out-CoreLink l ≡ layer.Strict (op.Set x) [] site) ⊎ (out-CoreLink l ≡ layer.Strict (op.Init x) [] site)
 
--- A name that both find takes a value alike, a shared one only a value of programs, or none.
+-- it is no initialization
+abbrev pub Assigns : CoreLink → Var → Option Site → Type 0
+Assigns l x site = out-CoreLink l ≡ layer.Strict (op.Set x) [] site
+
+-- A name that both find takes a value alike, a shared one only a value of programs, or none. One that may not be written is only initialized.
 abbrev pub NamesAreWritten : Type 0
 NamesAreWritten = (core core2 : Core) (owners : List ℕ) (seats : Seats) (l : CoreLink) (links : List CoreLink) (x : Var) (site : Option Site) (v : CoreValue Mark) (r : Resolved Mark) (s t : CoreState)
-    → IsWrite l x site → resolve s x ≡ Some r → r.binding.mutable ≡ true
+    → IsWrite l x site → resolve s x ≡ Some r → (Assigns l x site → r.binding.mutable ≡ true)
     → Sees owners seats s.context.environment r.at x → (is_shared owners x ≡ true → IsHeld v)
     → Stand owners seats s t → BelowCells owners seats s (l ∷ links) t
     → Matched (Related owners seats) core2 (core_step core (with_control (Go (Has v) (l ∷ links)) s))

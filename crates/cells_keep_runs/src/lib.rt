@@ -4,6 +4,7 @@
 
 ghost use Rattle.cells_keep_runs.specs.Acted.{OperationsActAlike};
 ghost use Rattle.cells_keep_runs.specs.Alike.{UntouchedAreAlike};
+ghost use Rattle.cells_keep_runs.specs.Apart.{FunctionsAreApart, ModulesAreApart, NoneDeclared, OthersAreKept};
 ghost use Rattle.cells_keep_runs.specs.Passed.{CopiesAreTaken, PlacesAreKept, ScopesAreEntered, ScopesAreLeft, ScopesEnd};
 ghost use Rattle.cells_keep_runs.specs.Begun.{UntouchedHeadsKeepRelated};
 ghost use Rattle.cells_keep_runs.specs.Called.{CallsEnterAlike};
@@ -11,6 +12,8 @@ ghost use Rattle.cells_keep_runs.specs.Carried.{UntouchedKeepRelated};
 ghost use Rattle.cells_keep_runs.specs.Classed.{ClassesAreMadeAlike, HeritagesAreTakenAlike, MembersArePutAlike};
 ghost use Rattle.cells_keep_runs.specs.Closed.{ClosuresAreMadeAlike};
 ghost use Rattle.cells_keep_runs.specs.Copied.{CopiesBeginAlike};
+ghost use Rattle.cells_keep_runs.specs.Copying.{CopiesMayBeCopied, CopyableStays, ScopesMayBeCopied};
+ghost use Rattle.cells_keep_runs.specs.Course.{StepsAreMatched};
 ghost use Rattle.cells_keep_runs.specs.Ended.{AbruptEndsAlike, CellsArePassed, ScopesArePassed, StatementsEndAlike};
 ghost use Rattle.cells_keep_runs.specs.Entered.{ScopesAreEnteredAlike};
 ghost use Rattle.cells_keep_runs.specs.Entries.{CallsAreRemembered};
@@ -18,13 +21,18 @@ ghost use Rattle.cells_keep_runs.specs.Given.{LinksTakeValues, PlainFramesTakeVa
 ghost use Rattle.cells_keep_runs.specs.Going.{OperationsGoOnAlike, PrimitivesBeginAlike};
 ghost use Rattle.cells_keep_runs.specs.Grown.{CellsStay, EnvironmentsStay, FramesStay};
 ghost use Rattle.cells_keep_runs.specs.Handled.{HandlersTakeThrows, ParametersAreRemembered};
+ghost use Rattle.cells_keep_runs.specs.Kept.{FunctionsAreFlattened, KindsStay, RunsAreKept};
 ghost use Rattle.cells_keep_runs.specs.Linked.{CellsTakeReads, CopiesAreDropped, CopiesGoOnAlike, LinksEndAlike, ReferencesAreReadAlike};
 ghost use Rattle.cells_keep_runs.specs.Links.{UntouchedLinksKeepRelated};
+ghost use Rattle.cells_keep_runs.specs.Named.{CallsHaveTheirNames};
 ghost use Rattle.cells_keep_runs.specs.Opened.{BeginsOpenCells, CopiesAreMade};
+ghost use Rattle.cells_keep_runs.specs.Placing.{CodeStays};
 ghost use Rattle.cells_keep_runs.specs.Places.{NewRecordsComeFirst, NewRecordsHideNothing, WritesAreSeen};
+ghost use Rattle.cells_keep_runs.specs.Recorded.{CodeStaysInRecords};
 ghost use Rattle.cells_keep_runs.specs.Renewed.{ScopesAreRemembered};
 ghost use Rattle.cells_keep_runs.specs.Seen.{NamesAreRead, NamesAreWritten};
 ghost use Rattle.cells_keep_runs.specs.Started.{BeginningsAreRelated};
+ghost use Rattle.cells_keep_runs.specs.Stays.{CallsNamesAreSeen, CopiesNamesAreSeen, KeptNamesAreSeen, ParametersAreSeen, PatternsAreSeen, ScopesNamesAreSeen, SeenNamesStay, SeenOutside, SeenWithin, SharedNamesAreHeld};
 ghost use Rattle.cells_keep_runs.specs.Taken.{ValuesAreTakenAlike};
 ghost use Rattle.cells_keep_runs.specs.Turned.{ContextsEndAlike, ListsRunOut, OtherCallsAreAlike, TurnsAreAlike};
 ghost use Rattle.cells_keep_runs.specs.Writes.{SharedAreWritten, UnsharedAreWritten};
@@ -241,4 +249,73 @@ pub fn statements_end_alike()
 /// The beginnings of a core's run and of that behind the flattening are related, if no name of a module's scopes is one of its own.
 pub fn beginnings_are_related()
     ensures { BeginningsAreRelated }
+{}
+
+/// The record of a call has behind the flattening what it has before, if the names of the function's scopes aren't its own name, and those
+/// whose cells its closures keep are others.
+pub fn calls_have_their_names()
+    ensures { CallsHaveTheirNames }
+{}
+
+/// In a lawful core no name of a module's scopes is one of its own, none of a function's scopes is its own name, the names whose cells it keeps
+/// are shared ones of others, of which none is one of its own, and no function is declared in another as in scripts.
+pub fn lawful_names_are_apart()
+    ensures modules { ModulesAreApart }
+    ensures functions { FunctionsAreApart }
+    ensures declared { NoneDeclared }
+    ensures kept { OthersAreKept }
+{}
+
+/// Both machines find the names of a scope that is entered, and of its copy, of a handler, and of a call with the names whose cells its
+/// closure keeps. They go on to find a name where there is a record more, and within a record that hasn't the name, and out of it.
+/// A shared name has a value of programs, or none.
+pub fn names_stay_seen()
+    ensures scopes { ScopesNamesAreSeen }
+    ensures calls { CallsNamesAreSeen }
+    ensures kept { KeptNamesAreSeen }
+    ensures patterns { PatternsAreSeen }
+    ensures parameters { ParametersAreSeen }
+    ensures copies { CopiesNamesAreSeen }
+    ensures more { SeenNamesStay }
+    ensures within { SeenWithin }
+    ensures outside { SeenOutside }
+    ensures held { SharedNamesAreHeld }
+{}
+
+/// A scope that is entered may be copied, and so may its copy, also where there is a record more, if that isn't one of the same home with one of
+/// its names.
+pub fn scopes_may_be_copied()
+    ensures entered { ScopesMayBeCopied }
+    ensures copied { CopiesMayBeCopied }
+    ensures more { CopyableStays }
+{}
+
+/// Each step of the source from related configurations that are ready for it is matched: the target takes some steps too, or the source goes
+/// on alone out of scopes, or both ask or end alike, and they come to related configurations.
+pub fn steps_are_matched()
+    ensures { StepsAreMatched }
+{}
+
+/// The pass flattens each function, and a function is that of a derived class behind it, or of none, as before.
+pub fn functions_are_flattened()
+    ensures flattened { FunctionsAreFlattened }
+    ensures kinds { KindsStay }
+{}
+
+/// A core does behind the flattening what it did before: the same events, and the same ending, if each pair of configurations that the two
+/// runs come to is ready.
+pub fn runs_are_kept_where_ready()
+    ensures { RunsAreKept }
+{}
+
+/// A step that makes no record leaves all code of a state where it may stand, by the environment along which it runs. Where it may is given by
+/// the values that stand for the places, and is any relation that holds of the parts of code where it holds of the code.
+pub fn code_stays_where_it_may_stand<V, W, X, Y>()
+    ensures { CodeStays V W X Y }
+{}
+
+/// So does what makes a record, if what runs along the new environment may stand there: a scope, a handler, a copy and a call, and the next
+/// body of a module.
+pub fn code_stays_in_new_records<V, W, X, Y>()
+    ensures { CodeStaysInRecords V W X Y }
 {}
