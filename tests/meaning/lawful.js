@@ -1,6 +1,6 @@
 // Whether the cores of the programs of tests/engines/programs are lawful at each level, as their model lowers them and behind each pass, and whether their
-// scripts may be printed; whether they are writable at each level, their labels differ and have room until yields are flattened, and states can be numbered
-// then, as the laws of emission_laws, lawful_passes and writable_passes ask; and the same of random cores that are lawful, but for operations on cells, which
+// scripts may be printed; whether they are writable at each level, their labels differ and have room until yields are flattened, and few nodes become
+// states, as the laws of emission_laws, lawful_passes and writable_passes ask; and the same of random cores that are lawful, but for operations on cells, which
 // there are from the first pass on.
 // Usage: node --expose-internals lawful.js [SEED COUNT]
 'use strict';
@@ -13,10 +13,10 @@ const { randomCore } = require('./random_cores.js');
 
 const passes = ['pass_rules/Scopes/without_scopes', 'pass_rules/yield_rules/Yields/with_yields_flat', 'pass_rules/state_rules/States/with_machines'];
 const tests = ['functions_lawful', 'part_lawful', 'declarations', 'held', 'all_differ'].map((name) => `core_ast/Lawful/${name}`);
-const asked = ['emission_laws/Writable/function_fits', 'emission_laws/Writable/part_fits', 'lawful_passes/Told/function_told', 'lawful_passes/Told/part_told', 'lawful_passes/Told/tells_apart', 'lawful_passes/States/has_few_states', 'writable_passes/Rooms/function_behind', 'writable_passes/Rooms/part_behind', 'writable_passes/Rooms/turn_fits', 'writable_passes/Rooms/fits'];
+const asked = ['emission_laws/Writable/function_fits', 'emission_laws/Writable/part_fits', 'lawful_passes/Told/function_told', 'lawful_passes/Told/part_told', 'lawful_passes/Told/tells_apart', 'lawful_passes/StatesBefore/will_have_few_states', 'writable_passes/Rooms/function_behind', 'writable_passes/Rooms/part_behind', 'writable_passes/Rooms/turn_fits', 'writable_passes/Rooms/fits'];
 const definitions = load([...passes, ...tests, ...asked, 'emission_rules/Functions/emitted', 'es5_printable/Printable/is_printable']);
 const [functionsLawful, partLawful, declarations, held, allDiffer] = tests.map((name) => definitions[name]);
-const [functionFits, partFits, functionTold, partTold, tellsApart, hasFewStates, functionBehind, partBehind, turnFits, fits] = asked.map((name) => definitions[name]);
+const [functionFits, partFits, functionTold, partTold, tellsApart, willHaveFewStates, functionBehind, partBehind, turnFits, fits] = asked.map((name) => definitions[name]);
 const hosts = ['print', 'read', 'count'].map((name) => [...name].map((c) => c.charCodeAt(0)));
 
 function faultOf(core) {
@@ -40,7 +40,7 @@ function faultsOf(core) {
     if (level < 2 && !labelsDiffer(core)) faults.push(`level ${level} has a label twice`);
     if (level < 2 && !labelsHaveRoom(core)) faults.push(`level ${level} has too great a label`);
     if (level === 2 && !core.functions.every((f) => turnFits(f))) faults.push("level 2 has too great a label");
-    if (level === 2 && !core.functions.every((f) => hasFewStates(f))) faults.push("level 2 has a generator with too many states");
+    if (level === 0 && !core.functions.every((f) => willHaveFewStates(f))) faults.push('a generator will have too many states');
   }
   if (!definitions['es5_printable/Printable/is_printable'](definitions['emission_rules/Functions/emitted'](core, hosts, helpers()))) faults.push("its script can't be printed");
   return faults;

@@ -40,7 +40,7 @@ use Rattle.lawful_passes.proofs.Spilling.{Sound}
 use Rattle.lawful_passes.proofs.Stepping.{goes_are, handed_on_is, moves_are, nothing_kept_are, unwinds_are}
 use Rattle.lawful_passes.proofs.Turned.{tells}
 
-abbrev needs : Fold
+abbrev pub needs : Fold
 needs = record { Link = ℕ; Stat = ℕ; Case = ℕ; Expr = ℕ; link_step = states.link_step; stat_step = states.stat_step; case_step = states.case_step; expr_step = states.expr_step }
 
 -- ## What is asked of a node: lawful in its round, with yields that are flat, and with labels below that of the turns

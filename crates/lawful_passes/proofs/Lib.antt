@@ -20,4 +20,6 @@ pub mod Inside
 pub mod Growing
 pub mod Bodies
 pub mod MachineWeights
+pub mod StatesSpilled
+pub mod StatesScoped
 pub mod MachineKept

@@ -41,6 +41,7 @@ use Rattle.lawful_passes.proofs.Mentioned.{function_labels, label_below}
 use Rattle.lawful_passes.proofs.Raised.{cases_raised, scoped_raised, stats_raised}
 use Rattle.lawful_passes.proofs.Rebound.{renamed}
 use Rattle.lawful_passes.proofs.Scoping.{both_keep_law}
+use Rattle.lawful_passes.proofs.StatesScoped.{states_stay_few}
 use Rattle.lawful_passes.proofs.Stepping.{guarded_step_is, last_row_is, making_are, unwinds_are}
 use Rattle.lawful_passes.proofs.Tallies.{declaring, function_declared, function_holding, holding, one_by, one_of}
 
@@ -353,4 +354,4 @@ yields_are_out : YieldsAreOut
 yields_are_out core h = yields_out (unscoped lawful_inside) (unscoped lawful_outside) (without_scopes core) (scopes_out lawful_inside lawful_outside core (lawful_core core h))
 
 pub all_keep_law : AllKeepLaw
-all_keep_law hosts core h such apart few = machines_keep_law hosts (with_yields_flat (without_scopes core)) (both_keep_law hosts core h such apart) (yields_are_out core (hosts, h)) few
+all_keep_law hosts core h such apart few = machines_keep_law hosts (with_yields_flat (without_scopes core)) (both_keep_law hosts core h such apart) (yields_are_out core (hosts, h)) (states_stay_few core few)

@@ -3,6 +3,7 @@ use Rattle.std.specs.Prelude.{ℕ}
 use Rattle.core_ast.specs.declared.whole.Core.{Core}
 use Rattle.core_ast.specs.Lawful.{IsLawfulFor}
 use Rattle.lawful_passes.specs.States.{StatesAreFew}
+use Rattle.lawful_passes.specs.StatesBefore.{StatesWillBeFew}
 use Rattle.lawful_passes.specs.Told.{LabelsDiffer}
 use Rattle.pass_rules.specs.Scopes.{without_scopes}
 use Rattle.pass_rules.specs.pass_laws.Levels.{IsWithin, nothing, yielding}
@@ -31,9 +32,12 @@ MachinesKeepLaw = (hosts : ℕ) (core : Core)
     → IsLawfulFor hosts core → IsWithin (yielding nothing) nothing core → StatesAreFew core
     → IsLawfulFor hosts (with_machines core)
 
+-- They can behind the other two passes, if there were few nodes that become states.
+abbrev pub StatesStayFew : Type 0
+StatesStayFew = (core : Core) → StatesWillBeFew core → StatesAreFew (with_yields_flat (without_scopes core))
+
 -- So behind all three.
 abbrev pub AllKeepLaw : Type 0
 AllKeepLaw = (hosts : ℕ) (core : Core)
-    → IsLawfulFor hosts core → AllSuch no_content core → LabelsDiffer core
-    → StatesAreFew (with_yields_flat (without_scopes core))
+    → IsLawfulFor hosts core → AllSuch no_content core → LabelsDiffer core → StatesWillBeFew core
     → IsLawfulFor hosts (with_machines (with_yields_flat (without_scopes core)))
