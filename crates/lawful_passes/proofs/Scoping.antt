@@ -44,9 +44,9 @@ record Sum (c a b : Told) : Type 0 where
   labels : (i : ℕ) → count i c.labels ≤ count i a.labels + count i b.labels
   few : a.few ≡ true → b.few ≡ true → c.few ≡ true
 
-record Less (b a : Told) : Type 0 where
-  labels : (i : ℕ) → count i b.labels ≤ count i a.labels
-  few : a.few ≡ true → b.few ≡ true
+pub record Less (b a : Told) : Type 0 where
+  pub labels : (i : ℕ) → count i b.labels ≤ count i a.labels
+  pub few : a.few ≡ true → b.few ≡ true
 
 less_same : (a : Told) → Less a a
 less_same a = record { labels = λ i. omega arith; few = λ h. h }
@@ -67,7 +67,7 @@ sum_both e c a b d h k = record {
   few = λ p q. k.few (h.few p (left _ _ q)) (right _ _ q);
 }
 
-less_both : (a b c d : Told) → Less a b → Less c d → Less (t.both a c) (t.both b d)
+pub less_both : (a b c d : Told) → Less a b → Less c d → Less (t.both a c) (t.both b d)
 less_both a b c d h k = record {
   labels = λ i. (let x = h.labels i in let y = k.labels i in let z = count_more i a.labels c.labels in let w = count_more i b.labels d.labels in omega arith);
   few = λ q. both (h.few (left _ _ q)) (k.few (right _ _ q));
@@ -301,7 +301,7 @@ flat_sum : (owners : List ℕ) (ss xs : List CoreStat) → Sum (stats_told (alon
 flat_sum owners [] xs = nothing_sum (stats_told xs)
 flat_sum owners (y ∷ ss) xs = sum_both _ (stats_told (s.stat_flat owners y xs)) _ _ _ (stat_induced (shown owners) (keeps owners) y xs) (flat_sum owners ss (s.stat_flat owners y xs))
 
-flat_less : (owners : List ℕ) (ss : List CoreStat) → Less (stats_told (s.stats_flat owners ss)) (stats_told ss)
+pub flat_less : (owners : List ℕ) (ss : List CoreStat) → Less (stats_told (s.stats_flat owners ss)) (stats_told ss)
 flat_less owners ss = sum_alone _ _ (flat_sum owners ss [])
 
 -- ## Functions, parts and the core

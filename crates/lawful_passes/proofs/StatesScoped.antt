@@ -45,7 +45,7 @@ of_parts xs = total (map (of_expr counts_before) xs)
 abbrev of_links : List CoreLink → ℕ
 of_links ls = total (map (of_link counts_before) ls)
 
-abbrev of_stats : List CoreStat → ℕ
+abbrev pub of_stats : List CoreStat → ℕ
 of_stats ss = total (map (of_stat counts_before) ss)
 
 abbrev of_cases : List CoreCase → ℕ
@@ -213,7 +213,7 @@ stat_kept owners (layer.Yield value kind result) xs = then_below xs _ (layer.Yie
 kept : (owners : List ℕ) → Keeps (relation owners)
 kept owners = record { link = link_kept owners; stat = stat_kept owners; case = λ z. case_by owners z.test z.body; expr = expr_kept owners }
 
-flat_below : (owners : List ℕ) (ss xs : List CoreStat) → of_stats (along (map (s.stat_flat owners) ss) xs) ≤ of_stats xs + of_stats ss
+pub flat_below : (owners : List ℕ) (ss xs : List CoreStat) → of_stats (along (map (s.stat_flat owners) ss) xs) ≤ of_stats xs + of_stats ss
 flat_below owners [] xs = omega arith
 flat_below owners (x ∷ ss) xs = let a = stat_related (relation owners) (kept owners) x xs in let b = flat_below owners ss (s.stat_flat owners x xs) in omega arith
 

@@ -4,3 +4,5 @@ pub mod Scopes
 pub mod Machines
 pub mod Spilling
 pub mod Yields
+pub mod Below
+pub mod All

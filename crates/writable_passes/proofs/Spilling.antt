@@ -36,7 +36,7 @@ use Rattle.pass_rules.specs.yield_rules.Yields as s
 use Rattle.pass_rules.specs.yield_rules.Yields.{number, two, when}
 use Rattle.pass_rules.proofs.pass_laws.Related.{of_case}
 use Rattle.pass_rules.proofs.pass_laws.Within.{left, right, both, either}
-use Rattle.writable_passes.specs.Rooms.{made_by}
+use Rattle.lawful_passes.specs.StatesBefore.{of_op}
 use Rattle.writable_passes.proofs.Fits.{Are, AreCases, AreParts, Far, Fits, Is, Keys, MaybeFits, act_fits, acting_fits, begun_far, below, case_is, case_no_default, default_choice, default_is, do_is, far_fits, if_is, jump_is, key_among, labelled_is, lazy_piece, lazy_pieces, linked_far, loop_is, more, more_keys, nothing_among, number_fits, one, part_one, return_is, set_is, strict_far, strict_fits, switch_is, undefined_far, undefined_fits, variable_far, variable_fits, when_is, writes, yield_is}
 
 -- ## Expressions so far
@@ -231,7 +231,7 @@ plain_is n keys o parts site c h k e m = goes_on_is n _ c.before _ m.before (str
 refers_is : (n : ℕ) (keys : Keys) (c : Chain) (r : Reference) → RefersIn n r → ChainIs n keys c → ChainIs n keys (s.refers c r)
 refers_is n keys c r h m = record { before = m.before; base = rest_far n keys c m; reference = h }
 
-pub value_is : (n : ℕ) (keys : Keys) (p : Place) (o : CoreOp) (parts : List CoreExpr) (site : Option Site) (c : Chain) → p.label + made_by o ≤ n → w.op_fits o ≡ true → AreParts n parts → w.is_new keys (w.defined o) ≡ true → ChainIs n keys c → ChainIs n (w.with_key keys (w.defined o)) (s.behind_value p o parts site c)
+pub value_is : (n : ℕ) (keys : Keys) (p : Place) (o : CoreOp) (parts : List CoreExpr) (site : Option Site) (c : Chain) → p.label + of_op o ≤ n → w.op_fits o ≡ true → AreParts n parts → w.is_new keys (w.defined o) ≡ true → ChainIs n keys c → ChainIs n (w.with_key keys (w.defined o)) (s.behind_value p o parts site c)
 unfolding s.behind_value
 value_is n keys p op.Yield parts site c l h k e m = yielded_is n keys p c m
 value_is n keys p op.Delegate parts site c l h k e m = delegated_is n keys p c (omega arith) m

@@ -28,14 +28,15 @@ use Rattle.pass_rules.proofs.pass_laws.Related.{Fold, Pair, of_link, of_stat, of
 use Rattle.pass_rules.proofs.pass_laws.Within as b
 use Rattle.pass_rules.proofs.pass_laws.Within.{left, right, both, either}
 use Rattle.pass_rules.proofs.pass_laws.Yields.{spills}
+use Rattle.lawful_passes.specs.StatesBefore as before
+use Rattle.lawful_passes.proofs.StatesSpilled.{counts_before}
 use Rattle.writable_passes.specs.Laws.{YieldsKeepWritable}
 use Rattle.writable_passes.specs.Rooms as rooms
-use Rattle.writable_passes.specs.Rooms.{made_by}
 use Rattle.writable_passes.proofs.Fits.{Are, AreParts, Fits, Is, Keys, begun_far, catch_is, do_is, finally_is, joined, jump_is, labelled_is, one, parted, piece, pieces, return_is, scoped_is, throw_is, top, undefined_far, writes, yield_is}
 use Rattle.writable_passes.proofs.Spilling.{AllCases, AllSpilled, CaseIs, ChainIs, SpilledIs, chosen_are, effects_are, goes_on_is, looped_are, one_branch_is, rest_fits, said_are, settled_is, statements_is, switched_are, two_branches_is, value_is}
 
-abbrev pub makes : Fold
-makes = record { Link = ℕ; Stat = ℕ; Case = ℕ; Expr = ℕ; link_step = rooms.link_step; stat_step = rooms.stat_step; case_step = rooms.case_step; expr_step = rooms.expr_step }
+abbrev makes : Fold
+makes = counts_before
 
 -- ## What is shown of each node: at a place behind which there is room for its labels
 
@@ -75,7 +76,7 @@ cases_walk n (y ∷ ps) q p l m h = (y.2 q p (omega arith) (omega arith) (left _
 
 -- ## Links and expressions
 
-strict_by : (n : ℕ) (o : CoreOp) (parts : List (Pair (OfExpr n))) (site : Option Site) (p : Place) → p.label + (made_by o + total (map (of_expr makes) (map (λ q. q.0) parts))) ≤ n → w.op_fits o ≡ true → AreParts n (map (λ q. q.0) parts)
+strict_by : (n : ℕ) (o : CoreOp) (parts : List (Pair (OfExpr n))) (site : Option Site) (p : Place) → p.label + (before.of_op o + total (map (of_expr makes) (map (λ q. q.0) parts))) ≤ n → w.op_fits o ≡ true → AreParts n (map (λ q. q.0) parts)
     → (keys : Keys) → w.is_new keys (w.defined o) ≡ true → (c : Chain) → ChainIs n keys c → ChainIs n (w.with_key keys (w.defined o)) (s.strict p o (s.parts_settled p o (map (λ q. q.1) parts)) site c)
 strict_by n o parts site p l h k keys e c m =
     let t = s.parts_settled p o (map (λ q. q.1) parts) in
@@ -83,7 +84,7 @@ strict_by n o parts site p l h k keys e c m =
     either (ChainIs n (w.with_key keys (w.defined o))) (is_empty t.before) {x = s.behind_value p o t.parts site c} {y = s.behind_statements p o t site c}
     (value_is n keys p o t.parts site c (omega arith) h q.parts e m) (statements_is n keys p o t site c h q m)
 
-link_by : (n : ℕ) (z : Links (shown n)) (p : Place) → p.label + rooms.link_step (in_link makes (link_first (shown n) z)) ≤ n → (w.link_step (in_link (writes n) (link_first (shown n) z))).fits ≡ true
+link_by : (n : ℕ) (z : Links (shown n)) (p : Place) → p.label + before.link_step (in_link makes (link_first (shown n) z)) ≤ n → (w.link_step (in_link (writes n) (link_first (shown n) z))).fits ≡ true
     → (keys : Keys) → w.is_new keys (w.link_step (in_link (writes n) (link_first (shown n) z))).key ≡ true → (c : Chain) → ChainIs n keys c → ChainIs n (w.with_key keys (w.link_step (in_link (writes n) (link_first (shown n) z))).key) (s.link_step (link_second (shown n) z) p c)
 link_by n (layer.Strict o parts site) p l h keys e c m = strict_by n o parts site p l (left _ _ h) (right _ _ h) keys e c m
 link_by n (layer.Lazy x taken None) p l h keys e c m = one_branch_is n keys p x _ c (taken.2 (s.deeper 1 p) (omega arith) (left _ _ h)) m
@@ -105,7 +106,7 @@ expr_kept n z p l h =
 -- ## Cases
 
 case_by : (n : ℕ) (test : Option (Pair (OfExpr n))) (body : List (Pair (OfStat n))) (q p : Place) → let y = case_first (shown n) (record { test = test; body = body }) in
-    q.label + rooms.case_step (in_case makes y) ≤ n → p.label + rooms.case_step (in_case makes y) ≤ n → (w.case_step (in_case (writes n) y)).fits ≡ true → CaseIs n (w.case_step (in_case (writes n) y)).is_default (s.case_step (case_second (shown n) (record { test = test; body = body })) q p)
+    q.label + before.case_step (in_case makes y) ≤ n → p.label + before.case_step (in_case makes y) ≤ n → (w.case_step (in_case (writes n) y)).fits ≡ true → CaseIs n (w.case_step (in_case (writes n) y)).is_default (s.case_step (case_second (shown n) (record { test = test; body = body })) q p)
 case_by n None body q p l m h = record { before = refl; test = tt; mark = refl; body = stats_walk n body p (omega arith) h [] refl }
 case_by n (Some x) body q p l m h = let y = x.2 q (omega arith) (left _ _ h) in record { before = y.before; test = y.rest; mark = refl; body = stats_walk n body p (omega arith) (right _ _ h) [] refl }
 
@@ -119,7 +120,7 @@ case_kept n z q p l m h =
 place_label : (p : Place) (u : Option Spilled) → (s.loop_place p u).label ≡ p.label + 1
 place_label p u = either (λ (q : Place). q.label ≡ p.label + 1) (s.has_maybe u) refl refl
 
-stat_by : (n : ℕ) (z : Stats (shown n)) (p : Place) → p.label + rooms.stat_step (in_stat makes (stat_first (shown n) z)) ≤ n → (writes n).stat_step (in_stat (writes n) (stat_first (shown n) z)) ≡ true → (xs : List CoreStat) → Are n xs → Are n (s.stat_step (stat_second (shown n) z) p xs)
+stat_by : (n : ℕ) (z : Stats (shown n)) (p : Place) → p.label + before.stat_step (in_stat makes (stat_first (shown n) z)) ≤ n → (writes n).stat_step (in_stat (writes n) (stat_first (shown n) z)) ≡ true → (xs : List CoreStat) → Are n xs → Are n (s.stat_step (stat_second (shown n) z) p xs)
 stat_by n (layer.Do x) p l h xs k = said_are n (λ e. stat.Do e) (x.1 p) xs (x.2 p l h) (λ e. do_is n e) k
 stat_by n (layer.If cases) p l h xs k = chosen_are n p _ _ xs (omega arith) (cases_walk n cases (s.under p) (s.under p) (omega arith) (omega arith) h) k
 stat_by n (layer.Switch subject cases) p l h xs k =
@@ -135,7 +136,7 @@ stat_by n (layer.Loop labels (Some x) (Some y) body) p l h xs k =
     let u = Some (y.1 (s.deeper 1 (s.under p))) in let q = s.loop_place p u in let e = place_label p u in
     looped_are n p labels (Some (x.1 q)) u _ xs (omega arith) (left _ _ (left _ _ (left _ _ h))) (x.2 q (omega arith) (right _ _ (left _ _ (left _ _ h)))) (y.2 (s.deeper 1 (s.under p)) (omega arith) (right _ _ (left _ _ h)))
     (stats_walk n body q (omega arith) (right _ _ h) [] refl) k
-stat_by n (layer.Labelled label body) p l h xs k = one n xs _ k (labelled_is n label _ (left _ _ h) (stats_walk n body p l (right _ _ h) [] refl))
+stat_by n (layer.Labelled label body) p l h xs k = one n xs _ k (labelled_is n label _ (left _ _ h) (stats_walk n body p (omega arith) (right _ _ h) [] refl))
 stat_by n (layer.Jump goes_on label) p l h xs k = one n xs _ k (jump_is n goes_on label)
 stat_by n (layer.Return x) p l h xs k = said_are n (λ e. stat.Return e) (x.1 p) xs (x.2 p l h) (λ e. return_is n e) k
 stat_by n (layer.Throw x) p l h xs k = said_are n (λ e. stat.Throw e) (x.1 p) xs (x.2 p l h) (λ e. throw_is n e) k
@@ -143,7 +144,7 @@ stat_by n (layer.TryCatch block parameter names handler) p l h xs k =
     one n xs _ k (catch_is n _ parameter names _ (stats_walk n block p (omega arith) (left _ _ h) [] refl) (stats_walk n handler p (omega arith) (right _ _ h) [] refl))
 stat_by n (layer.TryFinally block last) p l h xs k = one n xs _ k (finally_is n _ _ (stats_walk n block p (omega arith) (left _ _ h) [] refl) (stats_walk n last p (omega arith) (right _ _ h) [] refl))
 stat_by n (layer.Scoped names body) p l h xs k = one n xs _ k (scoped_is n names _ (stats_walk n body p l h [] refl))
-stat_by n (layer.Yield value kind result) p l h xs k = said_are n (λ e. stat.Yield e kind result) (value.1 p) xs (value.2 p l h) (λ e. yield_is n e kind result) k
+stat_by n (layer.Yield value kind result) p l h xs k = said_are n (λ e. stat.Yield e kind result) (value.1 p) xs (value.2 p (omega arith) h) (λ e. yield_is n e kind result) k
 
 stat_kept : (n : ℕ) (z : Stats (shown n)) → OfStat n (roll-CoreStat (stat_first (shown n) z)) (s.stat_step (stat_second (shown n) z))
 stat_kept n z p l h xs k =
@@ -153,10 +154,10 @@ stat_kept n z p l h xs k =
 keeps : (n : ℕ) → Keeps (shown n)
 keeps n = record { link = link_kept n; stat = stat_kept n; case = case_kept n; expr = expr_kept n }
 
-pub stats_spilled_are : (n : ℕ) (ss : List CoreStat) (p : Place) → p.label + rooms.stats_make ss ≤ n → Are n ss → (xs : List CoreStat) → Are n xs → Are n (s.all_at (map s.stat_spilled ss) p xs)
+pub stats_spilled_are : (n : ℕ) (ss : List CoreStat) (p : Place) → p.label + before.stats_states ss ≤ n → Are n ss → (xs : List CoreStat) → Are n xs → Are n (s.all_at (map s.stat_spilled ss) p xs)
 stats_spilled_are n [] p l h xs k = k
 stats_spilled_are n (y ∷ ss) p l h xs k =
-    let a = rooms.stats_make ss in let c = of_stat makes y in
+    let a = before.stats_states ss in let c = of_stat makes y in
     stats_spilled_are n ss p (omega arith) (right _ _ h) (s.stat_spilled y p xs) (stat_induced (shown n) (keeps n) y p (omega arith) (left _ _ h) xs k)
 
 -- ## Functions, parts and the core

@@ -1,19 +1,22 @@
 //! Laws of what the passes make of cores that can be written. Each is the contract of a function that does nothing.
 #![tactic(auto)]
 
-ghost use Rattle.writable_passes.specs.Laws.{MachinesKeepWritable, ScopesKeepWritable, YieldsKeepWritable};
+ghost use Rattle.writable_passes.specs.Laws.{AllKeepWritable, MachinesKeepWritable, ScopesKeepRoom, ScopesKeepWritable, YieldsKeepWritable, YieldsLeaveRoom};
 
-/// A core that can be written can be so behind the flattening of scopes.
+/// A core that can be written can be so behind the flattening of scopes, and labels have as much room.
 pub fn cores_stay_writable_without_scopes()
-    ensures { ScopesKeepWritable }
+    ensures writable { ScopesKeepWritable }
+    ensures room { ScopesKeepRoom }
 {}
 
-/// And behind that of yields, if the labels that it may make fit, and so many names.
+/// And behind that of yields, if labels have room, and so many names; the labels of turns have theirs then.
 pub fn cores_stay_writable_without_yields()
-    ensures { YieldsKeepWritable }
+    ensures writable { YieldsKeepWritable }
+    ensures room { YieldsLeaveRoom }
 {}
 
-/// And behind the states of generators, if the labels of their turns fit, and so many names.
+/// And behind the states of generators; so behind all three passes.
 pub fn cores_stay_writable_with_machines()
-    ensures { MachinesKeepWritable }
+    ensures machines { MachinesKeepWritable }
+    ensures all { AllKeepWritable }
 {}
