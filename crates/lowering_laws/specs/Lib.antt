@@ -1,0 +1,3 @@
+pub mod InRound
+pub mod Expressions
+pub mod Statements

@@ -1,0 +1,47 @@
+//! Laws of what the lowering makes: of lawful parts, what is lawful. Each is the contract of a function that does nothing.
+#![tactic(auto)]
+
+ghost use Rattle.lowering_laws.specs.Expressions.{CallsAreLawful, ConstructionsAreLawful, HostCallsAreLawful, ListsAreLawful, SpreadCallsAreLawful, SpreadHostCallsAreLawful, TagsAreLawful, TemplateObjectsAreLawful, TemplatesAreLawful};
+ghost use Rattle.lowering_laws.specs.Statements.{BlocksAreLawful, ChoicesAreLawful, DeclarationsAreLawful, DoWhileIsLawful, ForIsLawful, ForOfIsLawful, JumpsAreLawful, LabelledAreLawful, PlacesDiffer, ReturnsAreLawful, SwitchesAreLawful, TriesAreLawful, WhileIsLawful};
+
+/// Templates and lists of lawful values are lawful.
+pub fn lists_are_lawful()
+    ensures templates { TemplatesAreLawful }
+    ensures objects { TemplateObjectsAreLawful }
+    ensures lists { ListsAreLawful }
+{}
+
+/// Calls of lawful functions with lawful arguments are lawful, and those of hosts, which alone have places.
+pub fn calls_are_lawful()
+    ensures calls { CallsAreLawful }
+    ensures spread { SpreadCallsAreLawful }
+    ensures hosts { HostCallsAreLawful }
+    ensures spread_hosts { SpreadHostCallsAreLawful }
+    ensures constructions { ConstructionsAreLawful }
+    ensures tags { TagsAreLawful }
+{}
+
+/// Statements of lawful parts are lawful.
+pub fn statements_are_lawful()
+    ensures blocks { BlocksAreLawful }
+    ensures declarations { DeclarationsAreLawful }
+    ensures jumps { JumpsAreLawful }
+    ensures labelled { LabelledAreLawful }
+    ensures choices { ChoicesAreLawful }
+    ensures switches { SwitchesAreLawful }
+    ensures returns { ReturnsAreLawful }
+    ensures tries { TriesAreLawful }
+{}
+
+/// Loops of lawful parts are lawful.
+pub fn loops_are_lawful()
+    ensures while_loops { WhileIsLawful }
+    ensures do_while { DoWhileIsLawful }
+    ensures for_loops { ForIsLawful }
+    ensures for_of { ForOfIsLawful }
+{}
+
+/// The labels of a place are those of no other place, and its two differ.
+pub fn labels_of_places_differ()
+    ensures { PlacesDiffer }
+{}
