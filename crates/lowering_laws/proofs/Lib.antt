@@ -1,2 +1,4 @@
 pub mod Expressions
 pub mod Statements
+pub mod Patterns
+pub mod References

@@ -35,28 +35,28 @@ use Rattle.pass_rules.proofs.pass_laws.Within.{left, right, both, either}
 
 -- ## Small statements
 
-stored_is : (r : Round) (x : Var) (e : CoreExpr) → Drawn r x → Sound r e → Sound r (stored x e)
+pub stored_is : (r : Round) (x : Var) (e : CoreExpr) → Drawn r x → Sound r e → Sound r (stored x e)
 stored_is r x e d h = acted r (op.Set x) e plainly refl refl d h
 
-set_is : (r : Round) (x : Var) (e : CoreExpr) → Drawn r x → Sound r e → Is r (set x e)
+pub set_is : (r : Round) (x : Var) (e : CoreExpr) → Drawn r x → Sound r e → Is r (set x e)
 set_is r x e d h = do_is r _ (stored_is r x e d h)
 
-initialize_is : (r : Round) (x : Var) (e : CoreExpr) → Drawn r x → Sound r e → Is r (initialize x e)
+pub initialize_is : (r : Round) (x : Var) (e : CoreExpr) → Drawn r x → Sound r e → Is r (initialize x e)
 initialize_is r x e d h = do_is r _ (acted r (op.Init x) e plainly refl refl d h)
 
-undefined_is : (r : Round) → Sound r undefined
+pub undefined_is : (r : Round) → Sound r undefined
 undefined_is r = constant_is r Undefined refl
 
-flag_is : (r : Round) (b : Bool) → Sound r (flag b)
+pub flag_is : (r : Round) (b : Bool) → Sound r (flag b)
 flag_is r b = constant_is r (Truth b) refl
 
-then_is : (r : Round) (x y : CoreExpr) → Sound r x → Sound r y → Sound r (then x y)
+pub then_is : (r : Round) (x y : CoreExpr) → Sound r x → Sound r y → Sound r (then x y)
 then_is r x y h k = behind r op.Then (y ∷ []) x plainly refl refl refl (both k refl) h
 
-scoped_are : (r : Round) (names : List ScopedName) (body : List CoreStat) → lawful.names_drawn names r ≡ true → Are r body → Are r (scoped names body)
+pub scoped_are : (r : Round) (names : List ScopedName) (body : List CoreStat) → lawful.names_drawn names r ≡ true → Are r body → Are r (scoped names body)
 scoped_are r names body h k = either (Are r) (is_empty names) {x = body} {y = stat.Scoped names body ∷ []} k (both (rolled_is r _ (layer.Scoped names body) (stat.rolls-Scoped names body) (both h k)) refl)
 
-hoisted_are : (r : Round) (functions : List Declared) → list_all (declared_lawful r) functions ≡ true → Are r (map s.hoisted functions)
+pub hoisted_are : (r : Round) (functions : List Declared) → list_all (declared_lawful r) functions ≡ true → Are r (map s.hoisted functions)
 hoisted_are r [] h = refl
 hoisted_are r (d ∷ functions) h = both (initialize_is r d.var (closure d.function) (left _ _ (left _ _ h)) (list_is r (head.Function d.function) [] refl (right _ _ (left _ _ h)) tt)) (hoisted_are r functions (right _ _ h))
 
@@ -98,7 +98,7 @@ choices_are_lawful r first more other h k = if_is r _ (cases_are r (first ∷ mo
 
 -- ## Loops
 
-loop_is : (r : Round) (labels : List Label) (test update : Option CoreExpr) (body : List CoreStat) → (list_all (lawful.is_new r) labels && lawful.all_differ (map (λ (l : Label). l.0) labels)) ≡ true → IsLawfulIfThere r test → IsLawfulIfThere r update → Are (lawful.in_loop labels r) body → Is r (stat.Loop labels test update body)
+pub loop_is : (r : Round) (labels : List Label) (test update : Option CoreExpr) (body : List CoreStat) → (list_all (lawful.is_new r) labels && lawful.all_differ (map (λ (l : Label). l.0) labels)) ≡ true → IsLawfulIfThere r test → IsLawfulIfThere r update → Are (lawful.in_loop labels r) body → Is r (stat.Loop labels test update body)
 loop_is r labels None None body a t u h = rolled_is r _ (layer.Loop labels None None body) (stat.rolls-Loop labels None None body) (both (both (both a refl) refl) h)
 loop_is r labels None (Some y) body a t u h = rolled_is r _ (layer.Loop labels None (Some y) body) (stat.rolls-Loop labels None (Some y) body) (both (both (both a refl) u) h)
 loop_is r labels (Some x) None body a t u h = rolled_is r _ (layer.Loop labels (Some x) None body) (stat.rolls-Loop labels (Some x) None body) (both (both (both a t) refl) h)
@@ -180,9 +180,12 @@ tries_are_lawful r stats handler last h k m = ended_are r _ last (caught_are r s
 
 -- ## For-of
 
+pub stepped_is : (r : Round) (p : Iteration) → IterationIsDrawn r p → Sound r (i.stepped p)
+stepped_is r p d = stored_is r p.result _ d.2 (acted r (op.Primitive IterStep) (variable p.iterator) plainly refl refl refl (variable_is r p.iterator d.0))
+
 step_is : (r : Round) (p : Iteration) → IterationIsDrawn r p → Sound r (i.next_turn p)
 step_is r p d =
-    then_is r _ _ (then_is r _ _ (stored_is r p.is_open (flag false) d.1 (flag_is r false)) (stored_is r p.result _ d.2 (acted r (op.Primitive IterStep) (variable p.iterator) plainly refl refl refl (variable_is r p.iterator d.0))))
+    then_is r _ _ (then_is r _ _ (stored_is r p.is_open (flag false) d.1 (flag_is r false)) (stepped_is r p d))
     (behind r (op.Operator NotSame) (flag false ∷ []) (variable p.result) plainly refl refl refl (both (flag_is r false) refl) (variable_is r p.result d.2))
 
 closed_is : (r : Round) (p : Iteration) (throws : Bool) → IterationIsDrawn r p → Is r (i.closed p throws)

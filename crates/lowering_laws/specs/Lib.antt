@@ -1,3 +1,5 @@
 pub mod InRound
 pub mod Expressions
 pub mod Statements
+pub mod Patterns
+pub mod References

@@ -2,6 +2,8 @@
 #![tactic(auto)]
 
 ghost use Rattle.lowering_laws.specs.Expressions.{CallsAreLawful, ConstructionsAreLawful, HostCallsAreLawful, ListsAreLawful, SpreadCallsAreLawful, SpreadHostCallsAreLawful, TagsAreLawful, TemplateObjectsAreLawful, TemplatesAreLawful};
+ghost use Rattle.lowering_laws.specs.Patterns.{ArrayPatternsAreLawful, AssignedTargetsAreLawful, DeclaredTargetsAreLawful, MemberTargetsAreLawful, ObjectPatternsAreLawful};
+ghost use Rattle.lowering_laws.specs.References.{AssignmentsAreLawful, CompoundsAreLawful, NewAreLawful, ReachedCallsAreLawful, ReachedTagsAreLawful, ReadsAreLawful, UpdatesAreLawful};
 ghost use Rattle.lowering_laws.specs.Statements.{BlocksAreLawful, ChoicesAreLawful, DeclarationsAreLawful, DoWhileIsLawful, ForIsLawful, ForOfIsLawful, JumpsAreLawful, LabelledAreLawful, PlacesDiffer, ReturnsAreLawful, SwitchesAreLawful, TriesAreLawful, WhileIsLawful};
 
 /// Templates and lists of lawful values are lawful.
@@ -39,6 +41,26 @@ pub fn loops_are_lawful()
     ensures do_while { DoWhileIsLawful }
     ensures for_loops { ForIsLawful }
     ensures for_of { ForOfIsLawful }
+{}
+
+/// Patterns of lawful parts are lawful.
+pub fn patterns_are_lawful()
+    ensures declared { DeclaredTargetsAreLawful }
+    ensures assigned { AssignedTargetsAreLawful }
+    ensures members { MemberTargetsAreLawful }
+    ensures objects { ObjectPatternsAreLawful }
+    ensures arrays { ArrayPatternsAreLawful }
+{}
+
+/// What is done to what a lawful expression comes to is lawful, where the names are drawn that it draws.
+pub fn references_are_lawful()
+    ensures reads { ReadsAreLawful }
+    ensures constructions { NewAreLawful }
+    ensures assignments { AssignmentsAreLawful }
+    ensures compounds { CompoundsAreLawful }
+    ensures updates { UpdatesAreLawful }
+    ensures calls { ReachedCallsAreLawful }
+    ensures tags { ReachedTagsAreLawful }
 {}
 
 /// The labels of a place are those of no other place, and its two differ.
