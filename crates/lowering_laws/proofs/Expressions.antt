@@ -56,11 +56,11 @@ abbrev pub AllPlain : Round → List CoreLink → Type 0
 AllPlain r [] = Unit {0}
 AllPlain r (l ∷ ls) = PlainLink r l × AllPlain r ls
 
-all_more : (r : Round) (ls ks : List CoreLink) → AllPlain r ls → AllPlain r ks → AllPlain r (ls ++ ks)
+pub all_more : (r : Round) (ls ks : List CoreLink) → AllPlain r ls → AllPlain r ks → AllPlain r (ls ++ ks)
 all_more r [] ks h k = k
 all_more r (l ∷ ls) ks h k = (h.0, all_more r ls ks h.1 k)
 
-plain_strict : (r : Round) (o : CoreOp) (parts : List CoreExpr) → lawful.may_stand_behind Plain o ≡ true → lawful.gives o ≡ Plain → lawful.takes o (length (map (of_expr laws) parts)) ≡ true → lawful.op_lawful o r ≡ true → lawful.all_lawful (map (of_expr laws) parts) r ≡ true → PlainLink r (link.Strict o parts None)
+pub plain_strict : (r : Round) (o : CoreOp) (parts : List CoreExpr) → lawful.may_stand_behind Plain o ≡ true → lawful.gives o ≡ Plain → lawful.takes o (length (map (of_expr laws) parts)) ≡ true → lawful.op_lawful o r ≡ true → lawful.all_lawful (map (of_expr laws) parts) r ≡ true → PlainLink r (link.Strict o parts None)
 plain_strict r o parts b g t m q =
     let j = strict_joint o parts None in
     record {
@@ -88,7 +88,7 @@ list_is r h ls b k p =
 
 -- ## Templates and lists
 
-text_is : (r : Round) (units : List ℕ) → Sound r (text units)
+pub text_is : (r : Round) (units : List ℕ) → Sound r (text units)
 text_is r units = constant_is r (Text units) refl
 
 element_plain : (r : Round) (x : CoreExpr) → Sound r x → PlainLink r (acting op.Element x)

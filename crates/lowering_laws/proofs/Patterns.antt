@@ -71,7 +71,7 @@ base_check_is r x d = do_is r _ (property_sound r _ (name_far r (variable x) (Te
 
 -- ## Targets
 
-defaulted_are : (r : Round) (x : Var) (default : Option CoreExpr) → Drawn r x → IsLawfulIfThere r default → Are r (defaulted x default)
+pub defaulted_are : (r : Round) (x : Var) (default : Option CoreExpr) → Drawn r x → IsLawfulIfThere r default → Are r (defaulted x default)
 unfolding defaulted
 defaulted_are r x None d h = refl
 defaulted_are r x (Some e) d h = both (when_is r _ _ (behind r (op.Operator Same) (undefined ∷ []) (variable x) plainly refl refl refl (both (undefined_is r) refl) (variable_is r x d)) (both (set_is r x e d h) refl)) refl

@@ -46,20 +46,20 @@ use Rattle.pass_rules.proofs.pass_laws.Within.{left, right, both, either}
 
 -- ## Names that are drawn
 
-abbrev size : Names → ℕ
+abbrev pub size : Names → ℕ
 size n = length n.fresh.hints
 
-one_more : (n : Names) → size (with_temporary n) ≡ size n + 1
+pub one_more : (n : Names) → size (with_temporary n) ≡ size n + 1
 one_more n = let a = length-append n.fresh.hints (None ∷ []) in omega arith
 
 -- with more names
-raise : (r : Round) (n m : Names) (x : CoreExpr) → size n ≤ size m → Sound (with_names n r) x → Sound (with_names m r) x
+pub raise : (r : Round) (n m : Names) (x : CoreExpr) → size n ≤ size m → Sound (with_names n r) x → Sound (with_names m r) x
 raise r n m x l h = expr_raised (size m) x (with_names n r) l h
 
 raise_var : (r : Round) (n m : Names) (x : Var) → size n ≤ size m → Drawn (with_names n r) x → Drawn (with_names m r) x
 raise_var r n m x l h = let a = ltb-true x.0 (size n) h in lt-ltb x.0 (size m) (omega arith)
 
-new_drawn : (r : Round) (n m : Names) → size n < size m → Drawn (with_names m r) (next n.fresh)
+pub new_drawn : (r : Round) (n m : Names) → size n < size m → Drawn (with_names m r) (next n.fresh)
 new_drawn r n m l = lt-ltb (size n) (size m) l
 
 raise_name : (r : Round) (n m : Names) (x : MemberName) → size n ≤ size m → name_lawful (with_names n r) x ≡ true → name_lawful (with_names m r) x ≡ true

@@ -3,3 +3,4 @@ pub mod Expressions
 pub mod Statements
 pub mod Patterns
 pub mod References
+pub mod Classes

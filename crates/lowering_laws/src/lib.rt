@@ -1,6 +1,7 @@
 //! Laws of what the lowering makes: of lawful parts, what is lawful. Each is the contract of a function that does nothing.
 #![tactic(auto)]
 
+ghost use Rattle.lowering_laws.specs.Classes.{ClassesAreLawful, DefaultBodiesAreLawful, ObjectsAreLawful, ParametersAreLawful, SuperIsLawful, ThisIsLawful};
 ghost use Rattle.lowering_laws.specs.Expressions.{CallsAreLawful, ConstructionsAreLawful, HostCallsAreLawful, ListsAreLawful, SpreadCallsAreLawful, SpreadHostCallsAreLawful, TagsAreLawful, TemplateObjectsAreLawful, TemplatesAreLawful};
 ghost use Rattle.lowering_laws.specs.Patterns.{ArrayPatternsAreLawful, AssignedTargetsAreLawful, DeclaredTargetsAreLawful, MemberTargetsAreLawful, ObjectPatternsAreLawful};
 ghost use Rattle.lowering_laws.specs.References.{AssignmentsAreLawful, CompoundsAreLawful, NewAreLawful, ReachedCallsAreLawful, ReachedTagsAreLawful, ReadsAreLawful, UpdatesAreLawful};
@@ -61,6 +62,16 @@ pub fn references_are_lawful()
     ensures updates { UpdatesAreLawful }
     ensures calls { ReachedCallsAreLawful }
     ensures tags { ReachedTagsAreLawful }
+{}
+
+/// Object literals, classes, `super` and the binding of parameters are lawful, of lawful parts.
+pub fn classes_are_lawful()
+    ensures objects { ObjectsAreLawful }
+    ensures this { ThisIsLawful }
+    ensures inherited { SuperIsLawful }
+    ensures bodies { DefaultBodiesAreLawful }
+    ensures classes { ClassesAreLawful }
+    ensures parameters { ParametersAreLawful }
 {}
 
 /// The labels of a place are those of no other place, and its two differ.
