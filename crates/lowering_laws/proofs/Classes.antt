@@ -50,7 +50,7 @@ use Rattle.pass_rules.proofs.pass_laws.Within.{left, right, both, either}
 
 -- ## Functions that are held
 
-closure_is : (r : Round) (g : FunctionId) → nat_lt g.0 r.functions ≡ true → Sound r (c.closure g)
+pub closure_is : (r : Round) (g : FunctionId) → nat_lt g.0 r.functions ≡ true → Sound r (c.closure g)
 closure_is r g h = list_is r (head.Function g) [] refl h tt
 
 put_is : (r : Round) (kind : MemberKind) (key : CoreExpr) (g : FunctionId) (object : CoreExpr) → Sound r key → nat_lt g.0 r.functions ≡ true → Sound r object → Sound r (c.put kind key g object)
@@ -202,10 +202,10 @@ classes_are_lawful r names (Some name) heritage g ms d e n h k m =
 
 -- ## Parameters
 
-uninitialized_is : (r : Round) (x : Var) → Drawn r x → Is r (uninitialized x)
+pub uninitialized_is : (r : Round) (x : Var) → Drawn r x → Is r (uninitialized x)
 uninitialized_is r x d = do_is r _ (list_is r head.Empty (act (op.Init x) ∷ []) refl refl (plain_strict r (op.Init x) [] refl refl refl d refl, tt))
 
-uninitialized_are : (r : Round) (xs : List Var) → list_all (lawful.is_drawn r) xs ≡ true → Are r (map uninitialized xs)
+pub uninitialized_are : (r : Round) (xs : List Var) → list_all (lawful.is_drawn r) xs ≡ true → Are r (map uninitialized xs)
 uninitialized_are r [] h = refl
 uninitialized_are r (x ∷ xs) h = both (uninitialized_is r x (left _ _ h)) (uninitialized_are r xs (right _ _ h))
 

@@ -3,3 +3,4 @@ pub mod Statements
 pub mod Patterns
 pub mod References
 pub mod Classes
+pub mod Bodies

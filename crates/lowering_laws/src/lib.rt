@@ -1,6 +1,7 @@
 //! Laws of what the lowering makes: of lawful parts, what is lawful. Each is the contract of a function that does nothing.
 #![tactic(auto)]
 
+ghost use Rattle.lowering_laws.specs.Bodies.{BegunAreLawful, GettersAreLawful, InstantiationKeepsLaw, NamedFunctionsAreLawful, NamespacesAreLawful, ParametersKeepLaw, PartsAreLawful, StatementsKeepLaw};
 ghost use Rattle.lowering_laws.specs.Classes.{ClassesAreLawful, DefaultBodiesAreLawful, ObjectsAreLawful, ParametersAreLawful, SuperIsLawful, ThisIsLawful};
 ghost use Rattle.lowering_laws.specs.Expressions.{CallsAreLawful, ConstructionsAreLawful, HostCallsAreLawful, ListsAreLawful, SpreadCallsAreLawful, SpreadHostCallsAreLawful, TagsAreLawful, TemplateObjectsAreLawful, TemplatesAreLawful};
 ghost use Rattle.lowering_laws.specs.Patterns.{ArrayPatternsAreLawful, AssignedTargetsAreLawful, DeclaredTargetsAreLawful, MemberTargetsAreLawful, ObjectPatternsAreLawful};
@@ -72,6 +73,18 @@ pub fn classes_are_lawful()
     ensures bodies { DefaultBodiesAreLawful }
     ensures classes { ClassesAreLawful }
     ensures parameters { ParametersAreLawful }
+{}
+
+/// Functions, namespace objects and parts of modules are lawful, of lawful parts.
+pub fn bodies_are_lawful()
+    ensures begun { BegunAreLawful }
+    ensures parameters { ParametersKeepLaw }
+    ensures instantiated { InstantiationKeepsLaw }
+    ensures statements { StatementsKeepLaw }
+    ensures getters { GettersAreLawful }
+    ensures named { NamedFunctionsAreLawful }
+    ensures namespaces { NamespacesAreLawful }
+    ensures parts { PartsAreLawful }
 {}
 
 /// The labels of a place are those of no other place, and its two differ.
