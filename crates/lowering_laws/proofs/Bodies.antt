@@ -1,10 +1,10 @@
 -- Functions, namespace objects and parts of modules are lawful.
 use Rattle.std.specs.List.{flat_map, list_all}
-use Rattle.std.proofs.Common.{◌≡◌, ℕ, Bool, true, ◌&&◌, nat_lt, List, [], ◌∷◌, ◌++◌, map, Option, None, Some, refl, sym, ap, subst, ◌∙◌}
+use Rattle.std.proofs.Common.{◌≡◌, ℕ, ◌+◌, Bool, true, false, ◌&&◌, not, nat_lt, List, [], ◌∷◌, ◌++◌, map, Option, None, Some, refl, sym, ap, arith, subst, ◌∙◌}
 use Rattle.core_ast.specs.declared.parts.CoreHead.TheVariants as head
 use Rattle.core_ast.specs.declared.parts.CoreOp.TheVariants as op
 use Rattle.core_ast.specs.declared.parts.Constant.TheVariants.{Undefined}
-use Rattle.core_ast.specs.declared.parts.Primitive.TheVariants.{IncludesPut, NamespaceMake, NewTarget}
+use Rattle.core_ast.specs.declared.parts.Primitive.TheVariants.{ClassGuard, IncludesPut, NamespaceMake, NewTarget}
 use Rattle.core_ast.specs.declared.parts.ScopedName.{ScopedName}
 use Rattle.core_ast.specs.declared.parts.Var.{Var}
 use Rattle.core_ast.specs.declared.tree.CoreExpr.{CoreExpr}
@@ -15,18 +15,19 @@ use Rattle.core_ast.specs.declared.tree.CoreStat.TheVariants as stat
 use Rattle.core_ast.specs.declared.whole.CoreFunction.{CoreFunction}
 use Rattle.core_ast.specs.Lawful as lawful
 use Rattle.core_ast.specs.Lawful.{Round, all_differ, is_generator, number_of, numbers, own_names, resumed}
-use Rattle.core_ast.specs.Made.{expression, variable}
-use Rattle.lawful_passes.proofs.Far.{Are, do_is, joint, joined, return_is, rolled_is, variable_is}
+use Rattle.core_ast.specs.Made.{expression, linked, variable}
+use Rattle.lawful_passes.proofs.Far.{Are, SoFar, do_is, done_is, joint, joined, linked_far, more_sites, return_is, rolled_is, site_count, variable_is}
 use Rattle.lawful_passes.proofs.Kept.{all_both, all_left, all_right, numbers_more, vars_numbers}
 use Rattle.lawful_passes.proofs.Spilling.{Sound}
-use Rattle.lowering_laws.specs.Bodies.{BegunAreLawful, GettersAreLawful, InstantiationKeepsLaw, NamedFunctionsAreLawful, NamespacesAreLawful, ParametersKeepLaw, PartsAreLawful, StatementsKeepLaw, if_var, inner, namespace_lawful, outer}
+use Rattle.lawful_passes.proofs.Stepping.{sound_whole}
+use Rattle.lowering_laws.specs.Bodies.{BegunAreLawful, ConciseAreLawful, DeclaredAreLawful, GettersAreLawful, InstantiationKeepsLaw, KindsKeepLaw, NamedFunctionsAreLawful, NamespacesAreLawful, ParametersKeepLaw, PartsAreLawful, RunAreLawful, StatementsKeepLaw, if_var, inner, namespace_lawful, outer}
 use Rattle.lowering_laws.specs.Classes.{parameter_lawful}
 use Rattle.lowering_laws.proofs.Classes.{closure_is, parameters_are_lawful, uninitialized_is}
 use Rattle.lowering_laws.proofs.Expressions.{AllPlain, PlainLink, acted, all_more, list_is, plain_strict, plainly, text_is}
-use Rattle.lowering_laws.proofs.Statements.{hoisted_are, initialize_is, set_is}
-use Rattle.lowering_rules.specs.Classes.{closure}
-use Rattle.lowering_rules.specs.Functions.{parameters_bound, with_parameters}
-use Rattle.lowering_rules.specs.Making.{primitive, text, uninitialized}
+use Rattle.lowering_laws.proofs.Statements.{hoisted_are, initialize_is, set_is, stored_is, then_is}
+use Rattle.lowering_rules.specs.Classes.{closure, constructor}
+use Rattle.lowering_rules.specs.Functions.{arrow, parameters_bound, with_parameters}
+use Rattle.lowering_rules.specs.Making.{primitive, stored, text, uninitialized}
 use Rattle.lowering_rules.specs.declared.functions.Parameter.{Parameter}
 use Rattle.lowering_rules.specs.declared.statement_rules.bodies.Export.{Export}
 use Rattle.lowering_rules.specs.declared.statement_rules.bodies.Namespace.{Namespace}
@@ -189,6 +190,45 @@ statements_keep_law names hosts number f stats temporaries h drawn k =
       step = q.step;
     })
 
+not_generating : (b : Bool) → not b ≡ true → b ≡ false
+not_generating false h = refl
+not_generating true h = sym h
+
+pub kinds_keep_law : KindsKeepLaw
+kinds_keep_law names hosts number f derived g h =
+    let q = parted names hosts number f h in let r = outer names hosts number in
+    let plain = subst (λ b. Are (lawful.round_function names hosts number b) f.body) (not_generating (is_generator f.kind) g) q.body in (
+      whole names hosts number (arrow f) (record {
+        own = q.own;
+        parameters = q.parameters;
+        arguments = q.arguments;
+        locals = q.locals;
+        resumed = q.resumed;
+        cells = q.cells;
+        differ = q.differ;
+        declared = q.declared;
+        setup = q.setup;
+        body = plain;
+        step = q.step;
+      }),
+      whole names hosts number (constructor derived f) (record {
+        own = q.own;
+        parameters = q.parameters;
+        arguments = q.arguments;
+        locals = q.locals;
+        resumed = q.resumed;
+        cells = q.cells;
+        differ = q.differ;
+        declared = q.declared;
+        setup = both (do_is r _ (list_is r (head.Primitive ClassGuard) [] refl refl tt)) q.setup;
+        body = plain;
+        step = q.step;
+      }),
+    )
+
+pub concise_are_lawful : ConciseAreLawful
+concise_are_lawful r value h k = both (return_is r value h k) refl
+
 pub getters_are_lawful : GettersAreLawful
 getters_are_lawful names hosts number value h =
     let r = outer names hosts number in
@@ -208,11 +248,32 @@ getters_are_lawful names hosts number value h =
 
 -- ## What statements make
 
+run_joint : (ss : List CoreStat) → joint (link.Run ss) ≡ lawful.link_step (layer.Run (map (of_stat laws) ss))
+run_joint ss = ap joint (sym (link.rolls-Run ss)) ∙ link_rolled laws (layer.Run ss)
+
 run_plain : (r : Round) (ss : List CoreStat) → Are r ss → PlainLink r (link.Run ss)
-run_plain r ss h = record { ends = ap (λ i. lawful.behind lawful.Plain i.ends) j; after = ap (λ i. lawful.after i.ends) j; site = ap (λ i. i.site) j; lawful = ap (λ i. i.lawful r) j ∙ h }
-  where
-    j : joint (link.Run ss) ≡ lawful.link_step (layer.Run (map (of_stat laws) ss))
-    j = ap joint (sym (link.rolls-Run ss)) ∙ link_rolled laws (layer.Run ss)
+run_plain r ss h =
+    let j = run_joint ss in
+    record { ends = ap (λ i. lawful.behind lawful.Plain i.ends) j; after = ap (λ i. lawful.after i.ends) j; site = ap (λ i. i.site) j; lawful = ap (λ i. i.lawful r) j ∙ h }
+
+-- statements may run behind any value
+ran : (r : Round) (ss : List CoreStat) (x : CoreExpr) → Are r ss → Sound r x → Sound r (linked x (link.Run ss))
+ran r ss x h k =
+    let w = sound_whole r x k in let j = run_joint ss in
+    let far = linked_far r w.at 1 x (link.Run ss) w.far (ap (λ i. lawful.behind w.at i.ends) j ∙ plainly w.at w.plain) (ap (λ i. i.lawful r) j ∙ h) in
+    done_is r lawful.Plain _ (more_sites r lawful.Plain (1 + 0) 1 _ (omega arith) (subst (λ i. SoFar r (lawful.after i.ends) (1 + site_count i.site) (linked x (link.Run ss))) j far)) refl
+
+pub run_are_lawful : RunAreLawful
+run_are_lawful r ss value kept h k = (
+  list_is r (head.Constant Undefined) _ refl refl (run_plain r ss h, (plain_strict r op.Then (value ∷ []) refl refl refl refl (both k refl), tt)),
+  λ d. then_is r _ (variable kept) (ran r ss (stored kept value) h (stored_is r kept value d k)) (variable_is r kept d),
+)
+
+pub declared_are_lawful : DeclaredAreLawful
+declared_are_lawful r x class ss value d = (
+  λ e h. joined r ss _ h (both (initialize_is r x (variable class) d (variable_is r class e)) refl),
+  λ h. initialize_is r x value d h,
+)
 
 pub named_functions_are_lawful : NamedFunctionsAreLawful
 named_functions_are_lawful r kept name g d e h =

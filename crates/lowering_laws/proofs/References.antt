@@ -251,13 +251,14 @@ callee_is r listed (Variable t imported) n h = record { more = omega arith; func
 callee_is r listed (Inherited x this) n h = record { more = omega arith; function = left _ _ h; receiver = right _ _ h }
 callee_is r listed (OfProperty object name) n h =
     let m = with_temporary n in let l = one_more n in let after = with_names m r in let d = new_drawn r n m (omega arith) in let v = next n.fresh in
+    let same : size n ≤ size n = omega arith in
     let kept : CalleeIs r n (s.callee_kept object name n).value (s.callee_kept object name n).names = record {
       more = omega arith;
       function = read_of after (stored v object) name (stored_is after v object d (raise r n m object (omega arith) (left _ _ h))) (raise_name r n m name (omega arith) (right _ _ h));
       receiver = variable_is after v d;
     } in
     either (λ (q : naming.Drawn Callee). CalleeIs r n q.value q.names) (listed || s.is_iterator name) kept
-    (record { more = omega arith; function = property_sound (with_names n r) _ (reference_far (with_names n r) object name (left _ _ h) (right _ _ h)); receiver = refl })
+    (record { more = same; function = property_sound (with_names n r) _ (reference_far (with_names n r) object name (left _ _ h) (right _ _ h)); receiver = refl })
 
 raise_part : (r : Round) (n m : Names) (x : ListPart) → size n ≤ size m → part_lawful (with_names n r) x ≡ true → part_lawful (with_names m r) x ≡ true
 raise_part r n m (Single x) l h = raise r n m x l h

@@ -1,5 +1,5 @@
 -- Functions, namespace objects and parts of modules are lawful, of lawful parts.
-use Rattle.std.specs.Prelude.{ℕ, Bool, true, false, ◌&&◌, nat_lt, length, List, map, Option, None, Some, IsTrue}
+use Rattle.std.specs.Prelude.{ℕ, Bool, true, false, ◌&&◌, not, nat_lt, length, List, map, Option, None, Some, IsTrue}
 use Rattle.std.specs.List.{list_all}
 use Rattle.core_ast.specs.declared.parts.FunctionId.{FunctionId}
 use Rattle.core_ast.specs.declared.parts.ScopedName.{ScopedName}
@@ -11,7 +11,8 @@ use Rattle.core_ast.specs.declared.whole.CoreKind.{CoreKind}
 use Rattle.core_ast.specs.Lawful.{Round, all_differ, function_lawful, is_drawn, is_generator, is_safe, names_drawn, numbers, part_lawful, round_function, round_part}
 use Rattle.lowering_laws.specs.Classes.{begun_lawful, parameter_lawful, rest_lawful}
 use Rattle.lowering_laws.specs.InRound.{AreLawful, Drawn, IsLawful, IsLawfulStat, declared_lawful}
-use Rattle.lowering_rules.specs.Functions.{with_parameters}
+use Rattle.lowering_rules.specs.Classes.{constructor}
+use Rattle.lowering_rules.specs.Functions.{arrow, concise, with_parameters}
 use Rattle.lowering_rules.specs.declared.functions.Parameter.{Parameter}
 use Rattle.lowering_rules.specs.declared.functions.ParameterScope.{ParameterScope}
 use Rattle.lowering_rules.specs.declared.functions.RestParameter.{RestParameter}
@@ -20,7 +21,9 @@ use Rattle.lowering_rules.specs.declared.statement_rules.bodies.Export.{Export}
 use Rattle.lowering_rules.specs.declared.statement_rules.bodies.ModuleScope.{ModuleScope}
 use Rattle.lowering_rules.specs.declared.statement_rules.bodies.Namespace.{Namespace}
 use Rattle.lowering_rules.specs.declared.statement_rules.bodies.Receiver.{Receiver}
-use Rattle.lowering_rules.specs.statement_rules.Bodies.{begun, export_getter, instantiated, named_function, namespace_made, part, with_statements}
+use Rattle.lowering_rules.specs.reference_rules.References.{pattern_assigned}
+use Rattle.lowering_rules.specs.statement_rules.Bodies.{after_running, begun, default_exported, export_getter, instantiated, named_function, namespace_made, part, with_statements}
+use Rattle.lowering_rules.specs.statement_rules.Statements.{class_declared}
 
 abbrev pub if_var : Round → Option Var → Bool
 if_var r None = true
@@ -65,6 +68,15 @@ StatementsKeepLaw = (names hosts number : ℕ) (f : CoreFunction) (stats : List 
     → AreLawful (inner names hosts number f) stats
     → IsTrue (function_lawful names hosts number (with_statements stats temporaries f))
 
+-- only a generator's body may yield: that of an arrow function doesn't, nor that of a class
+abbrev pub KindsKeepLaw : Type 0
+KindsKeepLaw = (names hosts number : ℕ) (f : CoreFunction) (derived : Bool)
+    → IsTrue (not (is_generator f.kind)) → IsTrue (function_lawful names hosts number f)
+    → IsTrue (function_lawful names hosts number (arrow f)) × IsTrue (function_lawful names hosts number (constructor derived f))
+
+abbrev pub ConciseAreLawful : Type 0
+ConciseAreLawful = (r : Round) (value : CoreExpr) → IsTrue r.returns → IsLawful r value → AreLawful r (concise value)
+
 -- what reads the binding of an export
 abbrev pub GettersAreLawful : Type 0
 GettersAreLawful = (names hosts number : ℕ) (value : CoreExpr)
@@ -75,6 +87,17 @@ GettersAreLawful = (names hosts number : ℕ) (value : CoreExpr)
 abbrev pub NamedFunctionsAreLawful : Type 0
 NamedFunctionsAreLawful = (r : Round) (kept : Var) (name : ScopedName) (f : FunctionId)
     → Drawn r kept → Drawn r name.var → IsTrue (nat_lt f.0 r.functions) → IsLawful r (named_function kept name f)
+
+-- the values of classes and patterns, which statements make
+abbrev pub RunAreLawful : Type 0
+RunAreLawful = (r : Round) (stats : List CoreStat) (value : CoreExpr) (kept : Var)
+    → AreLawful r stats → IsLawful r value
+    → IsLawful r (after_running stats value) × (Drawn r kept → IsLawful r (pattern_assigned value kept stats))
+
+abbrev pub DeclaredAreLawful : Type 0
+DeclaredAreLawful = (r : Round) (x class : Var) (stats : List CoreStat) (value : CoreExpr)
+    → Drawn r x
+    → (Drawn r class → AreLawful r stats → AreLawful r (class_declared x class stats)) × (IsLawful r value → IsLawfulStat r (default_exported x value))
 
 abbrev pub namespace_lawful : Round → Namespace → Bool
 namespace_lawful r n = is_drawn r n.var && list_all (λ (e : Export). nat_lt e.getter.0 r.functions) n.exports

@@ -1,7 +1,7 @@
 //! Laws of what the lowering makes: of lawful parts, what is lawful. Each is the contract of a function that does nothing.
 #![tactic(auto)]
 
-ghost use Rattle.lowering_laws.specs.Bodies.{BegunAreLawful, GettersAreLawful, InstantiationKeepsLaw, NamedFunctionsAreLawful, NamespacesAreLawful, ParametersKeepLaw, PartsAreLawful, StatementsKeepLaw};
+ghost use Rattle.lowering_laws.specs.Bodies.{BegunAreLawful, ConciseAreLawful, DeclaredAreLawful, GettersAreLawful, InstantiationKeepsLaw, KindsKeepLaw, NamedFunctionsAreLawful, NamespacesAreLawful, ParametersKeepLaw, PartsAreLawful, RunAreLawful, StatementsKeepLaw};
 ghost use Rattle.lowering_laws.specs.Classes.{ClassesAreLawful, DefaultBodiesAreLawful, ObjectsAreLawful, ParametersAreLawful, SuperIsLawful, ThisIsLawful};
 ghost use Rattle.lowering_laws.specs.Expressions.{CallsAreLawful, ConstructionsAreLawful, HostCallsAreLawful, ListsAreLawful, SpreadCallsAreLawful, SpreadHostCallsAreLawful, TagsAreLawful, TemplateObjectsAreLawful, TemplatesAreLawful};
 ghost use Rattle.lowering_laws.specs.Patterns.{ArrayPatternsAreLawful, AssignedTargetsAreLawful, DeclaredTargetsAreLawful, MemberTargetsAreLawful, ObjectPatternsAreLawful};
@@ -81,8 +81,12 @@ pub fn bodies_are_lawful()
     ensures parameters { ParametersKeepLaw }
     ensures instantiated { InstantiationKeepsLaw }
     ensures statements { StatementsKeepLaw }
+    ensures kinds { KindsKeepLaw }
+    ensures concise { ConciseAreLawful }
     ensures getters { GettersAreLawful }
     ensures named { NamedFunctionsAreLawful }
+    ensures run { RunAreLawful }
+    ensures declared { DeclaredAreLawful }
     ensures namespaces { NamespacesAreLawful }
     ensures parts { PartsAreLawful }
 {}
