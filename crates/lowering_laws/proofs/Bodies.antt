@@ -20,9 +20,9 @@ use Rattle.lawful_passes.proofs.Far.{Are, SoFar, do_is, done_is, joint, joined, 
 use Rattle.lawful_passes.proofs.Kept.{all_both, all_left, all_right, numbers_more, vars_numbers}
 use Rattle.lawful_passes.proofs.Spilling.{Sound}
 use Rattle.lawful_passes.proofs.Stepping.{sound_whole}
-use Rattle.lowering_laws.specs.Bodies.{BegunAreLawful, ConciseAreLawful, DeclaredAreLawful, GettersAreLawful, InstantiationKeepsLaw, KindsKeepLaw, NamedFunctionsAreLawful, NamespacesAreLawful, ParametersKeepLaw, PartsAreLawful, RunAreLawful, StatementsKeepLaw, if_var, inner, namespace_lawful, outer}
+use Rattle.lowering_laws.specs.Bodies.{BegunAreLawful, ConciseAreLawful, DeclaredAreLawful, DefaultConstructorsAreLawful, GettersAreLawful, InstantiationKeepsLaw, KindsKeepLaw, NamedFunctionsAreLawful, NamespacesAreLawful, ParametersKeepLaw, PartsAreLawful, RunAreLawful, StatementsKeepLaw, default_constructor, if_var, inner, namespace_lawful, outer}
 use Rattle.lowering_laws.specs.Classes.{parameter_lawful}
-use Rattle.lowering_laws.proofs.Classes.{closure_is, parameters_are_lawful, uninitialized_is}
+use Rattle.lowering_laws.proofs.Classes.{closure_is, default_bodies_are_lawful, parameters_are_lawful, uninitialized_is}
 use Rattle.lowering_laws.proofs.Expressions.{AllPlain, PlainLink, acted, all_more, list_is, plain_strict, plainly, text_is}
 use Rattle.lowering_laws.proofs.Statements.{hoisted_are, initialize_is, set_is, stored_is, then_is}
 use Rattle.lowering_rules.specs.Classes.{closure, constructor}
@@ -225,6 +225,23 @@ kinds_keep_law names hosts number f derived g h =
         step = q.step;
       }),
     )
+
+pub default_constructors_are_lawful : DefaultConstructorsAreLawful
+default_constructors_are_lawful names hosts number derived =
+    let r = outer names hosts number in
+    whole names hosts number (default_constructor derived) (record {
+      own = refl;
+      parameters = refl;
+      arguments = refl;
+      locals = refl;
+      resumed = refl;
+      cells = refl;
+      differ = refl;
+      declared = refl;
+      setup = both (do_is r _ (list_is r (head.Primitive ClassGuard) [] refl refl tt)) refl;
+      body = default_bodies_are_lawful r derived;
+      step = refl;
+    })
 
 pub concise_are_lawful : ConciseAreLawful
 concise_are_lawful r value h k = both (return_is r value h k) refl

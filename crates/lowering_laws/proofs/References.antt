@@ -1,9 +1,10 @@
 -- What is done to what a lawful expression comes to is lawful.
 use Rattle.std.specs.List.{flat_map, list_all, list_any}
 use Rattle.std.proofs.Common.{◌≡◌, ℕ, ◌+◌, ◌≤◌, ◌<◌, Bool, true, false, ◌||◌, length, length-append, List, [], ◌∷◌, None, refl, arith}
-use Rattle.std.proofs.lemmas.Bool.{lt-ltb, ltb-true}
+use Rattle.std.proofs.lemmas.Bool.{false≢true, lt-ltb, ltb-true}
 use Rattle.core_ast.specs.declared.parts.CoreHead.TheVariants as head
 use Rattle.core_ast.specs.declared.parts.CoreOp.TheVariants as op
+use Rattle.core_ast.specs.declared.parts.Constant.TheVariants.{Undefined}
 use Rattle.core_ast.specs.declared.parts.Key.TheVariants.{TextKey}
 use Rattle.core_ast.specs.declared.parts.Primitive.TheVariants.{CheckReady, RefuseConst}
 use Rattle.core_ast.specs.declared.parts.Unary.TheVariants.{Plus}
@@ -19,8 +20,8 @@ use Rattle.lawful_passes.proofs.Spilling.{Sound}
 use Rattle.lowering_laws.specs.InRound as lawfully
 use Rattle.lowering_laws.specs.InRound.{Drawn, PartsAreLawful, expr_lawful, part_lawful}
 use Rattle.lowering_laws.specs.Patterns.{member_lawful, property_lawful}
-use Rattle.lowering_laws.specs.References.{AssignmentsAreLawful, CompoundsAreLawful, MakesLawful, NewAreLawful, ReachedCallsAreLawful, ReachedTagsAreLawful, ReadsAreLawful, UpdatesAreLawful, name_lawful, reached_lawful, with_names}
-use Rattle.lowering_laws.proofs.Expressions.{acted, behind, calls_are_lawful, constructions_are_lawful, plainly, spread_calls_are_lawful, tags_are_lawful}
+use Rattle.lowering_laws.specs.References.{AccessesAreLawful, AssignmentsAreLawful, CompoundsAreLawful, FoundAreLawful, FoundHostsAreCalled, MakesLawful, MembersAreLawful, NewAreLawful, ReachedCallsAreLawful, ReachedTagsAreLawful, ReadsAreLawful, UpdatesAreLawful, name_lawful, reached_lawful, with_names}
+use Rattle.lowering_laws.proofs.Expressions.{acted, behind, calls_are_lawful, constructions_are_lawful, host_calls_are_lawful, list_is, plainly, spread_calls_are_lawful, spread_host_calls_are_lawful, tags_are_lawful}
 use Rattle.lowering_laws.proofs.Patterns.{index_far, member_far, name_far, property_sound, put_is, read_is, refused_is, started_is, to_text_is}
 use Rattle.lowering_laws.proofs.Statements.{flag_is, stored_is, then_is}
 use Rattle.lowering_rules.specs.Making.{flag, number, primitive, stored}
@@ -39,6 +40,7 @@ use Rattle.lowering_rules.specs.declared.reference_rules.references.Compound.{Co
 use Rattle.lowering_rules.specs.declared.reference_rules.references.Compound.TheVariants.{Operates, Powers}
 use Rattle.lowering_rules.specs.declared.reference_rules.references.MemberName.{MemberName}
 use Rattle.lowering_rules.specs.declared.reference_rules.references.MemberName.TheVariants.{AtIterator, Indexed, Named}
+use Rattle.lowering_rules.specs.declared.reference_rules.references.NamedValue.TheVariants.{GlobalName, HostName, UndefinedName, VariableName}
 use Rattle.lowering_rules.specs.declared.reference_rules.references.Reached.{Reached}
 use Rattle.lowering_rules.specs.declared.reference_rules.references.Reached.TheVariants.{Inherited, Property as OfProperty, Value, Variable}
 use Rattle.lowering_rules.specs.reference_rules.References as s
@@ -136,6 +138,16 @@ reads_are_lawful r (Variable t imported) h = (old_is r t h, value_deleted_is r _
 reads_are_lawful r (OfProperty object name) h = (read_of r object name (left _ _ h) (right _ _ h), deleted_of r object name (left _ _ h) (right _ _ h))
 reads_are_lawful r (Inherited x this) h = (left _ _ h, value_deleted_is r x (left _ _ h))
 
+pub found_are_lawful : FoundAreLawful
+unfolding s.found
+found_are_lawful r UndefinedName h = list_is r (head.Constant Undefined) [] refl refl tt
+found_are_lawful r (GlobalName g) h = list_is r (head.Global g) [] refl refl tt
+found_are_lawful r (HostName i) h = absurd (false≢true h)
+found_are_lawful r (VariableName t imported) h = h
+
+pub accesses_are_lawful : AccessesAreLawful
+accesses_are_lawful r x name h k = both (reads_are_lawful r x h).0 k
+
 pub new_are_lawful : NewAreLawful
 new_are_lawful r x parts h k = constructions_are_lawful r (s.value_of x) parts (reads_are_lawful r x h).0 k
 
@@ -153,6 +165,9 @@ kept_is r object (Indexed key) n h k =
     let m = with_temporary n in let l = one_more n in let q = with_temporary m in let o = one_more m in
     record { more = omega arith; target = both (both (new_drawn r n q (omega arith)) (raise r n q object (omega arith) h)) (both (new_drawn r m q (omega arith)) (raise r n q key (omega arith) k)) }
 kept_is r object AtIterator n h k = let m = with_temporary n in let l = one_more n in record { more = omega arith; target = both (both (new_drawn r n m (omega arith)) (raise r n m object (omega arith) h)) refl }
+
+pub members_are_lawful : MembersAreLawful
+members_are_lawful r object name n h k = (kept_is r object name n h k).target
 
 base_is : (r : Round) (x : Var) → Drawn r x → Sound r (s.base_checked x)
 base_is r x d = property_sound r _ (name_far r (variable x) (TextKey p.base_name) (variable_is r x d) refl)
@@ -286,6 +301,12 @@ reached_calls_are_lawful r x parts n h k =
     either (MakesLawful r) (list_any s.is_spread parts)
     (spread_calls_are_lawful (with_names c.names r) c.value.function c.value.receiver parts a.function a.receiver (raise_list r n c.names parts a.more k))
     (calls_are_lawful (with_names d.names r) d.value.function d.value.receiver (flat_map s.single parts) b.function b.receiver (singles_are (with_names d.names r) parts (raise_list r n d.names parts b.more k)))
+
+pub found_hosts_are_called : FoundHostsAreCalled
+unfolding s.found s.callee
+found_hosts_are_called r h parts site n k m =
+    let before = with_names n r in
+    either (MakesLawful r) (list_any s.is_spread parts) (spread_host_calls_are_lawful before h parts site k m) (host_calls_are_lawful before h (flat_map s.single parts) site k (singles_are before parts m))
 
 pub reached_tags_are_lawful : ReachedTagsAreLawful
 reached_tags_are_lawful r x object values n h k m =

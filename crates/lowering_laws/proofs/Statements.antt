@@ -20,10 +20,10 @@ use Rattle.core_ast.specs.declared.whole.Declared.{Declared}
 use Rattle.core_ast.specs.Lawful as lawful
 use Rattle.core_ast.specs.Lawful.{Plain, Round, is_empty}
 use Rattle.core_ast.specs.Made.{undefined, variable}
-use Rattle.lawful_passes.proofs.Far.{Are, AreCases, Is, constant_is, default_is, do_is, if_is, joined, labelled_is, number_is, return_is, rolled_is, switch_is, variable_is, when_is}
+use Rattle.lawful_passes.proofs.Far.{Are, AreCases, Is, constant_is, case_is, default_is, do_is, if_is, joined, labelled_is, number_is, return_is, rolled_is, switch_is, variable_is, when_is}
 use Rattle.lawful_passes.proofs.Spilling.{Sound}
 use Rattle.lowering_laws.specs.InRound.{Drawn, IsLawfulIfThere, case_lawful, declared_lawful}
-use Rattle.lowering_laws.specs.Statements.{BlocksAreLawful, ChoicesAreLawful, DeclarationsAreLawful, DoWhileIsLawful, ElseIsLawful, ForIsLawful, ForOfIsLawful, HandlerIsLawful, IterationIsDrawn, JumpsAreLawful, LabelledAreLawful, PlacesDiffer, ReturnsAreLawful, SwitchesAreLawful, TriesAreLawful, WhileIsLawful}
+use Rattle.lowering_laws.specs.Statements.{BlocksAreLawful, BranchesAreLawful, ChoicesAreLawful, DeclarationsAreLawful, DoWhileIsLawful, ElseIsLawful, ForIsLawful, ForOfIsLawful, HandlerIsLawful, IterationIsDrawn, JumpsAreLawful, LabelledAreLawful, PlacesDiffer, ReturnsAreLawful, SwitchesAreLawful, TriesAreLawful, WhileIsLawful}
 use Rattle.lowering_laws.proofs.Expressions.{acted, behind, list_is, plainly}
 use Rattle.lowering_rules.specs.Classes.{closure}
 use Rattle.lowering_rules.specs.Iteration as i
@@ -92,6 +92,9 @@ otherwise_are : (r : Round) (other : Option (List CoreStat)) → ElseIsLawful r 
 unfolding s.otherwise
 otherwise_are r None h = refl
 otherwise_are r (Some body) h = both (default_is r body h) refl
+
+pub branches_are_lawful : BranchesAreLawful
+branches_are_lawful r test body h k = case_is r test body h k
 
 pub choices_are_lawful : ChoicesAreLawful
 choices_are_lawful r first more other h k = if_is r _ (cases_are r (first ∷ more) (s.otherwise other) h (otherwise_are r other k))

@@ -1,5 +1,5 @@
 -- Functions, namespace objects and parts of modules are lawful, of lawful parts.
-use Rattle.std.specs.Prelude.{ℕ, Bool, true, false, ◌&&◌, not, nat_lt, length, List, map, Option, None, Some, IsTrue}
+use Rattle.std.specs.Prelude.{ℕ, Bool, true, false, ◌&&◌, not, nat_lt, length, List, [], map, Option, None, Some, IsTrue}
 use Rattle.std.specs.List.{list_all}
 use Rattle.core_ast.specs.declared.parts.FunctionId.{FunctionId}
 use Rattle.core_ast.specs.declared.parts.ScopedName.{ScopedName}
@@ -8,10 +8,11 @@ use Rattle.core_ast.specs.declared.tree.CoreExpr.{CoreExpr}
 use Rattle.core_ast.specs.declared.tree.CoreStat.{CoreStat}
 use Rattle.core_ast.specs.declared.whole.CoreFunction.{CoreFunction}
 use Rattle.core_ast.specs.declared.whole.CoreKind.{CoreKind}
+use Rattle.core_ast.specs.declared.whole.CoreKind.TheVariants.{Class}
 use Rattle.core_ast.specs.Lawful.{Round, all_differ, function_lawful, is_drawn, is_generator, is_safe, names_drawn, numbers, part_lawful, round_function, round_part}
 use Rattle.lowering_laws.specs.Classes.{begun_lawful, parameter_lawful, rest_lawful}
 use Rattle.lowering_laws.specs.InRound.{AreLawful, Drawn, IsLawful, IsLawfulStat, declared_lawful}
-use Rattle.lowering_rules.specs.Classes.{constructor}
+use Rattle.lowering_rules.specs.Classes.{constructor, default_body}
 use Rattle.lowering_rules.specs.Functions.{arrow, concise, with_parameters}
 use Rattle.lowering_rules.specs.declared.functions.Parameter.{Parameter}
 use Rattle.lowering_rules.specs.declared.functions.ParameterScope.{ParameterScope}
@@ -22,7 +23,7 @@ use Rattle.lowering_rules.specs.declared.statement_rules.bodies.ModuleScope.{Mod
 use Rattle.lowering_rules.specs.declared.statement_rules.bodies.Namespace.{Namespace}
 use Rattle.lowering_rules.specs.declared.statement_rules.bodies.Receiver.{Receiver}
 use Rattle.lowering_rules.specs.reference_rules.References.{pattern_assigned}
-use Rattle.lowering_rules.specs.statement_rules.Bodies.{after_running, begun, default_exported, export_getter, instantiated, named_function, namespace_made, part, with_statements}
+use Rattle.lowering_rules.specs.statement_rules.Bodies.{after_running, begun, begun_with, default_exported, export_getter, instantiated, named_function, namespace_made, part, with_statements}
 use Rattle.lowering_rules.specs.statement_rules.Statements.{class_declared}
 
 abbrev pub if_var : Round → Option Var → Bool
@@ -73,6 +74,15 @@ abbrev pub KindsKeepLaw : Type 0
 KindsKeepLaw = (names hosts number : ℕ) (f : CoreFunction) (derived : Bool)
     → IsTrue (not (is_generator f.kind)) → IsTrue (function_lawful names hosts number f)
     → IsTrue (function_lawful names hosts number (arrow f)) × IsTrue (function_lawful names hosts number (constructor derived f))
+
+-- the constructor that a class doesn't write
+abbrev pub default_constructor : Bool → CoreFunction
+default_constructor derived =
+    constructor derived (with_statements (default_body derived) [] (begun_with (Class derived) None [] []))
+
+abbrev pub DefaultConstructorsAreLawful : Type 0
+DefaultConstructorsAreLawful = (names hosts number : ℕ) (derived : Bool)
+    → IsTrue (function_lawful names hosts number (default_constructor derived))
 
 abbrev pub ConciseAreLawful : Type 0
 ConciseAreLawful = (r : Round) (value : CoreExpr) → IsTrue r.returns → IsLawful r value → AreLawful r (concise value)

@@ -9,14 +9,14 @@ use Rattle.core_ast.specs.declared.tree.CoreExpr.{CoreExpr}
 use Rattle.core_ast.specs.declared.tree.CoreStat.{CoreStat}
 use Rattle.core_ast.specs.declared.whole.Declared.{Declared}
 use Rattle.core_ast.specs.Lawful.{Round, all_differ, has_label, in_loop, is_new, names_drawn, under}
-use Rattle.lowering_laws.specs.InRound.{AreLawful, CasesAreLawful, Drawn, IsLawful, IsLawfulIfThere, IsLawfulStat, declared_lawful}
+use Rattle.lowering_laws.specs.InRound.{AreLawful, CasesAreLawful, Drawn, IsLawful, IsLawfulIfThere, IsLawfulStat, case_lawful, declared_lawful}
 use Rattle.lowering_rules.specs.Iteration.{for_of}
 use Rattle.lowering_rules.specs.declared.naming.Iteration.{Iteration}
 use Rattle.lowering_rules.specs.declared.patterns.ForOf.{ForOf}
 use Rattle.lowering_rules.specs.declared.statement_rules.statements.ForLoop.{ForLoop}
 use Rattle.lowering_rules.specs.declared.statement_rules.statements.Handler.{Handler}
 use Rattle.lowering_rules.specs.declared.statement_rules.statements.SwitchParts.{SwitchParts}
-use Rattle.lowering_rules.specs.statement_rules.Statements.{assigned_var, attempt, block, body_label, do_while, exit_label, for_loop, if_chain, jump, labelled, lexical, returned, switch, while_loop}
+use Rattle.lowering_rules.specs.statement_rules.Statements.{assigned_var, attempt, block, body_label, branch, do_while, exit_label, for_loop, if_chain, jump, labelled, lexical, returned, switch, while_loop}
 
 abbrev pub BlocksAreLawful : Type 0
 BlocksAreLawful = (r : Round) (names : List ScopedName) (functions : List Declared) (body : List CoreStat)
@@ -44,6 +44,10 @@ ElseIsLawful r (Some body) = AreLawful r body
 abbrev pub ChoicesAreLawful : Type 0
 ChoicesAreLawful = (r : Round) (first : CoreCase) (more : List CoreCase) (other : Option (List CoreStat))
     → CasesAreLawful r (first ∷ more) → ElseIsLawful r other → IsLawfulStat r (if_chain first more other)
+
+abbrev pub BranchesAreLawful : Type 0
+BranchesAreLawful = (r : Round) (test : CoreExpr) (body : List CoreStat)
+    → IsLawful r test → AreLawful r body → IsTrue (case_lawful (branch test body) r)
 
 abbrev pub WhileIsLawful : Type 0
 WhileIsLawful = (r : Round) (l : Label) (test : CoreExpr) (body : List CoreStat)

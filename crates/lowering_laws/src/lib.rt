@@ -1,12 +1,12 @@
 //! Laws of what the lowering makes: of lawful parts, what is lawful. Each is the contract of a function that does nothing.
 #![tactic(auto)]
 
-ghost use Rattle.lowering_laws.specs.Bodies.{BegunAreLawful, ConciseAreLawful, DeclaredAreLawful, GettersAreLawful, InstantiationKeepsLaw, KindsKeepLaw, NamedFunctionsAreLawful, NamespacesAreLawful, ParametersKeepLaw, PartsAreLawful, RunAreLawful, StatementsKeepLaw};
+ghost use Rattle.lowering_laws.specs.Bodies.{BegunAreLawful, ConciseAreLawful, DeclaredAreLawful, DefaultConstructorsAreLawful, GettersAreLawful, InstantiationKeepsLaw, KindsKeepLaw, NamedFunctionsAreLawful, NamespacesAreLawful, ParametersKeepLaw, PartsAreLawful, RunAreLawful, StatementsKeepLaw};
 ghost use Rattle.lowering_laws.specs.Classes.{ClassesAreLawful, DefaultBodiesAreLawful, ObjectsAreLawful, ParametersAreLawful, SuperIsLawful, ThisIsLawful};
 ghost use Rattle.lowering_laws.specs.Expressions.{CallsAreLawful, ConstructionsAreLawful, HostCallsAreLawful, ListsAreLawful, SpreadCallsAreLawful, SpreadHostCallsAreLawful, TagsAreLawful, TemplateObjectsAreLawful, TemplatesAreLawful};
 ghost use Rattle.lowering_laws.specs.Patterns.{ArrayPatternsAreLawful, AssignedTargetsAreLawful, DeclaredTargetsAreLawful, MemberTargetsAreLawful, ObjectPatternsAreLawful};
-ghost use Rattle.lowering_laws.specs.References.{AssignmentsAreLawful, CompoundsAreLawful, NewAreLawful, ReachedCallsAreLawful, ReachedTagsAreLawful, ReadsAreLawful, UpdatesAreLawful};
-ghost use Rattle.lowering_laws.specs.Statements.{BlocksAreLawful, ChoicesAreLawful, DeclarationsAreLawful, DoWhileIsLawful, ForIsLawful, ForOfIsLawful, JumpsAreLawful, LabelledAreLawful, PlacesDiffer, ReturnsAreLawful, SwitchesAreLawful, TriesAreLawful, WhileIsLawful};
+ghost use Rattle.lowering_laws.specs.References.{AccessesAreLawful, AssignmentsAreLawful, CompoundsAreLawful, FoundAreLawful, FoundHostsAreCalled, MembersAreLawful, NewAreLawful, ReachedCallsAreLawful, ReachedTagsAreLawful, ReadsAreLawful, UpdatesAreLawful};
+ghost use Rattle.lowering_laws.specs.Statements.{BlocksAreLawful, BranchesAreLawful, ChoicesAreLawful, DeclarationsAreLawful, DoWhileIsLawful, ForIsLawful, ForOfIsLawful, JumpsAreLawful, LabelledAreLawful, PlacesDiffer, ReturnsAreLawful, SwitchesAreLawful, TriesAreLawful, WhileIsLawful};
 
 /// Templates and lists of lawful values are lawful.
 pub fn lists_are_lawful()
@@ -31,6 +31,7 @@ pub fn statements_are_lawful()
     ensures declarations { DeclarationsAreLawful }
     ensures jumps { JumpsAreLawful }
     ensures labelled { LabelledAreLawful }
+    ensures branches { BranchesAreLawful }
     ensures choices { ChoicesAreLawful }
     ensures switches { SwitchesAreLawful }
     ensures returns { ReturnsAreLawful }
@@ -56,6 +57,10 @@ pub fn patterns_are_lawful()
 
 /// What is done to what a lawful expression comes to is lawful, where the names are drawn that it draws.
 pub fn references_are_lawful()
+    ensures found { FoundAreLawful }
+    ensures hosts { FoundHostsAreCalled }
+    ensures accesses { AccessesAreLawful }
+    ensures members { MembersAreLawful }
     ensures reads { ReadsAreLawful }
     ensures constructions { NewAreLawful }
     ensures assignments { AssignmentsAreLawful }
@@ -82,6 +87,7 @@ pub fn bodies_are_lawful()
     ensures instantiated { InstantiationKeepsLaw }
     ensures statements { StatementsKeepLaw }
     ensures kinds { KindsKeepLaw }
+    ensures defaults { DefaultConstructorsAreLawful }
     ensures concise { ConciseAreLawful }
     ensures getters { GettersAreLawful }
     ensures named { NamedFunctionsAreLawful }
