@@ -1,5 +1,6 @@
 pub mod Expressions
 pub mod Statements
+pub mod Operators
 pub mod Patterns
 pub mod References
 pub mod Classes

@@ -4,6 +4,7 @@
 ghost use Rattle.lowering_laws.specs.Bodies.{BegunAreLawful, ConciseAreLawful, DeclaredAreLawful, DefaultConstructorsAreLawful, GettersAreLawful, InstantiationKeepsLaw, KindsKeepLaw, NamedFunctionsAreLawful, NamespacesAreLawful, ParametersKeepLaw, PartsAreLawful, RunAreLawful, StatementsKeepLaw};
 ghost use Rattle.lowering_laws.specs.Classes.{ClassesAreLawful, DefaultBodiesAreLawful, ObjectsAreLawful, ParametersAreLawful, SuperIsLawful, ThisIsLawful};
 ghost use Rattle.lowering_laws.specs.Expressions.{CallsAreLawful, ConstructionsAreLawful, HostCallsAreLawful, ListsAreLawful, SpreadCallsAreLawful, SpreadHostCallsAreLawful, TagsAreLawful, TemplateObjectsAreLawful, TemplatesAreLawful};
+ghost use Rattle.lowering_laws.specs.Operators.{ConditionsAreLawful, ConstantsAreLawful, EvaluationsAreLawful, OperatorsAreLawful, YieldsAreLawful};
 ghost use Rattle.lowering_laws.specs.Patterns.{ArrayPatternsAreLawful, AssignedTargetsAreLawful, DeclaredTargetsAreLawful, MemberTargetsAreLawful, ObjectPatternsAreLawful};
 ghost use Rattle.lowering_laws.specs.References.{AccessesAreLawful, AssignmentsAreLawful, CompoundsAreLawful, FoundAreLawful, FoundHostsAreCalled, MembersAreLawful, NewAreLawful, ReachedCallsAreLawful, ReachedTagsAreLawful, ReadsAreLawful, UpdatesAreLawful};
 ghost use Rattle.lowering_laws.specs.Statements.{BlocksAreLawful, BranchesAreLawful, ChoicesAreLawful, DeclarationsAreLawful, DoWhileIsLawful, ForIsLawful, ForOfIsLawful, JumpsAreLawful, LabelledAreLawful, PlacesDiffer, ReturnsAreLawful, SwitchesAreLawful, TriesAreLawful, WhileIsLawful};
@@ -23,6 +24,15 @@ pub fn calls_are_lawful()
     ensures spread_hosts { SpreadHostCallsAreLawful }
     ensures constructions { ConstructionsAreLawful }
     ensures tags { TagsAreLawful }
+{}
+
+/// Operations on lawful values are lawful; only where a generator's body stands round them, they yield.
+pub fn operators_are_lawful()
+    ensures constants { ConstantsAreLawful }
+    ensures operators { OperatorsAreLawful }
+    ensures conditions { ConditionsAreLawful }
+    ensures yields { YieldsAreLawful }
+    ensures evaluations { EvaluationsAreLawful }
 {}
 
 /// Statements of lawful parts are lawful.
