@@ -15,6 +15,7 @@ use Rattle.lawful_passes.specs.StatesBefore as before
 use Rattle.lawful_passes.specs.Told as t
 use Rattle.lawful_passes.specs.Told.{Told, function_told, part_told, stats_told}
 use Rattle.lawful_passes.proofs.Labels.{has_left, has_right, or_second}
+use Rattle.lawful_passes.proofs.MachineKept.{all_keep_law}
 use Rattle.lawful_passes.proofs.Mentioned.{function_labels, label_below, part_labels}
 use Rattle.lawful_passes.proofs.Scoping.{Less, flat_less, less_both}
 use Rattle.lawful_passes.proofs.StatesScoped.{flat_below}
@@ -29,6 +30,7 @@ use Rattle.pass_rules.proofs.pass_laws.Distinct.{count}
 use Rattle.pass_rules.proofs.pass_laws.Faces.{machines_keep}
 use Rattle.pass_rules.proofs.pass_laws.Within.{left, right, both, more}
 use Rattle.writable_passes.specs.Laws.{AllKeepWritable, ScopesKeepRoom, YieldsLeaveRoom}
+use Rattle.writable_passes.specs.Ready.{ReadyMayBeEmitted}
 use Rattle.writable_passes.specs.Rooms as rooms
 use Rattle.writable_passes.specs.Rooms.{NamesFit, turn_fits}
 use Rattle.writable_passes.proofs.Below.{Under, behind_below, stats_below, stats_under}
@@ -148,3 +150,6 @@ all_keep_writable hosts core h r names =
     let flat = without_scopes core in let spilled = with_yields_flat flat in
     let a = scopes_keep_writable hosts core h in let room = scopes_keep_room core r in
     machines_keep_writable hosts spilled (yields_keep_writable hosts flat a room (names_before hosts spilled names)) (yields_leave_room hosts flat a room) names
+
+pub ready_may_be_emitted : ReadyMayBeEmitted
+ready_may_be_emitted hosts core q names = (all_keep_law hosts core q.lawful q.without_cells q.labels q.states, all_keep_writable hosts core q.writable q.room names)

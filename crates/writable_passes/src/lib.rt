@@ -2,6 +2,7 @@
 #![tactic(auto)]
 
 ghost use Rattle.writable_passes.specs.Laws.{AllKeepWritable, MachinesKeepWritable, ScopesKeepRoom, ScopesKeepWritable, YieldsKeepWritable, YieldsLeaveRoom};
+ghost use Rattle.writable_passes.specs.Ready.{ReadyMayBeEmitted};
 
 /// A core that can be written can be so behind the flattening of scopes, and labels have as much room.
 pub fn cores_stay_writable_without_scopes()
@@ -19,4 +20,5 @@ pub fn cores_stay_writable_without_yields()
 pub fn cores_stay_writable_with_machines()
     ensures machines { MachinesKeepWritable }
     ensures all { AllKeepWritable }
+    ensures ready { ReadyMayBeEmitted }
 {}
