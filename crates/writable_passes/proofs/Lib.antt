@@ -6,3 +6,7 @@ pub mod Spilling
 pub mod Yields
 pub mod Below
 pub mod All
+pub mod Slots
+pub mod Used
+pub mod MachineDraws
+pub mod Drawn

@@ -1,10 +1,14 @@
 -- A core that can be written comes out of one.
 use Rattle.std.specs.Prelude.{ℕ}
 use Rattle.core_ast.specs.declared.whole.Core.{Core}
+use Rattle.core_ast.specs.Lawful.{IsLawfulFor}
 use Rattle.emission_laws.specs.Writable.{IsWritableWith}
+use Rattle.lawful_passes.specs.Told.{LabelsDiffer}
 use Rattle.pass_rules.specs.Scopes.{without_scopes}
+use Rattle.pass_rules.specs.pass_laws.Operations.{AllSuch, no_content}
 use Rattle.pass_rules.specs.state_rules.States.{with_machines}
 use Rattle.pass_rules.specs.yield_rules.Yields.{with_yields_flat}
+use Rattle.writable_passes.specs.Drawn.{NamesHaveRoom}
 use Rattle.writable_passes.specs.Rooms.{LabelsHaveRoom, NamesFit, TurnsFit}
 
 -- Behind the flattening of scopes, where labels have as much room.
@@ -36,3 +40,10 @@ AllKeepWritable = (hosts : ℕ) (core : Core)
     → IsWritableWith hosts core → LabelsHaveRoom core
     → let after = with_machines (with_yields_flat (without_scopes core)) in
     NamesFit hosts after → IsWritableWith hosts after
+
+-- They do if there is room before the passes for as many as these may draw, where the core is lawful, its labels differ, and no
+-- operation is on the content of a cell.
+abbrev pub NamesWillFit : Type 0
+NamesWillFit = (hosts : ℕ) (core : Core)
+    → IsLawfulFor hosts core → AllSuch no_content core → LabelsDiffer core → NamesHaveRoom hosts core
+    → NamesFit hosts (with_machines (with_yields_flat (without_scopes core)))

@@ -1,3 +1,4 @@
 pub mod Rooms
+pub mod Drawn
 pub mod Laws
 pub mod Ready

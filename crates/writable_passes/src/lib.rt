@@ -1,7 +1,7 @@
 //! Laws of what the passes make of cores that can be written. Each is the contract of a function that does nothing.
 #![tactic(auto)]
 
-ghost use Rattle.writable_passes.specs.Laws.{AllKeepWritable, MachinesKeepWritable, ScopesKeepRoom, ScopesKeepWritable, YieldsKeepWritable, YieldsLeaveRoom};
+ghost use Rattle.writable_passes.specs.Laws.{AllKeepWritable, MachinesKeepWritable, NamesWillFit, ScopesKeepRoom, ScopesKeepWritable, YieldsKeepWritable, YieldsLeaveRoom};
 ghost use Rattle.writable_passes.specs.Ready.{ReadyMayBeEmitted};
 
 /// A core that can be written can be so behind the flattening of scopes, and labels have as much room.
@@ -21,4 +21,9 @@ pub fn cores_stay_writable_with_machines()
     ensures machines { MachinesKeepWritable }
     ensures all { AllKeepWritable }
     ensures ready { ReadyMayBeEmitted }
+{}
+
+/// No more names are drawn than are counted before the passes.
+pub fn names_fit_behind_passes()
+    ensures { NamesWillFit }
 {}
