@@ -1,0 +1,16 @@
+pub mod Grown
+pub mod Making
+pub mod Drawing
+pub mod Calls
+pub mod Naming
+pub mod Expressions
+pub mod Patterns
+pub mod Statements
+pub mod Flow
+pub mod Loops
+pub mod Members
+pub mod Functions
+pub mod Modules
+pub mod Bound
+pub mod Rolled
+pub mod Fitting

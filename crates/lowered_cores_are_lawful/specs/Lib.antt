@@ -1,0 +1,14 @@
+pub mod Standing
+pub mod Conditions
+pub mod Nodes
+pub mod Parts
+pub mod Bound
+pub mod Expressions
+pub mod Patterns
+pub mod Members
+pub mod Statements
+pub mod Flow
+pub mod Loops
+pub mod Modules
+pub mod Functions
+pub mod Fits
