@@ -43,13 +43,13 @@ use Rattle.core_meaning.specs.Step.{act, act_by, given, hand, step}
 use Rattle.pass_rules.specs.Scopes.{function_flat}
 use Rattle.cells_keep_runs.specs.Alike.{Alike, Along, Config, strict}
 use Rattle.cells_keep_runs.specs.Classed.{ClassSeen, ClassesAreMadeAlike, HeritagesAreTakenAlike, MembersArePutAlike, SeenIn}
-use Rattle.cells_keep_runs.specs.Closed.{AllSeen, KeepsOthers}
+use Rattle.cells_keep_runs.specs.Closed.{AllSeen, KeepsAll, KeepsOthers}
 use Rattle.cells_keep_runs.specs.Opened.{opened}
 use Rattle.cells_keep_runs.specs.Related.{All, BelowCells, Closures, Related, Seats, Stand, WaitsHeritage, at_links, cell_along, same_current}
 use Rattle.cells_keep_runs.proofs.Acted.{goes_on, works_on}
 use Rattle.cells_keep_runs.proofs.Alike.{an_object, at_heap, raised}
 use Rattle.cells_keep_runs.proofs.Carried.{B, U, carries, stand_heap}
-use Rattle.cells_keep_runs.proofs.Closed.{all_length, all_push, kept_all, kept_among}
+use Rattle.cells_keep_runs.proofs.Closed.{all_length, all_push, found_all, kept_all, kept_among}
 use Rattle.cells_keep_runs.proofs.Ended.{set_all}
 
 module _ (core core2 : Core) (owners : List ℕ) (seats : Seats) where
@@ -81,9 +81,9 @@ module _ (core core2 : Core) (owners : List ℕ) (seats : Seats) where
   recorded_is (value.Number n) s t x = refl
   recorded_is (value.Text us) s t x = refl
 
-  stand_class : (f : FunctionId) (function : CoreFunction) (kept : List Var) (home : Value) (h : Heap) (s t : CoreState) → KeepsOthers owners f function kept → Stand owners seats s t → AllSeen owners seats s kept
+  stand_class : (f : FunctionId) (function : CoreFunction) (kept : List Var) (home : Value) (h : Heap) (s t : CoreState) → KeepsOthers owners f function kept → Stand owners seats s t → AllSeen owners seats s kept → KeepsAll seats s.context.environment f kept
       → Stand owners seats (with_closure (class_closure f function home s) (with_heap h s)) (with_closure (class_closure f (function_flat owners kept function) home t) (with_heap h t))
-  stand_class f function kept home h s t others x seen = record {
+  stand_class f function kept home h s t others x seen all = record {
     states = record {
       heap = refl;
       memory = x.states.memory;
@@ -96,6 +96,7 @@ module _ (core core2 : Core) (owners : List ℕ) (seats : Seats) where
             cells = kept_all owners seats s t x kept seen;
             uncelled = ap (λ cs. flat_map (λ y. cell_found y (resolve s y)) cs) others.0;
             foreign = λ y k found. others.1 y (kept_among t kept y k found);
+            whole = λ y along. found_all owners seats s t x kept seen y (all y along);
           });
       callers = x.states.callers;
       ahead = x.states.ahead;
@@ -117,9 +118,9 @@ module _ (core core2 : Core) (owners : List ℕ) (seats : Seats) where
       goes (Has (User (value.Object (next_id h)))) q.links
       (with_closure (class_closure f g (value.Object (class_prototype h)) q.state) (with_heap (with_recorded (class_function Sixth h n count parent above) (next_id h) keys) q.state))
 
-  class_alike : (f : FunctionId) (function : CoreFunction) (kept : List Var) (heritage : Value) (parent : ObjId) (above : Option ObjId) (p q : Along) → KeepsOthers owners f function kept → AllSeen owners seats p.state kept → BB p q
+  class_alike : (f : FunctionId) (function : CoreFunction) (kept : List Var) (heritage : Value) (parent : ObjId) (above : Option ObjId) (p q : Along) → KeepsOthers owners f function kept → AllSeen owners seats p.state kept → KeepsAll seats p.state.context.environment f kept → BB p q
       → A (has_given p.links (class_made f function heritage parent above p.state)) (has_given q.links (class_made f (function_flat owners kept function) heritage parent above q.state))
-  class_alike f function kept heritage parent above p q others seen (stand, below, is) =
+  class_alike f function kept heritage parent above p q others seen all (stand, below, is) =
       let s : CoreState = p.state in
       let t : CoreState = q.state in
       let g = function_flat owners kept function in
@@ -134,7 +135,7 @@ module _ (core core2 : Core) (owners : List ℕ) (seats : Seats) where
         refl,
         subst (λ ls. R (with_control (Go (Has (User (value.Object (next_id s.heap)))) p.links) (with_closure (class_closure f function home s) (with_heap h s)))
             (with_control (Go (Has (User (value.Object (next_id s.heap)))) ls) (with_closure (class_closure f g home t) (with_heap h t)))) (sym is)
-            (at_links p.links same_current (stand_class f function kept home h s t others stand seen) below),
+            (at_links p.links same_current (stand_class f function kept home h s t others stand seen all) below),
       ) in
       subst (λ heap. A first (class_with f g count parent above q heap (length t.closures) (recorded_for t heritage))) (sym stand.states.heap)
       (subst (λ m. A first (class_with f g count parent above q s.heap m (recorded_for t heritage))) (sym (all_length (Closures owners seats) s.closures t.closures stand.states.closures))
@@ -144,7 +145,7 @@ module _ (core core2 : Core) (owners : List ℕ) (seats : Seats) where
   made_alike f heritage parent above p q c b =
       subst (λ o. A (with_option o p.state (λ function. has_given p.links (class_made f function heritage parent above p.state))) (make_class core2 f heritage parent above q.links q.state)) (sym c.before)
       (subst (λ o. A (has_given p.links (class_made f c.function heritage parent above p.state)) (with_option o q.state (λ function. has_given q.links (class_made f function heritage parent above q.state)))) (sym c.flat)
-      (class_alike f c.function c.kept heritage parent above p q c.others c.seen b))
+      (class_alike f c.function c.kept heritage parent above p q c.others c.seen c.all b))
 
   abbrev making : Option Site → Current Mark → List (CoreValue Mark) → List CoreExpr → Along → CoreStrict
   making site c vs xs p = strict (op.Primitive primitive.ClassMake) site c vs xs p.links
@@ -204,6 +205,7 @@ module _ (core core2 : Core) (owners : List ℕ) (seats : Seats) where
               cells = r.cells;
               uncelled = r.uncelled;
               foreign = r.foreign;
+              whole = r.whole;
             })
             x.stood.states.closures;
         callers = x.stood.states.callers;

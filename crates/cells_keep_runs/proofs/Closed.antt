@@ -27,7 +27,7 @@ use Rattle.core_meaning.specs.Step.{step}
 use Rattle.pass_rules.specs.Cells.{is_among, is_shared}
 use Rattle.pass_rules.specs.Scopes.{expr_flat, function_flat}
 use Rattle.cells_keep_runs.specs.Alike.{Alike, Along, Config}
-use Rattle.cells_keep_runs.specs.Closed.{AllSeen, ClosuresAreMadeAlike, KeepsOthers, SeenShared}
+use Rattle.cells_keep_runs.specs.Closed.{AllSeen, ClosuresAreMadeAlike, KeepsAll, KeepsOthers, SeenShared}
 use Rattle.cells_keep_runs.specs.Memory.{CellAt, Names, Seats, cell_along, cell_found as found_in, images}
 use Rattle.cells_keep_runs.specs.Opened.{begun_head, begun_links, flat_begun, opened, opening_steps, with_more_frames}
 use Rattle.cells_keep_runs.specs.Related.{All, Closures, IsCellIn, Kept, Owns, Related, Stand, at_links, same_current}
@@ -80,6 +80,24 @@ kept_all owners seats s t stand [] seen = tt
 kept_all owners seats s t stand (x ∷ xs) (h, seen) =
     kept_append seats s.context.environment (cell_found x (resolve t x)) (flat_map (λ y. cell_found y (resolve t y)) xs) (kept_one seats s t x (holds_along owners seats s t stand x h)) (kept_all owners seats s t stand xs seen)
 
+-- each of these names has its cell among them
+found_one : (y : Var) (n : ℕ) (rest : List KeptCell) (x : Var) (more : Bool) → nat_eq y.0 x.0 || more ≡ true → (more ≡ true → (k : ℕ) × (found_in rest x ≡ Some k)) → (k : ℕ) × (found_in (record { var = y; cell = n } ∷ rest) x ≡ Some k)
+found_one y n rest x more among on = by_name (nat_eq y.0 x.0) among
+  where
+    by_name : (b : Bool) → b || more ≡ true → (k : ℕ) × ((if b then Some n else found_in rest x) ≡ Some k)
+    by_name true is = (n, refl)
+    by_name false is = on is
+
+pub found_all : (owners : List ℕ) (seats : Seats) (s t : CoreState) (stand : Stand owners seats s t) (xs : List Var) → AllSeen owners seats s xs → (x : Var) → is_among x xs ≡ true
+    → (k : ℕ) × (found_in (flat_map (λ y. cell_found y (resolve t y)) xs) x ≡ Some k)
+found_all owners seats s t stand [] seen x among = cc
+found_all owners seats s t stand (y ∷ ys) (h, seen) x among =
+    let hold : HoldsAlong seats s t y = holds_along owners seats s t stand y h in
+    let is : cell_found y (resolve t y) ≡ record { var = y; cell = hold.cell } ∷ [] = ap (λ o. cell_found y o) hold.holds.1 ∙ ap (λ v. cell_in y v) hold.holds.2 in
+    let rest = flat_map (λ z. cell_found z (resolve t z)) ys in
+    subst (λ cs. (k : ℕ) × (found_in (cs ++ rest) x ≡ Some k)) (sym is)
+    (found_one y hold.cell rest x (is_among x ys) among (λ in_ys. found_all owners seats s t stand ys seen x in_ys))
+
 -- ---- closures
 
 pub all_push : {A C : Type 0} (R : A → C → Type 0) (xs : List A) (ys : List C) (x : A) (y : C) → All R xs ys → R x y → All R (xs ++ x ∷ []) (ys ++ y ∷ [])
@@ -131,7 +149,10 @@ module _ (owners : List ℕ) (seats : Seats) (f : FunctionId) (function : CoreFu
   abbrev g : CoreFunction
   g = function_flat owners kept function
 
-  closures_of : (s t : CoreState) → Stand owners seats s t → AllSeen owners seats s kept → Closures owners seats (closure_of f function s) (closure_of f g t)
+  abbrev SeenAll : CoreState → Type 0
+  SeenAll s = AllSeen owners seats s kept × KeepsAll seats s.context.environment f kept
+
+  closures_of : (s t : CoreState) → Stand owners seats s t → SeenAll s → Closures owners seats (closure_of f function s) (closure_of f g t)
   closures_of s t stand seen =
       let own : Owns (kept_by function.kind s.context.own) (kept_by function.kind t.context.own) = owns_kept function.kind s.context.own t.context.own stand.own in
       record {
@@ -139,12 +160,13 @@ module _ (owners : List ℕ) (seats : Seats) (f : FunctionId) (function : CoreFu
         environment = stand.environment;
         below = stand.below;
         own = record { this_record = own.this_record; callee = own.callee; target = own.target; home = own.home; passed = own.passed };
-        cells = kept_all owners seats s t stand kept seen;
+        cells = kept_all owners seats s t stand kept seen.0;
         uncelled = ap (λ cs. flat_map (λ x. cell_found x (resolve s x)) cs) others.0;
         foreign = λ x k found. others.1 x (kept_among t kept x k found);
+        whole = λ x along. found_all owners seats s t stand kept seen.0 x (seen.1 x along);
       }
 
-  stand_closed : (s t : CoreState) (h : Heap) → Stand owners seats s t → AllSeen owners seats s kept → Stand owners seats (with_closure (closure_of f function s) (with_heap h s)) (with_closure (closure_of f g t) (with_heap h t))
+  stand_closed : (s t : CoreState) (h : Heap) → Stand owners seats s t → SeenAll s → Stand owners seats (with_closure (closure_of f function s) (with_heap h s)) (with_closure (closure_of f g t) (with_heap h t))
   stand_closed s t h x seen = record {
     states = record {
       heap = refl;
@@ -169,7 +191,7 @@ module _ (owners : List ℕ) (seats : Seats) (f : FunctionId) (function : CoreFu
   abbrev made_with : CoreKind → Along → Heap → ℕ → CoreNext
   made_with k q h n = goes (Has (User (value.Object (next_id h)))) q.links (with_closure (closure_of f g q.state) (with_heap (function_heap k h n function.length) q.state))
 
-  made_alike : (k : CoreKind) (p q : Along) → B owners seats p q → AllSeen owners seats p.state kept
+  made_alike : (k : CoreKind) (p q : Along) → B owners seats p q → SeenAll p.state
       → A (goes (Has (User (value.Object (next_id p.state.heap)))) p.links (with_closure (closure_of f function p.state) (with_heap (function_heap k p.state.heap (length p.state.closures) function.length) p.state)))
       (made_with k q q.state.heap (length q.state.closures))
   made_alike k p q (stand, cells, is) seen =
@@ -186,7 +208,7 @@ module _ (owners : List ℕ) (seats : Seats) (f : FunctionId) (function : CoreFu
       subst (λ heap. A first (made_with k q heap (length q.state.closures))) (sym stand.states.heap)
       (subst (λ n. A first (made_with k q s.heap n)) (sym (all_length (Closures owners seats) s.closures q.state.closures stand.states.closures)) here)
 
-  closure_alike : (k : CoreKind) (p q : Along) → B owners seats p q → AllSeen owners seats p.state kept → A (has_given p.links (closure_by f function p.state k)) (has_given q.links (closure_by f g q.state k))
+  closure_alike : (k : CoreKind) (p q : Along) → B owners seats p q → SeenAll p.state → A (has_given p.links (closure_by f function p.state k)) (has_given q.links (closure_by f g q.state k))
   closure_alike (kind.Class derived) p q (stand, cells, is) seen =
       (_, refl, subst (λ ls. R (with_control (Go (Has (Extra (Unmade f))) p.links) p.state) (with_control (Go (Has (Extra (Unmade f))) ls) q.state)) (sym is) (at_links p.links same_current stand cells))
   closure_alike kind.Plain p q b seen = made_alike function.kind p q b seen
@@ -213,7 +235,7 @@ module _ (owners : List ℕ) (seats : Seats) (f : FunctionId) (function : CoreFu
       ∙ ap (λ o. with_option o t (λ z. has_given ls (closure_by f z t z.kind))) there
 
 pub closures_made : ClosuresAreMadeAlike
-closures_made core core2 owners seats x f function kept s t is there there2 others seen stand r held =
+closures_made core core2 owners seats x f function kept s t is there there2 others seen all stand r held =
     let y = out-CoreExpr x in
     let o = opened owners (cell_along seats s.context.environment) y.links in
     let u : CoreState = with_more_frames o.frames t in
@@ -225,6 +247,6 @@ closures_made core core2 owners seats x f function kept s t is there there2 othe
     let second = flat_head owners seats f function kept others core2 y.site y.head o.links u is there2 in
     let alike : Alike (Related owners seats) (core_step core (with_control (Begin x) s)) (core_step core2 (with_control (Begin (flat_begun owners x o.links)) u)) =
     subst (λ n. Alike (Related owners seats) n (core_step core2 (with_control (Begin (flat_begun owners x o.links)) u))) (sym first)
-    (subst (λ n. Alike (Related owners seats) (has_given y.links (closure_by f function s function.kind)) n) (sym second) (closure_alike owners seats f function kept others function.kind p q b seen)) in
+    (subst (λ n. Alike (Related owners seats) (has_given y.links (closure_by f function s function.kind)) n) (sym second) (closure_alike owners seats f function kept others function.kind p q b (seen, all))) in
     answered (Related owners seats) core2 (core_step core (with_control (Begin x) s)) (with_control (Begin (expr_flat owners x)) t) (with_control (Begin (flat_begun owners x o.links)) u) (opening_steps owners y.links)
     (begins core2 owners (cell_along seats s.context.environment) x t held) alike

@@ -1,12 +1,16 @@
 -- Environments, cells and frames, where there are more records.
 use Rattle.std.specs.List.{list_all}
-use Rattle.std.proofs.Common.{◌≡◌, ℕ, zero, suc, ◌+◌, ◌<◌, ◌≤◌, ◌&&◌, List, [], ◌∷◌, ◌++◌, Option, length, nat_lt, slice_get, refl, sym, ap, arith, subst, ◌∙◌}
+use Rattle.std.proofs.Common.{◌≡◌, ℕ, zero, suc, ◌+◌, ◌<◌, ◌≤◌, ◌&&◌, ◌||◌, List, [], ◌∷◌, ◌++◌, Option, length, nat_lt, slice_get, refl, sym, ap, arith, subst, ◌∙◌}
 use Rattle.std.proofs.lemmas.Bool.{and_parts, lt-ltb, ltb-true}
 use Rattle.std.proofs.lemmas.List.{length-append}
 use Rattle.es_value.specs.declared.value.Value.{Value}
+use Rattle.core_ast.specs.declared.parts.FunctionId.{FunctionId}
+use Rattle.core_ast.specs.declared.parts.Var.{Var}
 use Rattle.core_ast.specs.declared.tree.CoreStat.{CoreStat}
 use Rattle.core_meaning.specs.Marks.{CoreState, CoreWork, Generator, KeptCell, Mark, Own}
 use Rattle.core_meaning.specs.State.{After, Closure, Context, Environment, EnvironmentRecord, Fetch, Frame, Part, Restore}
+use Rattle.pass_rules.specs.Cells.{is_among}
+use Rattle.cells_keep_runs.specs.Memory.{keeping_in, kept_along}
 use Rattle.cells_keep_runs.specs.Opened.{opened}
 use Rattle.cells_keep_runs.specs.Places.{Below}
 use Rattle.cells_keep_runs.specs.Ways.{writing}
@@ -36,6 +40,12 @@ cells_stay seats more [] x h = refl
 cells_stay seats more (n ∷ e) x h =
     ap (λ s. or_outer (cell_found (cells_in s) x) (cell_along (seats ++ more) e x)) (slice_left seats more n (below_here (length seats) n e h))
     ∙ ap (λ k. or_outer (cell_found (cells_in (slice_get seats n)) x) k) (cells_stay seats more e x (below_rest (length seats) n e h))
+
+pub keeping_stays : (seats more : Seats) (e : Environment) (f : FunctionId) (x : Var) → Below (length seats) e → kept_along (seats ++ more) e f x ≡ kept_along seats e f x
+keeping_stays seats more [] f x h = refl
+keeping_stays seats more (n ∷ e) f x h =
+    ap (λ s. is_among x (keeping_in s f) || kept_along (seats ++ more) e f x) (slice_left seats more n (below_here (length seats) n e h))
+    ∙ ap (λ b. is_among x (keeping_in (slice_get seats n) f) || b) (keeping_stays seats more e f x (below_rest (length seats) n e h))
 
 module _ (owners : List ℕ) (seats more : Seats) where
   pub scope_stays : (n : ℕ) → n < length seats → IsScope seats n → IsScope (seats ++ more) n
@@ -129,6 +139,7 @@ module _ (owners : List ℕ) (seats more : Seats) where
     cells = kept_stay a.environment b.own.cells r.below r.cells;
     uncelled = r.uncelled;
     foreign = r.foreign;
+    whole = λ x along. r.whole x (sym (keeping_stays seats more a.environment a.function x r.below) ∙ along);
   }
 
   pub closures_stay : (xs ys : List (Closure Own)) → All (Closures owners seats) xs ys → All (Closures owners (seats ++ more)) xs ys

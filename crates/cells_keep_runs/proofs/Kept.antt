@@ -1,5 +1,5 @@
 -- The two runs, from matched steps.
-use Rattle.std.proofs.Common.{◌≡◌, ◌<◌, ◌+◌, ℕ, zero, suc, List, refl, sym, subst, arith}
+use Rattle.std.proofs.Common.{◌≡◌, ◌<◌, ◌+◌, inl, inr, ℕ, zero, suc, List, refl, sym, subst, arith}
 use Rattle.runs.specs.Run.{run}
 use Rattle.runs.specs.Same.{Same}
 use Rattle.runs.specs.Simulation.{IsMatched, Rank, Reaches}
@@ -8,11 +8,13 @@ use Rattle.es_outside.specs.declared.events.Event.{Event}
 use Rattle.core_ast.specs.Lawful.{IsLawful}
 use Rattle.core_ast.specs.declared.whole.Core.{Core}
 use Rattle.core_meaning.specs.Marks.{CoreNext}
-use Rattle.core_meaning.specs.Modules.{core_step, start}
+use Rattle.core_meaning.specs.Modules.{core_step, runc, start}
 use Rattle.pass_rules.specs.Scopes.{without_scopes}
 use Rattle.cells_keep_runs.specs.Alike.{Config}
 use Rattle.cells_keep_runs.specs.Course.{StepMatched, alone, answered, asks, begun, ends, gone_on, leaves, measure, no_more, together}
-use Rattle.cells_keep_runs.specs.Kept.{AllReady, IsReached, NoneKept, RunsAreKept, first_seats, kept_of}
+use Rattle.cells_keep_runs.specs.Owed.{ReadyOrLeaves}
+use Rattle.cells_keep_runs.specs.KeptFound.{AllReadyOrLeave}
+use Rattle.cells_keep_runs.specs.Kept.{IsReached, NoneKept, RunsAreKept, first_seats, kept_of}
 use Rattle.cells_keep_runs.specs.Memory.{Seats}
 use Rattle.cells_keep_runs.specs.Related.{Related}
 use Rattle.cells_keep_runs.specs.Started.{owners_of}
@@ -21,7 +23,7 @@ use Rattle.cells_keep_runs.proofs.FunctionKinds.{functions_flattened, kinds_stay
 use Rattle.cells_keep_runs.proofs.Matched.{steps_matched}
 use Rattle.cells_keep_runs.proofs.Started.{beginnings}
 
-module _ (core : Core) (lawful : IsLawful core) (none_kept : NoneKept core) (ready : AllReady core) where
+module _ (core : Core) (lawful : IsLawful core) (none_kept : NoneKept core) (ready : AllReadyOrLeave core) where
   abbrev core2 : Core
   core2 = without_scopes core
 
@@ -60,11 +62,16 @@ module _ (core : Core) (lawful : IsLawful core) (none_kept : NoneKept core) (rea
   by_step seats s t reached (ends j u ending is way is2) = subst (λ n. Matches (measure s) n t) (sym is) (j, u, way, is2)
   by_step seats s t reached (leaves exit is) = subst (λ n. Matches (measure s) n t) (sym is) tt
 
+  -- a configuration that is ready, or whose step leaves
+  ready_matched : (seats : Seats) (s t : Config) → Related owners seats s t → ReadyOrLeaves core (kept_of core) owners seats s → StepMatched core core2 (kept_of core) owners seats s t
+  ready_matched seats ahead t related (inl at) = steps_matched core core2 (kept_of core) owners seats ahead t (functions_flattened core) (λ f function at. record { undeclared = none_declared core f function lawful at; names = functions_apart core f function lawful at; others = (none_kept f function at, λ x among. kept_foreign core f x among) }) (kinds_stay core) related at
+  ready_matched seats ahead t related (inr (exit, is)) = leaves exit is
+
   matched_at : (s t : Config) (seats : Seats) (ahead : Config) (steps : ℕ) → Reaches (core_step core) steps s ahead → IsReached core seats ahead t → Related owners seats ahead t
       → Matches (steps + measure ahead) (core_step core s) t
   matched_at s t seats ahead zero way reached related =
       let at : Matches (measure ahead) (core_step core ahead) t =
-      by_step seats ahead t reached (steps_matched core core2 (kept_of core) owners seats ahead t (functions_flattened core) (λ f function at. record { undeclared = none_declared core f function lawful at; names = functions_apart core f function lawful at; others = (none_kept f function at, λ x among. kept_foreign core f x among) }) (kinds_stay core) related (ready seats ahead t reached)) in
+      by_step seats ahead t reached (ready_matched seats ahead t related (ready seats ahead t reached)) in
       let none : measure ahead ≡ 0 + measure ahead = omega arith in
       subst (λ a. Matches (0 + measure ahead) (core_step core a) t) (sym way) (subst (λ r. Matches r (core_step core ahead) t) none at)
   matched_at s t seats ahead (suc steps) (v, is, way) reached related =
@@ -77,7 +84,10 @@ module _ (core : Core) (lawful : IsLawful core) (none_kept : NoneKept core) (rea
       simulated (core_step core) (core_step core2) Side (λ (e f : Event). e ≡ f) rank
       (record { matched = λ a b x. matched_at a b x.seats x.ahead x.steps x.way x.reached x.related }) s t side
 
-pub runs_kept : RunsAreKept
-runs_kept core lawful none_kept ready =
+pub runs_kept_or_left : (core : Core) → IsLawful core → NoneKept core → AllReadyOrLeave core → Same (λ (e f : Event). e ≡ f) (runc core) (runc (without_scopes core))
+runs_kept_or_left core lawful none_kept ready =
     both_run core lawful none_kept ready (start core) (start (without_scopes core))
-    (here core lawful none_kept ready (first_seats core) (start core) (start (without_scopes core)) begun (beginnings core (modules_apart core lawful)))
+    (here core lawful none_kept ready (first_seats core) (start core) (start (without_scopes core)) begun (beginnings core (kept_of core) (modules_apart core lawful)))
+
+pub runs_kept : RunsAreKept
+runs_kept core lawful none_kept ready = runs_kept_or_left core lawful none_kept (λ seats s t reached. inl (ready seats s t reached))

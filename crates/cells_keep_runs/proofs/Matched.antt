@@ -242,7 +242,7 @@ module _ (core core2 : Core) (kept : Keeping) (owners : List ℕ) (seats : Seats
   head_by (head.TypeOf y) x s t is ready holds stand r = absurd ready
   head_by (head.Function f) x s t is ready holds stand r =
       matched_here (with_control (Begin x) s) (with_control (Begin (expr_flat owners x)) t)
-      (closures_made core core2 owners seats x f ready.function (kept f) s t is ready.before (flattened f ready.function ready.before) (apart f ready.function ready.before).others ready.seen stand r holds)
+      (closures_made core core2 owners seats x f ready.function (kept f) s t is ready.before (flattened f ready.function ready.before) (apart f ready.function ready.before).others ready.seen ready.all stand r holds)
   head_by (head.Primitive p) x s t is ready holds stand r =
       matched_here (with_control (Begin x) s) (with_control (Begin (expr_flat owners x)) t) (primitives_begin core core2 owners seats x p s t is ready stand r holds)
   head_by (head.Copy xs) x s t is ready holds stand r =

@@ -94,30 +94,30 @@ among_right xs ys x is = among_append xs ys x ∙ or_true (is_among x xs) (is_am
 
 -- ---- the parts of a record of a call
 
-abbrev names : Record → List Var
+abbrev pub names : Record → List Var
 names bs = map (λ b. b.var) bs
 
-abbrev undefined_all : List Var → Record
+abbrev pub undefined_all : List Var → Record
 undefined_all xs = map (λ x. undefined_binding x) xs
 
-names_append : (xs ys : Record) → names (xs ++ ys) ≡ names xs ++ names ys
+pub names_append : (xs ys : Record) → names (xs ++ ys) ≡ names xs ++ names ys
 names_append [] ys = refl
 names_append (b ∷ xs) ys = ap (λ zs. b.var ∷ zs) (names_append xs ys)
 
-names_passed : (xs : List Var) (vs : List Value) → names (passed xs vs) ≡ xs
+pub names_passed : (xs : List Var) (vs : List Value) → names (passed xs vs) ≡ xs
 names_passed [] vs = refl
 names_passed (x ∷ xs) [] = ap (λ ys. x ∷ ys) (names_passed xs [])
 names_passed (x ∷ xs) (v ∷ vs) = ap (λ ys. x ∷ ys) (names_passed xs vs)
 
-names_undefined : (xs : List Var) → names (undefined_all xs) ≡ xs
+pub names_undefined : (xs : List Var) → names (undefined_all xs) ≡ xs
 names_undefined [] = refl
 names_undefined (x ∷ xs) = ap (λ ys. x ∷ ys) (names_undefined xs)
 
-names_bound : (o : Option Var) → names (name_bound o) ≡ listed o
+pub names_bound : (o : Option Var) → names (name_bound o) ≡ listed o
 names_bound None = refl
 names_bound (Some x) = refl
 
-names_own : (o : Option Var) (f : Value) → names (own_name o f) ≡ listed o
+pub names_own : (o : Option Var) (f : Value) → names (own_name o f) ≡ listed o
 names_own None f = refl
 names_own (Some x) f = refl
 
@@ -350,7 +350,7 @@ regrouped a b c d e g =
 abbrev declared_of : CoreFunction → Record
 declared_of f = map (λ d. undefined_binding d.var) f.declared
 
-source_is : (f : CoreFunction) (a : Closure Own) (c : Call) (s : CoreState) → f.declared ≡ [] → a.own.cells ≡ []
+pub source_is : (f : CoreFunction) (a : Closure Own) (c : Call) (s : CoreState) → f.declared ≡ [] → a.own.cells ≡ []
     → bindings_of f a c s ≡ passed f.parameters c.args ++ (name_bound f.arguments ++ (undefined_all f.locals ++ own_name f.own c.function))
 source_is f a c s undeclared unkept =
     regrouped (passed f.parameters c.args) (declared_of f) (name_bound f.arguments) (undefined_all f.locals) (entered a f c s).names (own_name f.own c.function)

@@ -46,7 +46,7 @@ module _ (owners : List ℕ) (seats : Seats) (s t : CoreState) (stand : Stand ow
 
 module _ (core core2 : Core) (kept : Keeping) (owners : List ℕ) (seats : Seats) (s : CoreState) (flattened : AreFlattened core core2 owners kept) (apart : AreApart core kept owners) where
   pub class_seen : (f : FunctionId) → FunctionSeen core kept owners seats s f → ClassSeen core core2 owners seats s f
-  class_seen f x = record { function = x.function; kept = kept f; before = x.before; flat = flattened f x.function x.before; others = (apart f x.function x.before).others; seen = x.seen }
+  class_seen f x = record { function = x.function; kept = kept f; before = x.before; flat = flattened f x.function x.before; others = (apart f x.function x.before).others; seen = x.seen; all = x.all }
 
   pub seen_in : (vs : List (CoreValue Mark)) → ValuesSeen core kept owners seats s vs → SeenIn core core2 owners seats s vs
   seen_in (User heritage ∷ Extra (Unmade f) ∷ []) x = class_seen f x

@@ -13,7 +13,7 @@ use Rattle.core_meaning.specs.Names.{binding_in, record_at}
 use Rattle.core_meaning.specs.State.{Binding, Done, Environment, EnvironmentRecord, Hand, User}
 use Rattle.pass_rules.specs.Cells.{is_among}
 use Rattle.pass_rules.specs.Scopes.{local, part_flat, stats_flat, vars}
-use Rattle.cells_keep_runs.specs.Memory.{Memory, Names, OpenAt, Seat, Seats, cell_found, image_in, images, in_image, is_scoped, with_image}
+use Rattle.cells_keep_runs.specs.Memory.{Keeping, Memory, Names, OpenAt, Seat, Seats, cell_found, image_in, images, in_image, is_scoped, with_image}
 use Rattle.cells_keep_runs.specs.Places.{Below}
 use Rattle.cells_keep_runs.specs.Related.{at_same, none}
 use Rattle.cells_keep_runs.specs.Started.{BeginningsAreRelated, ScopedApart, owners_of, part_seat, part_seats}
@@ -79,7 +79,7 @@ local_found : (scoped : List ScopedName) (x : Var) → is_among x (vars scoped) 
 local_found [] x h = absurd (differ false h refl)
 local_found (n ∷ scoped) x h = local_by n scoped x (nat_eq n.var.0 x.0) refl h (λ i. local_found scoped x i)
 
-module _ (table : List ℕ) where
+module _ (kept : Keeping) (table : List ℕ) where
   abbrev flat : CorePart → CorePart
   flat p = part_flat table p
 
@@ -101,21 +101,21 @@ module _ (table : List ℕ) where
   record PartOf (ps : List CorePart) (k n : ℕ) (here : Seat) : Type 0 where
     part : CorePart
     at : slice_get ps n ≡ Some part
-    is : here ≡ part_seat table (k + n) part
+    is : here ≡ part_seat kept table (k + n) part
 
   next_part : (q : CorePart) (ps : List CorePart) (k n : ℕ) (here : Seat) → PartOf ps (suc k) n here → PartOf (q ∷ ps) k (suc n) here
-  next_part q ps k n here o = let e : suc k + n ≡ k + suc n = omega arith in record { part = o.part; at = o.at; is = o.is ∙ ap (λ m. part_seat table m o.part) e }
+  next_part q ps k n here o = let e : suc k + n ≡ k + suc n = omega arith in record { part = o.part; at = o.at; is = o.is ∙ ap (λ m. part_seat kept table m o.part) e }
 
-  part_of : (ps : List CorePart) (k n : ℕ) (here : Seat) → slice_get (part_seats table k ps) n ≡ Some here → PartOf ps k n here
+  part_of : (ps : List CorePart) (k n : ℕ) (here : Seat) → slice_get (part_seats kept table k ps) n ≡ Some here → PartOf ps k n here
   part_of [] k n here h = cc
   part_of (q ∷ ps) k zero here h =
       let e : k + 0 ≡ k = omega arith in
-      record { part = q; at = refl; is = one_value (Some here) here (part_seat table (k + 0) q) refl (sym h ∙ ap (λ m. Some (part_seat table m q)) (sym e)) }
+      record { part = q; at = refl; is = one_value (Some here) here (part_seat kept table (k + 0) q) refl (sym h ∙ ap (λ m. Some (part_seat kept table m q)) (sym e)) }
   part_of (q ∷ ps) k (suc n) here h = next_part q ps k n here (part_of ps (suc k) n here h)
 
-  seat_of : (ps : List CorePart) (k n : ℕ) → n < length ps → (here : Seat) × (slice_get (part_seats table k ps) n ≡ Some here)
+  seat_of : (ps : List CorePart) (k n : ℕ) → n < length ps → (here : Seat) × (slice_get (part_seats kept table k ps) n ≡ Some here)
   seat_of [] k n l = absurd (omega arith)
-  seat_of (q ∷ ps) k zero l = (part_seat table k q, refl)
+  seat_of (q ∷ ps) k zero l = (part_seat kept table k q, refl)
   seat_of (q ∷ ps) k (suc n) l = seat_of ps (suc k) n (omega arith)
 
   bound_below : (ps : List CorePart) (n : ℕ) (x : Var) (b : Binding Mark) → binding_in (record_at (map part_record ps) n) x ≡ Some b → n < length ps
@@ -123,7 +123,7 @@ module _ (table : List ℕ) where
   bound_below (q ∷ ps) zero x b h = omega arith
   bound_below (q ∷ ps) (suc n) x b h = let l : n < length ps = bound_below ps n x b h in omega arith
 
-  length_seats : (ps : List CorePart) (k : ℕ) → length (part_seats table k ps) ≡ length ps
+  length_seats : (ps : List CorePart) (k : ℕ) → length (part_seats kept table k ps) ≡ length ps
   length_seats [] k = refl
   length_seats (q ∷ ps) k = ap (λ n. suc n) (length_seats ps (suc k))
 
@@ -141,7 +141,7 @@ module _ (table : List ℕ) where
 
   module _ (ps : List CorePart) (apart : ScopedApart ps) where
     abbrev seats : Seats
-    seats = part_seats table 0 ps
+    seats = part_seats kept table 0 ps
 
     abbrev rs : Records
     rs = map part_record ps
@@ -153,7 +153,7 @@ module _ (table : List ℕ) where
     record At (n : ℕ) (here : Seat) : Type 0 where
       part : CorePart
       at : slice_get ps n ≡ Some part
-      is : here ≡ part_seat table n part
+      is : here ≡ part_seat kept table n part
       below : n < length ts
 
     at_of : (n : ℕ) (here : Seat) → slice_get seats n ≡ Some here → At n here
@@ -162,7 +162,7 @@ module _ (table : List ℕ) where
         let e : 0 + n ≡ n = omega arith in
         let l : n < length ps = part_below ps n o.part o.at in
         let m : length ts ≡ length ps = length-map (map flat ps) part_record ∙ length-map ps flat in
-        record { part = o.part; at = o.at; is = o.is ∙ ap (λ a. part_seat table a o.part) e; below = omega arith }
+        record { part = o.part; at = o.at; is = o.is ∙ ap (λ a. part_seat kept table a o.part) e; below = omega arith }
 
     image_of : (n i : ℕ) (here : Seat) → At n here → here.image ≡ Some i → n ≡ i
     image_of n i here a h = one_value here.image n i (ap (λ b. b.image) a.is) h
@@ -257,22 +257,22 @@ module _ (table : List ℕ) where
       ap (λ b. b ∷ map (λ m. body_in (slice_get (map flat ps) m)) ns) (body_flat ps n) ∙ ap (λ bs. stats_flat table (body_in (slice_get ps n)) ∷ bs) (all_bodies ps ns)
 
 pub beginnings : BeginningsAreRelated
-beginnings core apart =
+beginnings core kept apart =
     let table = owners_of core in
     let ps = core.parts in
     let flats = map (λ p. part_flat table p) ps in
-    let all = part_seats table 0 ps in
-    let long : length all ≡ length ps = length_seats table ps 0 in
-    let below : Below (length all) (numbers_from 0 ps) = numbers_below table (length all) 0 ps (omega arith) in
+    let all = part_seats kept table 0 ps in
+    let long : length all ≡ length ps = length_seats kept table ps 0 in
+    let below : Below (length all) (numbers_from 0 ps) = numbers_below kept table (length all) 0 ps (omega arith) in
     at_same (Hand Done) tt
     (record {
       states = record {
         heap = refl;
-        memory = memory table ps apart;
+        memory = memory kept table ps apart;
         closures = tt;
         callers = tt;
-        ahead = ap (λ bs. bs ++ map (λ n. body_in (slice_get flats n)) core.order) (begun_flat table ps)
-            ∙ ap (λ bs. map (stats_flat table) (map (λ p. p.instantiate) ps) ++ bs) (all_bodies table ps core.order)
+        ahead = ap (λ bs. bs ++ map (λ n. body_in (slice_get flats n)) core.order) (begun_flat kept table ps)
+            ∙ ap (λ bs. map (stats_flat table) (map (λ p. p.instantiate) ps) ++ bs) (all_bodies kept table ps core.order)
             ∙ sym (map-append (stats_flat table) (map (λ p. p.instantiate) ps) (map (part_body core) core.order));
         this_values = refl;
         generators = tt;
@@ -280,7 +280,7 @@ beginnings core apart =
         templates = refl;
         statics = refl;
       };
-      environment = numbers_flat table 0 ps ∙ sym (images_same table ps apart (numbers_from 0 ps) below);
+      environment = numbers_flat kept table 0 ps ∙ sym (images_same kept table ps apart (numbers_from 0 ps) below);
       below = below;
       receiver = refl;
       site = refl;

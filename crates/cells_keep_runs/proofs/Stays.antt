@@ -52,10 +52,10 @@ newest_stays seats here new n x at away newest m a b a_at b_at same scoped = by_
     by_age (inr (last, b_is)) =
         absurd (differ (is_scoped new x) (ap (λ z. is_scoped z x) (sym b_is) ∙ scoped) (away (ap (λ z. z.home) (sym b_is) ∙ same ∙ ap (λ z. z.home) a_is)))
 
-abbrev cell_stays : (owners : List ℕ) (seats : Seats) (new : Seat) (n k : ℕ) (x : Var) → CellOf owners seats n x k → CellOf owners (seats ++ new ∷ []) n x k
+abbrev pub cell_stays : (owners : List ℕ) (seats : Seats) (new : Seat) (n k : ℕ) (x : Var) → CellOf owners seats n x k → CellOf owners (seats ++ new ∷ []) n x k
 cell_stays owners seats new n k x c = record { seat = c.seat; seated = still_got seats new n c.seat c.seated; scoped = c.scoped; shared = c.shared; found = c.found }
 
-keeps_stays : (seats : Seats) (new : Seat) (n i k : ℕ) (x : Var) → Keeps seats n i x k → Keeps (seats ++ new ∷ []) n i x k
+pub keeps_stays : (seats : Seats) (new : Seat) (n i k : ℕ) (x : Var) → Keeps seats n i x k → Keeps (seats ++ new ∷ []) n i x k
 keeps_stays seats new n i k x c = record { seat = c.seat; seated = still_got seats new n c.seat c.seated; image = c.image; plain = c.plain; found = c.found }
 
 place_stays : (owners : List ℕ) (seats : Seats) (here new : Seat) (n m : ℕ) (x : Var) → slice_get seats n ≡ Some here → (new.home ≡ here.home → is_scoped new x ≡ false) → PlaceOf owners seats n x m → PlaceOf owners (seats ++ new ∷ []) n x m
@@ -77,7 +77,7 @@ pub past_target : (seats : Seats) (inner : Seat) (m : ℕ) (e : Environment) (x 
 past_target seats inner m e x at away =
     ap (λ o. image_with o x (target_at seats e x)) at ∙ ap (λ b. if b then or_image inner.image (target_at seats e x) else target_at seats e x) away
 
-past_cell : (seats : Seats) (inner : Seat) (m : ℕ) (e : Environment) (x : Var) → slice_get seats m ≡ Some inner → cell_found inner.cells x ≡ None → cell_along seats (m ∷ e) x ≡ cell_along seats e x
+pub past_cell : (seats : Seats) (inner : Seat) (m : ℕ) (e : Environment) (x : Var) → slice_get seats m ≡ Some inner → cell_found inner.cells x ≡ None → cell_along seats (m ∷ e) x ≡ cell_along seats e x
 past_cell seats inner m e x at none =
     ap (λ o. or_outer (cell_found (cells_in o) x) (cell_along seats e x)) at ∙ ap (λ o. or_outer o (cell_along seats e x)) none
 
@@ -98,13 +98,13 @@ seen_outside owners seats inner m e n x at away none (sees_kept k j i c along ke
 -- ---- a call
 
 module _ (owners : List ℕ) (seats : Seats) (e : Environment) (i : ℕ) (locals has : List Var) (kept : List KeptCell) where
-  abbrev called : Seat
+  abbrev pub called : Seat
   called = call_seat i locals has kept
 
-  last : slice_get (with_call seats i locals has kept) (length seats) ≡ Some called
+  pub last : slice_get (with_call seats i locals has kept) (length seats) ≡ Some called
   last = got_last seats called
 
-  finds : (x : Var) → is_among x has ≡ true → target_at (with_call seats i locals has kept) (length seats ∷ e) x ≡ Some i
+  pub finds : (x : Var) → is_among x has ≡ true → target_at (with_call seats i locals has kept) (length seats ∷ e) x ≡ Some i
   finds x here =
       let outer = target_at (with_call seats i locals has kept) e x in
       ap (λ o. image_with o x outer) last ∙ ap (λ b. if b then or_image (Some i) outer else outer) here

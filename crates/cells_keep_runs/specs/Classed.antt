@@ -18,7 +18,7 @@ use Rattle.core_meaning.specs.State.{CoreValue, Current, Extra, User, Work}
 use Rattle.core_meaning.specs.Step.{act}
 use Rattle.pass_rules.specs.Scopes.{function_flat}
 use Rattle.cells_keep_runs.specs.Alike.{Alike, strict}
-use Rattle.cells_keep_runs.specs.Closed.{AllSeen, KeepsOthers}
+use Rattle.cells_keep_runs.specs.Closed.{AllSeen, KeepsAll, KeepsOthers}
 use Rattle.cells_keep_runs.specs.Given.{given_to}
 use Rattle.cells_keep_runs.specs.Memory.{Seats, cell_along}
 use Rattle.cells_keep_runs.specs.Opened.{opened}
@@ -32,6 +32,7 @@ pub record ClassSeen (core core2 : Core) (owners : List ℕ) (seats : Seats) (s 
   pub flat : function_at core2 f ≡ Some (function_flat owners kept function)
   pub others : KeepsOthers owners f function kept
   pub seen : AllSeen owners seats s kept
+  pub all : KeepsAll seats s.context.environment f kept
 
 -- so it is for the function among these values
 abbrev pub SeenIn : Core → Core → List ℕ → Seats → CoreState → List (CoreValue Mark) → Type 0

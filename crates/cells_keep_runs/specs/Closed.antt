@@ -11,11 +11,11 @@ use Rattle.core_meaning.specs.Marks.{CoreState, Mark}
 use Rattle.core_meaning.specs.Modules.{core_step}
 use Rattle.core_meaning.specs.Names.{Resolved, resolve}
 use Rattle.core_meaning.specs.Rows.{with_control}
-use Rattle.core_meaning.specs.State.{Begin}
+use Rattle.core_meaning.specs.State.{Begin, Environment}
 use Rattle.pass_rules.specs.Cells.{is_among, is_foreign, is_shared}
 use Rattle.pass_rules.specs.Scopes.{expr_flat, function_flat}
 use Rattle.cells_keep_runs.specs.Begun.{Matched}
-use Rattle.cells_keep_runs.specs.Memory.{Seats, cell_along}
+use Rattle.cells_keep_runs.specs.Memory.{Seats, cell_along, kept_along}
 use Rattle.cells_keep_runs.specs.Opened.{AllHold}
 use Rattle.cells_keep_runs.specs.Related.{Frames, Related, Stand}
 use Rattle.cells_keep_runs.specs.Seen.{Sees}
@@ -36,11 +36,15 @@ abbrev pub KeepsOthers : List ℕ → FunctionId → CoreFunction → List Var �
 KeepsOthers owners f function kept =
     (function.cells ≡ []) × ((x : Var) → is_among x kept ≡ true → is_foreign owners (f.0 + 1) x ≡ true)
 
+-- these are all names whose cells the closures of the function are to keep that are made along the environment
+abbrev pub KeepsAll : Seats → Environment → FunctionId → List Var → Type 0
+KeepsAll seats e f kept = (x : Var) → kept_along seats e f x ≡ true → is_among x kept ≡ true
+
 -- A closure is made alike, if both machines find the names whose cells the target's keeps; the function of a class isn't made yet.
 abbrev pub ClosuresAreMadeAlike : Type 0
 ClosuresAreMadeAlike = (core core2 : Core) (owners : List ℕ) (seats : Seats) (x : CoreExpr) (f : FunctionId) (function : CoreFunction) (kept : List Var) (s t : CoreState)
     → (out-CoreExpr x).head ≡ head.Function f → function_at core f ≡ Some function
-    → function_at core2 f ≡ Some (function_flat owners kept function) → KeepsOthers owners f function kept → AllSeen owners seats s kept
+    → function_at core2 f ≡ Some (function_flat owners kept function) → KeepsOthers owners f function kept → AllSeen owners seats s kept → KeepsAll seats s.context.environment f kept
     → Stand owners seats s t → Frames owners seats s.context.environment s.context.frames t.context.frames
     → AllHold t owners (cell_along seats s.context.environment) (out-CoreExpr x).links
     → Matched (Related owners seats) core2 (core_step core (with_control (Begin x) s)) (with_control (Begin (expr_flat owners x)) t)

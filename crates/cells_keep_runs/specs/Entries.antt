@@ -6,7 +6,7 @@ use Rattle.core_meaning.specs.Marks.{Cell, KeptCell, Mark}
 use Rattle.core_meaning.specs.Names.{binding_in}
 use Rattle.core_meaning.specs.State.{Binding, EnvironmentRecord, Extra}
 use Rattle.pass_rules.specs.Cells.{is_among}
-use Rattle.cells_keep_runs.specs.Memory.{Bindings, Memory, Seat, Seats, cell_found}
+use Rattle.cells_keep_runs.specs.Memory.{Bindings, Memory, Seat, Seats, cell_found, keeps_none}
 
 -- a binding of the name, which has the same value
 pub record BoundAlike (bindings : EnvironmentRecord Mark) (x : Var) (b : Binding Mark) : Type 0 where
@@ -36,7 +36,7 @@ pub record NewCall (bindings2 bindings : EnvironmentRecord Mark) (cells : List (
 
 -- the seat of a call whose record is the target's next
 abbrev pub call_seat : ℕ → List Var → List Var → List KeptCell → Seat
-call_seat i locals has kept = record { image = Some i; home = i; scoped = []; cells = kept; has = has; locals = locals }
+call_seat i locals has kept = record { image = Some i; home = i; scoped = []; cells = kept; has = has; locals = locals; keeps = keeps_none }
 
 abbrev pub CallsAreRemembered : Type 0
 CallsAreRemembered = (owners : List ℕ) (seats : Seats) (rs ts : List (EnvironmentRecord Mark)) (cells : List (Option Value)) (bindings2 bindings : EnvironmentRecord Mark) (locals has : List Var) (kept : List KeptCell)

@@ -17,14 +17,14 @@ use Rattle.pass_rules.specs.Scopes.{reset, stats_flat, vars}
 use Rattle.runs.specs.Simulation.{Reaches}
 use Rattle.cells_keep_runs.specs.Alike.{Config}
 use Rattle.cells_keep_runs.specs.Entered.{AllAt, reset_of}
-use Rattle.cells_keep_runs.specs.Memory.{Memory, Seat, Seats, cell_found, is_scoped}
+use Rattle.cells_keep_runs.specs.Memory.{Memory, Seat, Seats, cell_found, is_scoped, keeps_none}
 use Rattle.cells_keep_runs.specs.Related.{Frames, Related, Stand}
 use Rattle.cells_keep_runs.specs.Renewed.{NewScope, scope_seat}
 
 -- the seat of a handler's record: that of a scope of its pattern's names, with an image that has its parameter
 abbrev pub with_own_image : ℕ → Var → Seat → Seat
 with_own_image i x seat =
-    record { image = Some i; home = seat.home; scoped = seat.scoped; cells = seat.cells; has = x ∷ []; locals = [] }
+    record { image = Some i; home = seat.home; scoped = seat.scoped; cells = seat.cells; has = x ∷ []; locals = []; keeps = keeps_none }
 
 -- A scope's record is left where it should be if one more name is bound in it, and in a new record of the target.
 abbrev pub ParametersAreRemembered : Type 0

@@ -16,13 +16,13 @@ use Rattle.cells_keep_runs.specs.Memory.{Seats}
 use Rattle.cells_keep_runs.specs.Ready.{AreFlattened, Keeping, Ready}
 use Rattle.cells_keep_runs.specs.Started.{owners_of, part_seats}
 
-abbrev pub first_seats : Core → Seats
-first_seats core = part_seats (owners_of core) 0 core.parts
-
 -- the names whose cells a function keeps, as the pass has them
 abbrev pub kept_of : Core → Keeping
 kept_of core f =
     cells_at (owners_of core) (holders (length core.functions) (found core)) (all_free (owners_of core) [] (found core)) f.0
+
+abbrev pub first_seats : Core → Seats
+first_seats core = part_seats (kept_of core) (owners_of core) 0 core.parts
 
 abbrev pub IsReached : Core → Seats → Config → Config → Type 0
 IsReached core = Reached core (without_scopes core) (kept_of core) (owners_of core) (first_seats core)

@@ -38,3 +38,17 @@ pub mod Stays
 pub mod Placing
 pub mod Recorded
 pub mod Copying
+pub mod Floors
+pub mod Counted
+pub mod Recounted
+pub mod Fitting
+pub mod Found
+pub mod Owed
+pub mod KeptFound
+pub mod MayBeFlattened
+pub mod Rounds
+pub mod Callings
+pub mod Declares
+pub mod Outset
+pub mod Entering
+pub mod Standings

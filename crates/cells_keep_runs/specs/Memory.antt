@@ -6,8 +6,9 @@
 -- A shared name of a scope is a cell, one for each record that has it. The home has the cell of the newest record, and the record of a
 -- call has those that its closure keeps. An unshared name stands in the home as the newest record has it: no code looks at an older one,
 -- if a name that comes anew in each turn of a loop and that a function mentions is a shared one.
-use Rattle.std.specs.Prelude.{◌≡◌, ◌≤◌, ◌<◌, Bool, true, false, List, [], ◌∷◌, Option, None, Some, if◌then◌else◌, is_some, length, nat_eq, slice_get, ℕ}
+use Rattle.std.specs.Prelude.{◌≡◌, ◌≤◌, ◌<◌, Bool, true, false, ◌||◌, List, [], ◌∷◌, Option, None, Some, if◌then◌else◌, is_some, length, nat_eq, slice_get, ℕ}
 use Rattle.es_value.specs.declared.value.Value.{Value}
+use Rattle.core_ast.specs.declared.parts.FunctionId.{FunctionId}
 use Rattle.core_ast.specs.declared.parts.Var.{Var}
 use Rattle.core_meaning.specs.Marks.{Cell, KeptCell, Mark, value_or_empty}
 use Rattle.core_meaning.specs.Names.{binding_in, record_at}
@@ -16,8 +17,16 @@ use Rattle.pass_rules.specs.Cells.{is_among, is_shared}
 
 -- ---- records
 
+-- the names whose cells the closures of a function keep behind the pass
+abbrev pub Keeping : Type 0
+Keeping = FunctionId → List Var
+
+abbrev pub keeps_none : Keeping
+keeps_none f = []
+
 -- What stands for a record of the source: its image, if it has one, its home, the names of it that stand there, and the cells of its
--- shared names, or those that its closure keeps; of its image all names, and those that scopes reset.
+-- shared names, or those that its closure keeps; of its image all names, and those that scopes reset; and of that of a module the names
+-- whose cells the closures keep that are made along it.
 pub record Seat : Type 0 where
   pub image : Option ℕ
   pub home : ℕ
@@ -25,6 +34,7 @@ pub record Seat : Type 0 where
   pub cells : List KeptCell
   pub has : List Var
   pub locals : List Var
+  pub keeps : Keeping
 
 -- by the number of the record
 abbrev pub Seats : Type 0
@@ -66,6 +76,15 @@ or_outer (Some m) n = m
 abbrev pub cell_along : Seats → Environment → Var → ℕ
 cell_along seats [] x = 0
 cell_along seats (n ∷ e) x = or_outer (cell_found (cells_in (slice_get seats n)) x) (cell_along seats e x)
+
+abbrev pub keeping_in : Option Seat → Keeping
+keeping_in None = keeps_none
+keeping_in (Some seat) = seat.keeps
+
+-- the closures of the function keep the cell of the name, if they are made along this environment
+abbrev pub kept_along : Seats → Environment → FunctionId → Var → Bool
+kept_along seats [] f x = false
+kept_along seats (n ∷ e) f x = is_among x (keeping_in (slice_get seats n) f) || kept_along seats e f x
 
 -- ---- names
 

@@ -31,11 +31,12 @@ use Rattle.pass_rules.specs.Cells.{is_among, is_shared}
 use Rattle.pass_rules.specs.Scopes.{function_flat, vars}
 use Rattle.cells_keep_runs.specs.Acted.{IsAlikeOp}
 use Rattle.cells_keep_runs.specs.Alike.{Config}
-use Rattle.cells_keep_runs.specs.Closed.{AllSeen, KeepsOthers, SeenShared}
+use Rattle.cells_keep_runs.specs.Closed.{AllSeen, KeepsAll, KeepsOthers, SeenShared}
 use Rattle.cells_keep_runs.specs.Copied.{Copyable, GoesToThen, InScope, NoWrites}
 use Rattle.cells_keep_runs.specs.Entered.{AllAt, reset_of}
 use Rattle.cells_keep_runs.specs.Named.{NamesApart}
 use Rattle.cells_keep_runs.specs.Going.{IsAlikeHead}
+pub use Rattle.cells_keep_runs.specs.Memory.{Keeping}
 use Rattle.cells_keep_runs.specs.Memory.{Seat, Seats, cell_found}
 use Rattle.cells_keep_runs.specs.Opened.{write_in}
 use Rattle.cells_keep_runs.specs.Renewed.{AllDiffer}
@@ -71,10 +72,6 @@ WritesSeen owners seats s (l ∷ links) = WriteSeen owners seats s (write_in own
 
 -- ---- functions
 
--- the names whose cells the closures of a function keep behind the pass
-abbrev pub Keeping : Type 0
-Keeping = FunctionId → List Var
-
 -- the functions of the second core are those of the first, flattened
 abbrev pub AreFlattened : Core → Core → List ℕ → Keeping → Type 0
 AreFlattened core core2 owners kept = (f : FunctionId) (function : CoreFunction) → function_at core f ≡ Some function
@@ -89,11 +86,12 @@ pub record IsApart (core : Core) (kept : Keeping) (owners : List ℕ) (f : Funct
 abbrev pub AreApart : Core → Keeping → List ℕ → Type 0
 AreApart core kept owners = (f : FunctionId) (function : CoreFunction) → function_at core f ≡ Some function → IsApart core kept owners f function
 
--- the function is there, and both find the names whose cells it keeps
+-- the function is there, both find the names whose cells it keeps, and it keeps all that closures are to
 pub record FunctionSeen (core : Core) (kept : Keeping) (owners : List ℕ) (seats : Seats) (s : CoreState) (f : FunctionId) : Type 0 where
   pub function : CoreFunction
   pub before : function_at core f ≡ Some function
   pub seen : AllSeen owners seats s (kept f)
+  pub all : KeepsAll seats s.context.environment f (kept f)
 
 -- so it is for the function among these values
 abbrev pub ValuesSeen : Core → Keeping → List ℕ → Seats → CoreState → List (CoreValue Mark) → Type 0

@@ -30,7 +30,7 @@ use Rattle.core_meaning.specs.State.{After, Begin, Behind, Calls, Catching, Choi
 use Rattle.pass_rules.specs.Cells.{is_foreign}
 use Rattle.pass_rules.specs.Scopes.{case_flat, expr_flat, reset, stats_flat}
 use Rattle.cells_keep_runs.specs.Alike.{IsPlain}
-pub use Rattle.cells_keep_runs.specs.Memory.{IsScope, Memory, Seat, Seats, cell_along, cell_found, cells_in, image_in, images, or_outer, with_image}
+pub use Rattle.cells_keep_runs.specs.Memory.{IsScope, Memory, Seat, Seats, cell_along, cell_found, cells_in, image_in, images, kept_along, or_outer, with_image}
 use Rattle.cells_keep_runs.specs.Opened.{opened, write_in}
 use Rattle.cells_keep_runs.specs.Places.{Below}
 use Rattle.cells_keep_runs.specs.Shapes.{option_flat}
@@ -232,6 +232,7 @@ pub record Closures (owners : List ℕ) (seats : Seats) (a b : Closure Own) : Ty
   pub cells : Kept seats a.environment b.own.cells
   pub uncelled : a.own.cells ≡ []
   pub foreign : (x : Var) (k : ℕ) → cell_found b.own.cells x ≡ Some k → is_foreign owners (a.function.0 + 1) x ≡ true
+  pub whole : (x : Var) → kept_along seats a.environment a.function x ≡ true → (k : ℕ) × (cell_found b.own.cells x ≡ Some k)
 
 pub data Generators (owners : List ℕ) (seats : Seats) : Generator → Generator → Type 0 where
   at_start : {a b : Context Mark Own CoreWork} → Contexts owners seats a b → Generators owners seats (AtStart a) (AtStart b)

@@ -6,7 +6,7 @@ use Rattle.core_meaning.specs.Marks.{Cell, KeptCell, Mark, empty, value_or_empty
 use Rattle.core_meaning.specs.Names.{binding_in, record_at}
 use Rattle.core_meaning.specs.State.{Binding, EnvironmentRecord, Extra}
 use Rattle.pass_rules.specs.Cells.{is_among, is_shared}
-use Rattle.cells_keep_runs.specs.Memory.{HasOpen, Keeps, Memory, OpenAt, Seat, Seats}
+use Rattle.cells_keep_runs.specs.Memory.{HasOpen, Keeps, Memory, OpenAt, Seat, Seats, keeps_none}
 use Rattle.cells_keep_runs.specs.Places.{written}
 
 -- what a name is given: a cell of its own with this content, or no value
@@ -74,7 +74,7 @@ pub record NewScope (owners : List ℕ) (seats : Seats) (rs ts : List (Environme
   pub unkept : (n k : ℕ) (x : Var) → Keeps seats n h x k → is_among x names ≡ false
 
 abbrev pub scope_seat : ℕ → List Var → ℕ → List Renewal → Seat
-scope_seat h names k renewals = record { image = None; home = h; scoped = names; cells = cells_from k renewals; has = []; locals = [] }
+scope_seat h names k renewals = record { image = None; home = h; scoped = names; cells = cells_from k renewals; has = []; locals = []; keeps = keeps_none }
 
 abbrev pub renewed_at : ℕ → List Renewal → List (EnvironmentRecord Mark) → List (Option Value) → Held
 renewed_at h renewals ts cells = all_renewed h renewals (record { records = ts; cells = cells })

@@ -5,23 +5,31 @@
 ghost use Rattle.cells_keep_runs.specs.Acted.{OperationsActAlike};
 ghost use Rattle.cells_keep_runs.specs.Alike.{UntouchedAreAlike};
 ghost use Rattle.cells_keep_runs.specs.Apart.{FunctionsAreApart, ModulesAreApart, NoneDeclared, OthersAreKept};
+ghost use Rattle.cells_keep_runs.specs.Outset.{ModulesAreRound};
 ghost use Rattle.cells_keep_runs.specs.Passed.{CopiesAreTaken, PlacesAreKept, ScopesAreEntered, ScopesAreLeft, ScopesEnd};
 ghost use Rattle.cells_keep_runs.specs.Begun.{UntouchedHeadsKeepRelated};
 ghost use Rattle.cells_keep_runs.specs.Called.{CallsEnterAlike};
+ghost use Rattle.cells_keep_runs.specs.Callings.{CallsGoOn};
 ghost use Rattle.cells_keep_runs.specs.Carried.{UntouchedKeepRelated};
 ghost use Rattle.cells_keep_runs.specs.Classed.{ClassesAreMadeAlike, HeritagesAreTakenAlike, MembersArePutAlike};
 ghost use Rattle.cells_keep_runs.specs.Closed.{ClosuresAreMadeAlike};
 ghost use Rattle.cells_keep_runs.specs.Copied.{CopiesBeginAlike};
 ghost use Rattle.cells_keep_runs.specs.Copying.{CopiesMayBeCopied, CopyableStays, ScopesMayBeCopied};
+ghost use Rattle.cells_keep_runs.specs.Counted.{StepsFit};
 ghost use Rattle.cells_keep_runs.specs.Course.{StepsAreMatched};
+ghost use Rattle.cells_keep_runs.specs.Declares.{DeclaresMeasures};
 ghost use Rattle.cells_keep_runs.specs.Ended.{AbruptEndsAlike, CellsArePassed, ScopesArePassed, StatementsEndAlike};
 ghost use Rattle.cells_keep_runs.specs.Entered.{ScopesAreEnteredAlike};
+ghost use Rattle.cells_keep_runs.specs.Entering.{NamesComeOnce};
 ghost use Rattle.cells_keep_runs.specs.Entries.{CallsAreRemembered};
+ghost use Rattle.cells_keep_runs.specs.Found.{NamesAreFoundOn};
+ghost use Rattle.cells_keep_runs.specs.Owed.{FittingIsReady};
 ghost use Rattle.cells_keep_runs.specs.Given.{LinksTakeValues, PlainFramesTakeValues, StatementsTakeValues};
 ghost use Rattle.cells_keep_runs.specs.Going.{OperationsGoOnAlike, PrimitivesBeginAlike};
 ghost use Rattle.cells_keep_runs.specs.Grown.{CellsStay, EnvironmentsStay, FramesStay};
 ghost use Rattle.cells_keep_runs.specs.Handled.{HandlersTakeThrows, ParametersAreRemembered};
 ghost use Rattle.cells_keep_runs.specs.Kept.{FunctionsAreFlattened, KindsStay, RunsAreKept};
+ghost use Rattle.cells_keep_runs.specs.KeptFound.{CodeGoesOnToFit, RunsAreKeptWhereFound};
 ghost use Rattle.cells_keep_runs.specs.Linked.{CellsTakeReads, CopiesAreDropped, CopiesGoOnAlike, LinksEndAlike, ReferencesAreReadAlike};
 ghost use Rattle.cells_keep_runs.specs.Links.{UntouchedLinksKeepRelated};
 ghost use Rattle.cells_keep_runs.specs.Named.{CallsHaveTheirNames};
@@ -29,8 +37,11 @@ ghost use Rattle.cells_keep_runs.specs.Opened.{BeginsOpenCells, CopiesAreMade};
 ghost use Rattle.cells_keep_runs.specs.Placing.{CodeStays};
 ghost use Rattle.cells_keep_runs.specs.Places.{NewRecordsComeFirst, NewRecordsHideNothing, WritesAreSeen};
 ghost use Rattle.cells_keep_runs.specs.Recorded.{CodeStaysInRecords};
+ghost use Rattle.cells_keep_runs.specs.Recounted.{RecordsAreCounted};
 ghost use Rattle.cells_keep_runs.specs.Renewed.{ScopesAreRemembered};
+ghost use Rattle.cells_keep_runs.specs.Rounds.{RoundsGoOn};
 ghost use Rattle.cells_keep_runs.specs.Seen.{NamesAreRead, NamesAreWritten};
+ghost use Rattle.cells_keep_runs.specs.Standings.{NewRecordsAreAway};
 ghost use Rattle.cells_keep_runs.specs.Started.{BeginningsAreRelated};
 ghost use Rattle.cells_keep_runs.specs.Stays.{CallsNamesAreSeen, CopiesNamesAreSeen, KeptNamesAreSeen, ParametersAreSeen, PatternsAreSeen, ScopesNamesAreSeen, SeenNamesStay, SeenOutside, SeenWithin, SharedNamesAreHeld};
 ghost use Rattle.cells_keep_runs.specs.Taken.{ValuesAreTakenAlike};
@@ -318,4 +329,60 @@ pub fn code_stays_where_it_may_stand<V, W, X, Y>()
 /// body of a module.
 pub fn code_stays_in_new_records<V, W, X, Y>()
     ensures { CodeStaysInRecords V W X Y }
+{}
+
+/// A step leaves as much of something in each context as code there had, at most, where that is at most one and code runs once where it stands,
+/// and as many contexts. A scope and a handler use up what their names have themselves, and a call is one context more. So it is with how often
+/// code declares a name.
+pub fn code_runs_once()
+    ensures others { StepsFit }
+    ensures records { RecordsAreCounted }
+    ensures declares { DeclaresMeasures }
+{}
+
+/// The code of a core that fits does so wherever its run comes to. There each configuration is ready, or its step leaves, if both machines find
+/// the names and what makes a record may make it.
+pub fn fitting_code_is_ready()
+    ensures course { CodeGoesOnToFit }
+    ensures ready { FittingIsReady }
+{}
+
+/// A core whose code fits does behind the flattening what it did before, if both machines find the names wherever the two runs come to, and what
+/// makes a record may make it.
+pub fn runs_are_kept_where_found()
+    ensures { RunsAreKeptWhereFound }
+{}
+
+/// A name that is found along an environment goes on to be found where there is a record more, if that isn't a newer one of the same home with the
+/// name, and within a record that hasn't it; and what closures mention of names further out is found from wherever they are called.
+pub fn names_are_found_on()
+    ensures { NamesAreFoundOn }
+{}
+
+/// What is round code along an environment stays so where there is a record more, has a scope ready to be entered, and is round what stands in it
+/// and in a handler; and it is round the same code along a copy of the innermost record, which may be made.
+pub fn rounds_go_on()
+    ensures { RoundsGoOn }
+{}
+
+/// A closure may be made of what is round it, and when it is called there is round its statements what they mention.
+pub fn calls_go_on()
+    ensures { CallsGoOn }
+{}
+
+/// At the beginning of a run the names of all modules are round the code of each.
+pub fn modules_are_round()
+    ensures { ModulesAreRound }
+{}
+
+/// Where a scope or a handler is entered, no record of the activation has a name of it that comes once, and what is left to declare is right with the
+/// new record, and with one that has no such name. All other contexts are of other activations than the present one, and a call's is another than all.
+pub fn names_come_once()
+    ensures { NamesComeOnce }
+{}
+
+/// A record whose names are bound nowhere along the present environment, and come once, leaves alone what is found along it and further out, and along
+/// environments of other activations.
+pub fn new_records_are_away()
+    ensures { NewRecordsAreAway }
 {}
