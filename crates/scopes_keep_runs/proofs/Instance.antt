@@ -86,7 +86,7 @@ pub record GoesOn (core : Core) (fixed : Var → Bool) (C : Seats → Config →
   pub first : C (first_seats core) (start core)
   pub quiet : (seats : Seats) (s v : Config) → core_step core s ≡ Goes v → (MakesRecord core s.state s.control → ⊥) → Fitting core fixed s → At core fixed seats s → C seats s → C seats v
   pub asked : (seats : Seats) (s : Config) (e : Event) (follow : Reply → Config) (a : Reply) → core_step core s ≡ Asks e follow → Fitting core fixed s → At core fixed seats s → C seats s → C seats (follow a)
-  pub made : (seats seats2 : Seats) (s t v : Config) → Related (owners_of core) seats s t → core_step core s ≡ Goes v → MakesRecord core s.state s.control → (Catches s.control s.state.context.frames → ⊥)
+  pub made : (seats seats2 : Seats) (s t v : Config) → Related (owners_of core) seats s t → core_step core s ≡ Goes v → MakesRecord core s.state s.control → length seats2 ≡ suc (length seats) → (Catches s.control s.state.context.frames → ⊥)
       → NewSeats core (kept_of core) (owners_of core) seats s t seats2 → Fitting core fixed s → At core fixed seats s → C seats s → StandsBy core fixed seats2 v × C seats2 v
   pub caught : (seats : Seats) (s t : Config) (v : Value) (x : Var) (names : List ScopedName) (handler : List CoreStat) (fs : List (Frame Mark CoreWork)) → Related (owners_of core) seats s t
       → s.control ≡ Hand (Throws v) → s.state.context.frames ≡ Catching x names handler ∷ fs → Fitting core fixed s → At core fixed seats s → C seats s → HandlerMatched core fixed C seats s t

@@ -26,3 +26,4 @@ pub mod Quiet
 pub mod Fresh
 pub mod CallCounts
 pub mod CallMade
+pub mod ScopesKept

@@ -166,7 +166,7 @@ module _ (core : Core) (fixed : Var → Bool) (lawful : IsLawful core) (none_kep
       let fits2 : Fits v = fits_next s v good.fits is in
       let more = grown s v at is in
       let others = keeps_along n v s2 way fits2 in
-      let first = goes.made seats seats2 s t v good.related is at free new good.fits good.at good.counts in
+      let first = goes.made seats seats2 s t v good.related is at longer free new good.fits good.at good.counts in
       let long3 : length seats2 ≡ count v = omega arith in
       let few : count s2 ≤ count v = omega arith in
       let next = quiet_along seats2 n v s2 way few fits2 (first.0, long3) first.1 in
