@@ -195,12 +195,8 @@ module _ (core : Core) (whole : Whole) (seats : Seats) (s : CoreState) (c : Call
         let one : generator_counted lim (AtYield k) ≡ 0 = none_at (bottom k.environment k.frames) here in
         let rest : total (generator_counted lim) gs ≡ 0 = generators_none gs below in
         omega arith
-    generators_none (Executing ∷ gs) (here, below) =
-        let rest : total (generator_counted lim) gs ≡ 0 = generators_none gs below in
-        omega arith
-    generators_none (Completed ∷ gs) (here, below) =
-        let rest : total (generator_counted lim) gs ≡ 0 = generators_none gs below in
-        omega arith
+    generators_none (Executing ∷ gs) (here, below) = let rest : total (generator_counted lim) gs ≡ 0 = generators_none gs below in omega arith
+    generators_none (Completed ∷ gs) (here, below) = let rest : total (generator_counted lim) gs ≡ 0 = generators_none gs below in omega arith
 
   counts_one : (x : Var) (n a : ℕ) → AllFits (declares x) (limit_with whole seats2 x n a) before
       → (limit_with whole seats2 x n a).counts env + (counted (limit_with whole seats2 x n a) s.context + (total (counted (limit_with whole seats2 x n a)) s.callers + total (generator_counted (limit_with whole seats2 x n a)) s.store.generators)) ≤ 1

@@ -55,7 +55,7 @@ use Rattle.scopes_keep_runs.proofs.Stay.{bottom_tail, ends_below, ends_ok, same_
 module _ (core : Core) (k : Known) (ends : Environment) (nm : Naming) (owners_are : nm.owners ≡ k.whole.owners) (declarers : (x : Var) → k.whole.declarer x ≡ k.declarer x)
     (placed : (seats : Seats) (bound : Bound) (shapes : List (List Var) → Type 0) → Placed core (standing_at core k ends nm seats bound shapes))
     (single : (x : Var) → is_shared k.whole.owners x ≡ false → once k.whole x ≡ true → Single core x) (fresh : Var) (fresh_single : Single core fresh)
-    (seats : Seats) (s : CoreState) (t : Config) (v : Value) (x : Var) (names : List ScopedName) (handler : List CoreStat) (i j : ℕ) (related : Related k.whole.owners seats (with_control (Hand (Throws v)) (pushed (Catching x names handler) s)) t)
+    (seats : Seats) (s : CoreState) (t : Config) (v : Value) (x : Var) (names : List ScopedName) (handler : List CoreStat) (related : Related k.whole.owners seats (with_control (Hand (Throws v)) (pushed (Catching x names handler) s)) t)
     (long : length seats ≡ length s.records)
     (all : Everywhere (standing_at core k ends nm seats (names_of s.records) (Exactly (names_of s.records))) (with_control (Hand (Throws v)) (pushed (Catching x names handler) s)))
     (counts : AllCounts core k.whole seats (with_control (Hand (Throws v)) (pushed (Catching x names handler) s))) where
@@ -120,113 +120,114 @@ module _ (core : Core) (k : Known) (ends : Environment) (nm : Naming) (owners_ar
   home_is : ready.pattern.home ≡ around.base.home
   home_is = ready_is.1
 
-  abbrev new : Seat
-  new = with_own_image i x (new_seat ready.pattern.home names j)
+  module _ (i j : ℕ) where
+    abbrev new : Seat
+    new = with_own_image i x (new_seat ready.pattern.home names j)
 
-  abbrev seats2 : Seats
-  seats2 = seats ++ new ∷ []
+    abbrev seats2 : Seats
+    seats2 = seats ++ new ∷ []
 
-  abbrev K1 : Standing
-  K1 = standing_at core k ends nm seats bound (Exactly bound)
+    abbrev K1 : Standing
+    K1 = standing_at core k ends nm seats bound (Exactly bound)
 
-  abbrev K2 : Standing
-  K2 = standing_at core k ends nm seats2 bound2 (OneOf bound bound2)
+    abbrev K2 : Standing
+    K2 = standing_at core k ends nm seats2 bound2 (OneOf bound bound2)
 
-  act_is : activation_at k.whole seats e ≡ Some (grouped k.whole new.home)
-  act_is = around.activation ∙ ap (λ h. Some (grouped k.whole h)) (sym home_is)
+    act_is : activation_at k.whole seats e ≡ Some (grouped k.whole new.home)
+    act_is = around.activation ∙ ap (λ h. Some (grouped k.whole h)) (sym home_is)
 
-  below : Below (length seats) e
-  below = all.0.2.inside.0
+    below : Below (length seats) e
+    below = all.0.2.inside.0
 
-  bound_long : length seats ≡ length bound
-  bound_long = long ∙ sym (same_length s.records)
+    bound_long : length seats ≡ length bound
+    bound_long = long ∙ sym (same_length s.records)
 
-  -- ---- the step
+    -- ---- the step
 
-  step_is : core_step core before ≡ Goes behind
-  unfolding step hand abrupt
-  step_is = refl
+    step_is : core_step core before ≡ Goes behind
+    unfolding step hand abrupt
+    step_is = refl
 
-  -- ---- what is left to declare
+    -- ---- what is left to declare
 
-  has : (y : Var) → Single core y → (a : ℕ) → AllHave (declares y) (limit_with k.whole seats y (declared_in y s.ahead) a) (among_names y names) behind
-  has y one a =
-      let lim = limit_with k.whole seats y (declared_in y s.ahead) a in
-      let uses = records_counted (declares y) lim (declares_measures y) (left_most k.whole seats y (declared_in y s.ahead) a) in
-      subst (λ m. NextHas (declares y) lim (among_names y names) m) step_is (uses.handlers core s x names handler v ((counts.names y one).fits a))
+    has : (y : Var) → Single core y → (a : ℕ) → AllHave (declares y) (limit_with k.whole seats y (declared_in y s.ahead) a) (among_names y names) behind
+    has y one a =
+        let lim = limit_with k.whole seats y (declared_in y s.ahead) a in
+        let uses = records_counted (declares y) lim (declares_measures y) (left_most k.whole seats y (declared_in y s.ahead) a) in
+        subst (λ m. NextHas (declares y) lim (among_names y names) m) step_is (uses.handlers core s x names handler v ((counts.names y one).fits a))
 
-  act_there : activation_at k.whole seats (bottom behind.state.context.environment behind.state.context.frames) ≡ Some (grouped k.whole new.home)
-  act_there = same_activation core k ends nm seats bound (Exactly bound) _ e s.context.frames all.0.0.1 ∙ act_is
+    act_there : activation_at k.whole seats (bottom behind.state.context.environment behind.state.context.frames) ≡ Some (grouped k.whole new.home)
+    act_there = same_activation core k ends nm seats bound (Exactly bound) _ e s.context.frames all.0.0.1 ∙ act_is
 
-  ends_there : StateEndsBelow (length seats) behind.state
-  ends_there = let at : StateEndsBelow (length seats) st = ends_below core k ends nm seats bound (Exactly bound) st all.0 in (at.0, at.1, at.2)
+    ends_there : StateEndsBelow (length seats) behind.state
+    ends_there = let at : StateEndsBelow (length seats) st = ends_below core k ends nm seats bound (Exactly bound) st all.0 in (at.0, at.1, at.2)
 
-  others : Elsewhere k.whole seats (grouped k.whole new.home) behind.state
-  others = elsewhere k.whole seats new names behind handler refl refl act_there ends_there fresh (declared_in fresh s.ahead) (has fresh fresh_single)
+    others : Elsewhere k.whole seats (grouped k.whole new.home) behind.state
+    others = elsewhere k.whole seats new names behind handler refl refl act_there ends_there fresh (declared_in fresh s.ahead) (has fresh fresh_single)
 
-  none : (y : Var) → Single core y → is_among y (vars names) ≡ true → (i : ℕ) (here : Seat) → slice_get seats i ≡ Some here → new.home ≡ here.home → is_scoped here y ≡ false
-  none y one among i here got home = none_before k.whole seats new names behind handler refl refl act_there ends_there y (declared_in y s.ahead) (has y one) among i here got home
+    none : (y : Var) → Single core y → is_among y (vars names) ≡ true → (i : ℕ) (here : Seat) → slice_get seats i ≡ Some here → new.home ≡ here.home → is_scoped here y ≡ false
+    none y one among i here got home = none_before k.whole seats new names behind handler refl refl act_there ends_there y (declared_in y s.ahead) (has y one) among i here got home
 
-  counts_of : (y : Var) → Single core y → CountsOf k.whole seats2 y behind
-  counts_of y one = record {
-    ahead = ahead_entered k.whole seats new names behind handler refl refl act_there ends_there y (declared_in y s.ahead) (has y one) (counts.names y one).ahead;
-    fits = λ a. fits_entered k.whole seats new names behind handler refl refl act_there ends_there y (declared_in y s.ahead) (has y one) a;
-  }
+    counts_of : (y : Var) → Single core y → CountsOf k.whole seats2 y behind
+    counts_of y one = record {
+      ahead = ahead_entered k.whole seats new names behind handler refl refl act_there ends_there y (declared_in y s.ahead) (has y one) (counts.names y one).ahead;
+      fits = λ a. fits_entered k.whole seats new names behind handler refl refl act_there ends_there y (declared_in y s.ahead) (has y one) a;
+    }
 
-  -- ---- where code stands
+    -- ---- where code stands
 
-  unbound : (y : Var) → is_scoped new y ≡ true → first_at bound e y ≡ None
-  unbound y scoped = around.unbound y (local y scoped) (away y scoped)
+    unbound : (y : Var) → is_scoped new y ≡ true → first_at bound e y ≡ None
+    unbound y scoped = around.unbound y (local y scoped) (away y scoped)
 
-  is_new : IsNew k seats bound new e
-  is_new = record {
-    unbound = unbound;
-    first = λ y i here unshared comes got scoped home. never (is_scoped new y) y refl i here unshared comes got scoped home;
-  }
-    where
-      never : (b : Bool) (y : Var) → is_scoped new y ≡ b → (i : ℕ) (here : Seat) → is_shared k.whole.owners y ≡ false → once k.whole y ≡ true → slice_get seats i ≡ Some here → is_scoped here y ≡ true → new.home ≡ here.home → b ≡ false
-      never false y is i here unshared comes got scoped home = refl
-      never true y is i here unshared comes got scoped home = absurd (differ (is_scoped here y) scoped (none y (single y unshared comes) is i here got home))
+    is_new : IsNew k seats bound new e
+    is_new = record {
+      unbound = unbound;
+      first = λ y i here unshared comes got scoped home. never (is_scoped new y) y refl i here unshared comes got scoped home;
+    }
+      where
+        never : (b : Bool) (y : Var) → is_scoped new y ≡ b → (i : ℕ) (here : Seat) → is_shared k.whole.owners y ≡ false → once k.whole y ≡ true → slice_get seats i ≡ Some here → is_scoped here y ≡ true → new.home ≡ here.home → b ≡ false
+        never false y is i here unshared comes got scoped home = refl
+        never true y is i here unshared comes got scoped home = absurd (differ (is_scoped here y) scoped (none y (single y unshared comes) is i here got home))
 
-  here_ok : StaysAt k seats new e e
-  here_ok = record { below = below; apart = inl (tail_self e) }
+    here_ok : StaysAt k seats new e e
+    here_ok = record { below = below; apart = inl (tail_self e) }
 
-  outer_ok : StaysAt k seats new e ends
-  outer_ok = ends_ok core k ends nm seats bound (Exactly bound) new e (λ a. StaysAt k seats new e a) (λ a at. at) st all.0 others (bottom_tail core k ends nm seats bound (Exactly bound) _ e s.context.frames all.0.0.1)
+    outer_ok : StaysAt k seats new e ends
+    outer_ok = ends_ok core k ends nm seats bound (Exactly bound) new e (λ a. StaysAt k seats new e a) (λ a at. at) st all.0 others (bottom_tail core k ends nm seats bound (Exactly bound) _ e s.context.frames all.0.0.1)
 
-  moved : Everywhere K2 before
-  moved =
-      let Ok = λ (a : Environment). StaysAt k seats new e a in
-      let Made = λ (a : Environment). Below (length seats) a in
-      let code : Moves (names_on k ends seats bound any_shapes nm.fixed) (names_on k ends seats2 bound2 any_shapes nm.fixed) Ok = on_moves k ends seats bound new (x ∷ vars names) e any_shapes any_shapes nm.fixed bound_long is_new in
-      let oks : AllOk Ok Made before = stays_all core k ends nm seats bound (Exactly bound) new e (λ a. StaysAt k seats new e a) (λ a at. at) before t k.whole.owners related all.0 others here_ok in
-      everywhere_moved K1 K2 Ok Made
-      (record {
-        code = beside_moves (names_on k ends seats bound any_shapes nm.fixed) (names_on k ends seats2 bound2 any_shapes nm.fixed) (fit_standing core nm) (Exactly bound) (OneOf bound bound2) Ok code;
-        makes = λ a f made at. (made_on k ends seats bound new (x ∷ vars names) e any_shapes any_shapes nm.fixed bound_long is_new a f made at.0, at.1);
-        outermost = λ a ok at. at;
-        bodies = λ a at. (at, subst (λ z. Ok z) (sym at.0) outer_ok);
-        fixed = λ y free. free;
-      }) before oks (inl refl) all
+    moved : Everywhere K2 before
+    moved =
+        let Ok = λ (a : Environment). StaysAt k seats new e a in
+        let Made = λ (a : Environment). Below (length seats) a in
+        let code : Moves (names_on k ends seats bound any_shapes nm.fixed) (names_on k ends seats2 bound2 any_shapes nm.fixed) Ok = on_moves k ends seats bound new (x ∷ vars names) e any_shapes any_shapes nm.fixed bound_long is_new in
+        let oks : AllOk Ok Made before = stays_all core k ends nm seats bound (Exactly bound) new e (λ a. StaysAt k seats new e a) (λ a at. at) before t k.whole.owners related all.0 others here_ok in
+        everywhere_moved K1 K2 Ok Made
+        (record {
+          code = beside_moves (names_on k ends seats bound any_shapes nm.fixed) (names_on k ends seats2 bound2 any_shapes nm.fixed) (fit_standing core nm) (Exactly bound) (OneOf bound bound2) Ok code;
+          makes = λ a f made at. (made_on k ends seats bound new (x ∷ vars names) e any_shapes any_shapes nm.fixed bound_long is_new a f made at.0, at.1);
+          outermost = λ a ok at. at;
+          bodies = λ a at. (at, subst (λ z. Ok z) (sym at.0) outer_ok);
+          fixed = λ y free. free;
+        }) before oks (inl refl) all
 
-  -- the new record is away from what is found along the present environment
-  round_inner : Around k seats2 bound2 (length seats ∷ e) (in_handler x names r)
-  round_inner =
-      handlers_round k.whole k.kept k.declarer seats st x names i j r ready below long around may_enter home_is declared (new_records_away.away k seats bound new e e is_new here_ok)
+    -- the new record is away from what is found along the present environment
+    round_inner : Around k seats2 bound2 (length seats ∷ e) (in_handler x names r)
+    round_inner =
+        handlers_round k.whole k.kept k.declarer seats st x names i j r ready below long around may_enter home_is declared (new_records_away.away k seats bound new e e is_new here_ok)
 
-  enters : Entering K2 st (x ∷ vars names) names handler
-  enters = entering core k ends nm seats st new (x ∷ vars names) names handler (in_handler x names r) long below round_inner may.1 fits.1 fit.0 act_is unbound
+    enters : Entering K2 st (x ∷ vars names) names handler
+    enters = entering core k ends nm seats st new (x ∷ vars names) names handler (in_handler x names r) long below round_inner may.1 fits.1 fit.0 act_is unbound
 
-  names_there : bound_in behind ≡ bound2
-  names_there = names_more s.records (binding x (User v) ∷ uninitialized names) (x ∷ vars names) (ap (λ ys. x ∷ ys) (scope_names names))
+    names_there : bound_in behind ≡ bound2
+    names_there = names_more s.records (binding x (User v) ∷ uninitialized names) (x ∷ vars names) (ap (λ ys. x ∷ ys) (scope_names names))
 
-  -- ---- behind the handler's beginning
+    -- ---- behind the handler's beginning
 
-  pub handler_stands : Everywhere (standing_at core k ends nm seats2 (bound_in behind) (Exactly (bound_in behind))) behind
-  handler_stands = finished core k ends nm seats2 bound bound2 before behind (placed seats2 bound2 (OneOf bound bound2)) step_is moved enters names_there
+    pub handler_stands : Everywhere (standing_at core k ends nm seats2 (bound_in behind) (Exactly (bound_in behind))) behind
+    handler_stands = finished core k ends nm seats2 bound bound2 before behind (placed seats2 bound2 (OneOf bound bound2)) step_is moved enters names_there
 
-  pub handler_counts : AllCounts core k.whole seats2 behind
-  handler_counts = record { names = counts_of; homes = λ h less. home_more seats new h (counts.homes h less) }
+    pub handler_counts : AllCounts core k.whole seats2 behind
+    handler_counts = record { names = counts_of; homes = λ h less. home_more seats new h (counts.homes h less) }
 
-  pub handler_step : core_step core before ≡ Goes behind
-  handler_step = step_is
+    pub handler_step : core_step core before ≡ Goes behind
+    handler_step = step_is

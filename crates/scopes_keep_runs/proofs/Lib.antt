@@ -26,4 +26,8 @@ pub mod Quiet
 pub mod Fresh
 pub mod CallCounts
 pub mod CallMade
+pub mod Declared
+pub mod Singles
+pub mod FirstCounts
+pub mod GoesOn
 pub mod ScopesKept

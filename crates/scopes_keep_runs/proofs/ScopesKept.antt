@@ -1,18 +1,16 @@
 -- The two runs of a core whose scopes may be flattened.
-use Rattle.std.proofs.Common.{◌≡◌, Bool}
-use Rattle.runs.specs.Same.{Same}
+use Rattle.std.proofs.Common.{Bool}
 use Rattle.core_ast.specs.Lawful.{IsLawful}
 use Rattle.core_ast.specs.declared.parts.Var.{Var}
 use Rattle.core_ast.specs.declared.whole.Core.{Core}
-use Rattle.core_meaning.specs.Modules.{runc}
-use Rattle.pass_rules.specs.Scopes.{without_scopes}
 use Rattle.cells_keep_runs.specs.Fitting.{IsFitting}
 use Rattle.cells_keep_runs.specs.Kept.{NoneKept}
 use Rattle.cells_keep_runs.specs.KeptFound.{naming}
 use Rattle.cells_keep_runs.specs.MayBeFlattened.{whole_of}
 use Rattle.scopes_keep_runs.specs.Counts.{AllCounts}
-use Rattle.scopes_keep_runs.specs.ScopesKept.{MayBeFlattened, RunsAreKept}
+use Rattle.scopes_keep_runs.specs.ScopesKept.{RunsAreKept}
 use Rattle.scopes_keep_runs.proofs.BothRun.{runs_go_on}
+use Rattle.scopes_keep_runs.proofs.GoesOn.{goes_on}
 use Rattle.scopes_keep_runs.proofs.Instance.{GoesOn}
 use Rattle.scopes_keep_runs.proofs.NamesMay.{NamesMay, names_may}
 
@@ -21,3 +19,6 @@ pub kept_by : ((core : Core) (fixed : Var → Bool) → IsLawful core → NoneKe
 kept_by goes core fixed lawful may =
     let names = names_may core may.names in
     runs_go_on core fixed lawful may.none_kept may.fitting names (AllCounts core (whole_of core)) (goes core fixed lawful may.none_kept may.fitting names)
+
+pub runs_kept : RunsAreKept
+runs_kept = kept_by goes_on
