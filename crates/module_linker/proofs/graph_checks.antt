@@ -3,4 +3,5 @@ pub mod Entry
 pub mod Laws
 pub mod Linked
 pub mod OneReading
+pub mod Ran
 pub mod Told

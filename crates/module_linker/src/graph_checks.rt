@@ -3,6 +3,8 @@
 mod building;
 mod checking;
 mod faults;
+mod running;
 
 pub use building::{WritesGraph, written_builds};
 pub use checking::checked;
+pub use running::run_checked;

@@ -31,7 +31,7 @@ pub fn link(alloc: Global, graph: &mut Graph, hosts: &HostNames) -> Result<(), L
 }
 
 /// What a declaration declares, by the walk of the early errors' definitions.
-struct Declared;
+pub(crate) struct Declared;
 
 impl Declares for Declared {
     fn declared(alloc: Global, statement: &Statement) -> Result<Items<Name>, AllocError> {

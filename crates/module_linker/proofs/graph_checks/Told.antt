@@ -42,11 +42,11 @@ module _ (told : Option (List ℕ → Option (List ℕ))) (hosts : List (List �
   refused_load (loads.InModule path fault) r f rose e = by_files (unloaded (loads.InModule path fault) f tt e)
   refused_load loads.OutOfMemory r f rose e = by_files (unloaded loads.OutOfMemory f tt e)
 
-  load_fault : (fault : LoadFault ModuleFault) (answer : GraphFault) → IsFaultOf told entry fault → ((path : List ℕ) → fault ≡ loads.ReadFault path → CountRose old new) → OrNoMemory (told_load entry fault) answer → HasGraphFault told hosts entry old new answer
+  pub load_fault : (fault : LoadFault ModuleFault) (answer : GraphFault) → IsFaultOf told entry fault → ((path : List ℕ) → fault ≡ loads.ReadFault path → CountRose old new) → OrNoMemory (told_load entry fault) answer → HasGraphFault told hosts entry old new answer
   load_fault fault (Refused refusal) f rose e = refused_load fault refusal f rose e
   load_fault fault OutOfMemory f rose e = tt
 
-  link_fault : (fault : LinkFault) (answer : GraphFault) → IsUnlinked told entry hosts fault → answer ≡ told_link fault → HasGraphFault told hosts entry old new answer
+  pub link_fault : (fault : LinkFault) (answer : GraphFault) → IsUnlinked told entry hosts fault → answer ≡ told_link fault → HasGraphFault told hosts entry old new answer
   link_fault fault (Refused refusal) l e = by_files (unlinked l.graph fault l.loads l.refused (sym e))
   link_fault fault OutOfMemory l e = tt
 
