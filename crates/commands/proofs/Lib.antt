@@ -1,1 +1,4 @@
+pub mod Asking
+pub mod Due
 pub mod Outcomes
+pub mod Sampling

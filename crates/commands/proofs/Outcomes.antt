@@ -13,7 +13,7 @@ use Rattle.es_outside.specs.Sinks.{Adds}
 use Rattle.commands.specs.declared.status.Status.{Status}
 use Rattle.commands.specs.declared.status.Status.TheVariants as status
 use Rattle.commands.specs.declared.fault.Fault.{Fault}
-use Rattle.commands.specs.declared.fault.Fault.TheVariants.{Missing, ReadFailed, FileTooLong, InGraph, InScript, InEdits, BadMap, Unbuilt}
+use Rattle.commands.specs.declared.fault.Fault.TheVariants.{Missing, ReadFailed, FileTooLong, InGraph, InScript, InEdits, BadMap, Unlike}
 use Rattle.es_outside.specs.Files.{read_of}
 use Rattle.first_trees.specs.declared.Module.{Module}
 use Rattle.first_forms.specs.Lexing.{tokens_of}
@@ -30,47 +30,46 @@ use Rattle.command_words.specs.Words as asked
 use Rattle.command_words.specs.Said.{IsRefused}
 use Rattle.source_map.specs.Document.{map_of}
 use Rattle.source_map.specs.Line.{map_text_of}
-use Rattle.source_map.specs.Outcome.{◌>>=◌, Fails}
+use Rattle.source_map.specs.Outcome.{Fails}
 use Rattle.source_map.specs.declared.fault.MapFault.{MapFault}
 use Rattle.source_map.specs.declared.fault.MapFault.TheVariants as map_fault
-use Rattle.edit_reading.specs.Lines as edits_fault
 use Rattle.edit_reading.specs.Reading as of_edits
 use Rattle.edit_reading.specs.Reading.{AreEdits}
 use Rattle.edit_reading.specs.declared.fault.EditsFault.{EditsFault}
 use Rattle.edit_reading.specs.declared.fault.EditsFault.TheVariants as in_edits
 use Rattle.edit_reading.specs.declared.fault.Unread.{Unread as UnreadList}
 use Rattle.edit_reading.specs.declared.fault.Unread.TheVariants as unread_list
-use Rattle.edit_reading.proofs.Laws as edits_laws
 use Rattle.listed_builds.specs.Doing.{IfUnread, IsUnread, ReadsIn, Step}
 use Rattle.listed_builds.specs.declared.fault.BuildFault.{BuildFault}
 use Rattle.listed_builds.specs.declared.fault.BuildFault.TheVariants as build_fault
 use Rattle.module_loading.specs.Files.{Holds}
-use Rattle.graph_refusals.specs.Lines.{is_limit, is_placed_limit}
+use Rattle.graph_refusals.specs.Lines.{is_placed_limit}
 use Rattle.graph_refusals.specs.declared.fault.FileFault.{FileFault}
 use Rattle.graph_refusals.specs.declared.fault.FileFault.TheVariants as in_file
 use Rattle.graph_refusals.specs.declared.fault.GraphFault.{GraphFault}
 use Rattle.graph_refusals.specs.declared.fault.GraphFault.TheVariants as graph_fault
 use Rattle.graph_refusals.specs.declared.fault.Refusal.{Refusal}
+use Rattle.module_linker.specs.graph_checks.Runs.{RunsGraph}
 use Rattle.module_linker.specs.graph_checks.Builds.{ReadsNext, WritesAll}
-use Rattle.module_linker.specs.graph_checks.Checks.{HasGraphFault, IsRefusedFor, Passes, Refuses, by_files, by_reading}
+use Rattle.module_linker.specs.graph_checks.Checks.{HasGraphFault, IsRefusedFor, Passes, by_files, by_reading}
 use Rattle.module_linker.proofs.graph_checks.Entry.{entry_missing, entry_too_long, entry_unread}
 use Rattle.module_linker.specs.Checking.{IsMadeOf}
 use Rattle.pipeline.specs.Compiled.{IsCompiled}
 use Rattle.split_emit.specs.Split.{IsSplitText}
-use Rattle.module_linker.proofs.graph_checks.Laws.{one_limit_refused, passes_or_refused, refuses_no_read}
+use Rattle.sample_runs.specs.Telling.{sample_line}
+use Rattle.sample_runs.specs.declared.comparison.Comparison.{Comparison}
+use Rattle.sample_runs.specs.declared.comparison.Comparison.TheVariants as comparison
 use Rattle.run_lines.specs.ScriptFaults as script_fault
 use Rattle.run_lines.specs.declared.script_fault.ScriptFault.{ScriptFault}
 use Rattle.run_lines.specs.declared.script_fault.ScriptFault.TheVariants as in_script
 use Rattle.program_runs.specs.Around.{Around, Hosted}
 use Rattle.program_runs.specs.declared.end.RunEnd.{RunEnd}
-use Rattle.script_runs.specs.Runs.{Ends, HasRun}
+use Rattle.script_runs.specs.Runs.{Ends}
 use Rattle.script_runs.specs.declared.unread.Unread.{Unread}
 use Rattle.script_runs.specs.declared.unread.Unread.TheVariants as unread
-use Rattle.script_runs.specs.Scripts as of_script
-use Rattle.script_runs.proofs.Laws as script_laws
 use Rattle.commands.specs.Lines.{edits_status_of, graph_status_of, line_of, script_status_of, status_of, usage_line}
-use Rattle.commands.specs.Outcome.{max_module_bytes, max_script_bytes, IsBuilt, IsRebuilt, IsSplitGraph, IsUndone, untaken, unbuilt, EditsCause, IsNoForm, RefusesEntry, in_graph, HasMap, HasNoMap, no_script, script_too_long, bad_map, IsMapText, OnFile, HasEditsFault, HasFault, HasScriptFault, GraphCause, ScriptCause, IsToCome, Cause, subject, Written, HasAdded, Call, HasTalked, IsAnswered, IsEnded, IsSaid, said, cut_off, unsaid, after, before, Makes, script, whole, scripts, rebuilt, map, IsLine, usage, refusal, IsReported, cut_output, cut_line, IsOutcome, IsCalm, IsDue, ComesWhenDue}
-use Rattle.commands.specs.Parts.{map_fault_of, graph_fault_of, edits_fault_of, build_fault_of, entry_refusal, IsEntryFault, IsBytesScript, formed, unformed, RefusesBytes, bytes_too_long, FitsBytes, IsBytesMap, FitsScript, Fits, IsFileScript, of_module, of_graph, IsFileMap, MadeBy, IsAnswer, IsToldOf, TalksBy, IsMisuseOutcome, IsFailOutcome, IsWritten, IsCommandOutcome, wrote, failed}
+use Rattle.commands.specs.Outcome.{max_module_bytes, max_script_bytes, IsBuilt, IsRebuilt, IsSplitGraph, untaken, unbuilt, IsNoForm, HasMap, HasNoMap, no_script, script_too_long, bad_map, IsSampled, IsWhole, Cause, subject, Written, HasAdded, Call, HasTalked, by_script, by_graph, IsAnswered, IsEnded, IsSaid, said, cut_off, unsaid, after, before, Makes, script, whole, scripts, rebuilt, map, sampled, IsLine, usage, refusal, IsReported, cut_output, cut_line, IsOutcome}
+use Rattle.commands.specs.Parts.{map_fault_of, graph_fault_of, edits_fault_of, build_fault_of, entry_refusal, IsEntryFault, IsBytesScript, formed, unformed, RefusesBytes, bytes_too_long, FitsBytes, IsBytesMap, FitsScript, Fits, IsFileScript, of_module, of_graph, IsFileMap, MadeBy, IsAnswer, IsSampleOutcome, IsToldOf, IsToldOfBoth, IsToldOfGraph, FitsSample, SamplesBy, both_ran, none_ran, sample_word, TalksBy, IsMisuseOutcome, IsFailOutcome, IsWritten, IsCommandOutcome, wrote, failed}
 
 same_some : {A : Type 0} {x y : A} → Some x ≡ Some y → x ≡ y
 same_some e = cc
@@ -216,7 +215,7 @@ fits_from hosts told entry old middle new (Err (Refused (InGraph r))) le h = ref
 fits_from hosts told entry old middle new (Err (Refused (InScript fault))) le h = h
 fits_from hosts told entry old middle new (Err (Refused (InEdits fault))) le h = h
 fits_from hosts told entry old middle new (Err (Refused (BadMap fault))) le h = h
-fits_from hosts told entry old middle new (Err (Refused Unbuilt)) le h = h
+fits_from hosts told entry old middle new (Err (Refused Unlike)) le h = h
 
 -- the graph passed, and what is made of its entry is what the command makes
 pub built_of : (hosts list : List (List ℕ)) (told told2 : Option (List ℕ → Option (List ℕ))) (entry : List ℕ) (old middle new : ℕ) (result : Result (Vec ℕ Global) CommandFault) → list ≡ hosts → told2 ≡ told → old ≤ middle → MatchResult result (λ s. IsFileScript list told2 entry s.items) (Fits list (asked.build entry) told2 middle new) → MatchResult result (λ s. IsFileScript hosts told entry s.items) (Fits hosts (asked.build entry) told old new)
@@ -249,7 +248,7 @@ found_map files path old new read (Err (Refused (InGraph r))) told b = elim b [ 
 found_map files path old new read (Err (Refused (InScript f))) told b = elim b [ ]
 found_map files path old new read (Err (Refused (InEdits f))) told b = elim b [ ]
 found_map files path old new read (Err (Refused ReadFailed)) told b = elim b [ ]
-found_map files path old new read (Err (Refused Unbuilt)) told b = elim b [ ]
+found_map files path old new read (Err (Refused Unlike)) told b = elim b [ ]
 found_map files path old new read (Err (Refused FileTooLong)) told b = if_some_map files (λ file e. unmapped_file (file path) read FileTooLong e b) told
 found_map files path old new read (Err (Refused (BadMap f))) told b = if_some_map files (λ file e. unmapped_file (file path) read (BadMap f) e b) told
 
@@ -324,16 +323,16 @@ report_of c (InGraph r) reported = by_graph_status (λ (s : Status). IsReported 
 report_of c (InScript f) reported = by_script_status (λ (s : Status). IsReported c s → IsAnswered c s) f (λ x. x) (λ x. x) (λ x. x) reported
 report_of c (InEdits f) reported = by_edits_status (λ (s : Status). IsReported c s → IsAnswered c s) f (λ x. x) (λ x. x) (λ x. x) reported
 report_of c (BadMap fault) r = r
-report_of c Unbuilt r = r
+report_of c Unlike r = r
 
 pub misused : (c : Call) (fault : WordsFault) (s : Status) → IsRefused (command_of c.words) fault → HasAdded c.out [] → IsMisuseOutcome fault c.err s → IsAnswered c s
 misused c words.Usage s none o h = reported c status.Usage s usage_line (usage none) o h (λ k. record { line = usage_line; is_line = usage none; on_err = k; on_out = o })
 misused c words.OutOfMemory s fits o h = subst (λ (t : Status). IsAnswered c t) (sym h.0) (o, h.1)
 
-written : (c : Call) (s : Status) (bytes : List ℕ) → Makes c bytes → HasAdded c.err [] → IsSaid c.out bytes status.Done s → IsAnswered c s
-written c s bytes b e (said h) = (bytes, b, h, e)
-written c s bytes b e (cut_off h) = cut_output bytes b h e
-written c s bytes b e (unsaid h) = (h, e)
+written : (c : Call) (wanted s : Status) (bytes : List ℕ) → (IsWhole c wanted → IsAnswered c wanted) → Makes c wanted bytes → HasAdded c.err [] → IsSaid c.out bytes wanted s → IsAnswered c s
+written c wanted s bytes as_whole b e (said h) = as_whole (bytes, b, h, e)
+written c wanted s bytes as_whole b e (cut_off h) = cut_output bytes b h e
+written c wanted s bytes as_whole b e (unsaid h) = (h, e)
 
 fails : (c : Call) (a : Asked) (s : Status) (fault : CommandFault) → command_of c.words ≡ Some a → Fits c.hosts a c.files c.faults_old c.faults_new fault → IsFailOutcome (subject a) fault c.err s → HasAdded c.out [] → IsAnswered c s
 fails c a s (Refused fault) command f h o =
@@ -342,13 +341,13 @@ fails c a s (Refused fault) command f h o =
     reported c (status_of fault) s line l o h (λ k. report_of c fault (record { line = line; is_line = l; on_err = k; on_out = o }))
 fails c a s OutOfMemory command f h o = subst (λ (t : Status). IsAnswered c t) (sym h.0) (o, h.1)
 
-makes_script : (c : Call) (entry bytes : List ℕ) → command_of c.words ≡ Some (asked.build entry) → IsFileScript c.hosts c.files entry bytes → Makes c bytes
+makes_script : (c : Call) (entry bytes : List ℕ) → command_of c.words ≡ Some (asked.build entry) → IsFileScript c.hosts c.files entry bytes → Makes c status.Done bytes
 makes_script c entry _ command (of_module m accepted of) = script entry m command accepted of
 makes_script c entry _ command (of_graph g) = whole entry command g
 
-makes : (c : Call) (a : Asked) (bytes : List ℕ) → command_of c.words ≡ Some a → MadeBy c.hosts a c.files bytes → Makes c bytes
+makes : (c : Call) (a : Asked) (bytes : List ℕ) → command_of c.words ≡ Some a → MadeBy c.hosts a c.files bytes → Makes c status.Done bytes
 makes c (asked.build entry) bytes command f = makes_script c entry bytes command f
-makes c (asked.map_of path) bytes command f = subst (λ (b : List ℕ). Makes c b) (sym f.line_is) (map f.text path command f.accepted f.is_map)
+makes c (asked.map_of path) bytes command f = subst (λ (b : List ℕ). Makes c status.Done b) (sym f.line_is) (map f.text path command f.accepted f.is_map)
 makes c (asked.split entry) bytes command f = scripts entry command f
 makes c (asked.rebuild entry list) bytes command f = rebuilt entry list command f
 makes c (asked.run entry steps) bytes command f = absurd f
@@ -356,7 +355,7 @@ makes c (asked.run5 path steps) bytes command f = absurd f
 makes c (asked.sample n) bytes command f = absurd f
 
 answered : (c : Call) (a : Asked) (s : Status) → command_of c.words ≡ Some a → IsAnswer c.hosts a c.files c.faults_old c.faults_new c.out c.err s → IsAnswered c s
-answered c a s command (wrote bytes f h e) = written c s bytes (makes c a bytes command f) e h
+answered c a s command (wrote bytes f h e) = written c status.Done s bytes (λ w. w) (makes c a bytes command f) e h
 answered c a s command (failed fault f h o) = fails c a s fault command f h o
 
 talked : (c : Call) (a : Asked) (s : Status) → command_of c.words ≡ Some a → TalksBy c.hosts a c.files c.hosts_old c.hosts_new c.out c.err s → HasTalked c s
@@ -364,12 +363,54 @@ talked c (asked.build entry) s command t = absurd t
 talked c (asked.map_of path) s command t = absurd t
 talked c (asked.split entry) s command t = absurd t
 talked c (asked.rebuild entry list) s command t = absurd t
-talked c (asked.run entry steps) s command t = absurd t
-talked c (asked.run5 path steps) s command t = record { path = path; steps = steps; command = command; end = t.end; run = t.run; ended = t.ended }
+talked c (asked.run entry steps) s command t = record { end = t.end; run = by_graph entry steps command t.run; ended = t.ended }
+talked c (asked.run5 path steps) s command t = record { end = t.end; run = by_script path steps command t.run; ended = t.ended }
 talked c (asked.sample n) s command t = absurd t
 
+-- what the sample leaves, by what comes of both runs
+both_told : (c : Call) (count : ℕ) (s : Status) (both : Comparison) (line : List ℕ) → command_of c.words ≡ Some (asked.sample count) → IsSampled count both → line ≡ sample_line count both
+    → IsToldOfBoth both line c.out c.err s → IsAnswered c s
+both_told c count s (comparison.Same events) line command is line_is t =
+    written c status.Done s line (λ w. w) (sampled count command (record { comparison = comparison.Same events; sampled = is; line_is = line_is; told = refl })) t.1 t.0
+both_told c count s (comparison.Threw seen) line command is line_is t =
+    written c status.Threw s line (λ w. w) (sampled count command (record { comparison = comparison.Threw seen; sampled = is; line_is = line_is; told = refl })) t.1 t.0
+both_told c count s (comparison.Left exit path place) line command is line_is t =
+    written c status.Left s line (λ w. w) (sampled count command (record { comparison = comparison.Left exit path place; sampled = is; line_is = line_is; told = refl })) t.1 t.0
+both_told c count s comparison.Spent line command is line_is t =
+    written c status.StepsSpent s line (λ w. w) (sampled count command (record { comparison = comparison.Spent; sampled = is; line_is = line_is; told = refl })) t.1 t.0
+both_told c count s comparison.Unlike line command is line_is t = fails c (asked.sample count) s (Refused Unlike) command is t.0 t.1
+both_told c count s (comparison.Unread fault) line command is line_is t = fails c (asked.sample count) s (Refused (InScript fault)) command is t.0 t.1
+
+none_told : (c : Call) (count : ℕ) (s : Status) (fault : CommandFault) → command_of c.words ≡ Some (asked.sample count) → FitsSample count fault → IsFailOutcome sample_word fault c.err s → HasAdded c.out [] → IsAnswered c s
+none_told c count s (Refused (InGraph r)) command f h o = fails c (asked.sample count) s (Refused (InGraph r)) command f h o
+none_told c count s (Refused Missing) command f h o = absurd f
+none_told c count s (Refused ReadFailed) command f h o = absurd f
+none_told c count s (Refused FileTooLong) command f h o = absurd f
+none_told c count s (Refused (InScript fault)) command f h o = absurd f
+none_told c count s (Refused (InEdits fault)) command f h o = absurd f
+none_told c count s (Refused (BadMap fault)) command f h o = absurd f
+none_told c count s (Refused Unlike) command f h o = absurd f
+none_told c count s OutOfMemory command f h o = fails c (asked.sample count) s OutOfMemory command tt h o
+
+sample_told_of : (c : Call) (count : ℕ) (s : Status) → command_of c.words ≡ Some (asked.sample count) → IsSampleOutcome count c.out c.err s → IsAnswered c s
+sample_told_of c count s command (both_ran x with_it told) = both_told c count s x.comparison x.line.items command with_it.is_sampled with_it.line_is told
+sample_told_of c count s command (none_ran fault fits h o) = none_told c count s fault command fits h o
+
+sampled_answer : (c : Call) (a : Asked) (s : Status) → command_of c.words ≡ Some a → SamplesBy a c.out c.err s → IsAnswered c s
+sampled_answer c (asked.build entry) s command h = absurd h
+sampled_answer c (asked.map_of path) s command h = absurd h
+sampled_answer c (asked.split entry) s command h = absurd h
+sampled_answer c (asked.rebuild entry list) s command h = absurd h
+sampled_answer c (asked.run entry steps) s command h = absurd h
+sampled_answer c (asked.run5 path steps) s command h = absurd h
+sampled_answer c (asked.sample count) s command h = sample_told_of c count s command h
+
+answered_so : (c : Call) (a : Asked) (s : Status) → command_of c.words ≡ Some a → IsAnswer c.hosts a c.files c.faults_old c.faults_new c.out c.err s ⊎ SamplesBy a c.out c.err s → IsAnswered c s
+answered_so c a s command (inl h) = answered c a s command h
+answered_so c a s command (inr h) = sampled_answer c a s command h
+
 pub done : (c : Call) (a : Asked) (s : Status) → command_of c.words ≡ Some a → IsCommandOutcome c.hosts a c.files c.faults_old c.faults_new c.hosts_old c.hosts_new c.out c.err s → IsOutcome c s
-done c a s command (inl h) = inl (answered c a s command h.0, h.1)
+done c a s command (inl h) = inl (answered_so c a s command h.0, h.1)
 done c a s command (inr t) = inr (talked c a s command t)
 
 -- the hosts and the output of a call that left all as it was
@@ -386,9 +427,25 @@ pub script_outcome : (told : Option (List ℕ → Option (List ℕ))) (faults_ol
 script_outcome told faults_old faults_new path steps hosts_old hosts_new out err s (Ok e) names ends t =
     inr (record { end = e; run = ends; ended = subst (λ (h : List (List ℕ)). IsEnded h err e s) names t })
 script_outcome told faults_old faults_new path steps hosts_old hosts_new out err s (Err (unread.Refused f)) names ends t =
-    inl (failed (Refused (InScript f)) ends.cause t (same_output ends.untouched), same_hosts ends.untouched)
+    inl (inl (failed (Refused (InScript f)) ends.cause t (same_output ends.untouched)), same_hosts ends.untouched)
 script_outcome told faults_old faults_new path steps hosts_old hosts_new out err s (Err unread.OutOfMemory) names ends t =
-    inl (failed OutOfMemory tt t (same_output ends.untouched), same_hosts ends.untouched)
+    inl (inl (failed OutOfMemory tt t (same_output ends.untouched)), same_hosts ends.untouched)
+
+-- a run for hosts with these names
+pub run_by : (hosts list : List (List ℕ)) (told : Option (List ℕ → Option (List ℕ))) (faults_old faults_new : ℕ) (entry : List ℕ) (steps : ℕ) (old new : Around) (r : Result RunEnd GraphFault)
+    → list ≡ hosts → RunsGraph list told faults_old faults_new entry steps old new r → RunsGraph hosts told faults_old faults_new entry steps old new r
+run_by hosts list told faults_old faults_new entry steps old new r e h = subst (λ (l : List (List ℕ)). RunsGraph l told faults_old faults_new entry steps old new r) e h
+
+-- what a graph leaves, by what is told of it
+pub graph_outcome : (told : Option (List ℕ → Option (List ℕ))) (faults_old faults_new : ℕ) (entry : List ℕ) (steps : ℕ) (hosts_old hosts_new : Hosted) (out err : Written) (s : Status) (r : Result RunEnd GraphFault)
+    → hosts_new.names ≡ hosts_old.names → RunsGraph hosts_old.names told faults_old faults_new entry steps (before hosts_old out) (after hosts_new out) r → IsToldOfGraph entry hosts_new.names err r s
+    → IsCommandOutcome hosts_old.names (asked.run entry steps) told faults_old faults_new hosts_old hosts_new out err s
+graph_outcome told faults_old faults_new entry steps hosts_old hosts_new out err s (Ok e) names ends t =
+    inr (record { end = e; run = ends; ended = subst (λ (h : List (List ℕ)). IsEnded h err e s) names t })
+graph_outcome told faults_old faults_new entry steps hosts_old hosts_new out err s (Err (graph_fault.Refused f)) names ends t =
+    inl (inl (failed (Refused (InGraph f)) ends.0 t (same_output ends.1)), same_hosts ends.1)
+graph_outcome told faults_old faults_new entry steps hosts_old hosts_new out err s (Err graph_fault.OutOfMemory) names ends t =
+    inl (inl (failed OutOfMemory tt t (same_output ends.1)), same_hosts ends.1)
 
 -- the same command, said otherwise
 pub asked_as : (hosts : List (List ℕ)) (a b : Asked) (told : Option (List ℕ → Option (List ℕ))) (old new : ℕ) (hosts_old hosts_new : Hosted) (out err : Written) (s : Status) → a ≡ b
@@ -400,320 +457,6 @@ pub no_name : (names : List (List ℕ)) (number : ℕ) → None ≡ slice_get na
 no_name [] number e = refl
 no_name (name ∷ names) zero e = absurd (cc)
 no_name (name ∷ names) (suc number) e = no_name names number e
-
--- a graph that passes has no fault
-one_finding : (hosts : List (List ℕ)) (file : List ℕ → Option (List ℕ)) (entry : List ℕ) (fault : Fault) → Passes (Some file) hosts entry → RefusesEntry hosts (Some file) entry fault → ⊥
-one_finding hosts file entry _ p (in_graph {refusal = r} refuses) = passes_or_refused file hosts entry r p refuses
-
--- nor has one that holds a map
-one_map : (file : Option (List ℕ)) (text : List ℕ) (fault : Fault) → HasMap file text → IsMapText text → HasNoMap file fault → ⊥
-one_map file text fault h is no_script = let e = h.found in absurd (cc)
-one_map file text fault h is (script_too_long {bytes = bytes} long) =
-    let e : length h.bytes ≡ length bytes = ap length (same_some (sym h.found)) in
-    let w = h.within in
-    absurd (omega arith)
-one_map file text fault h is (bad_map {bytes = bytes} {fault = f} short no_map) =
-    let e : h.bytes ≡ bytes = same_some (sym h.found) in
-    let held : map_text_of bytes ≡ Ok text = ap map_text_of (sym e) ∙ h.holds in
-    let P : Result (List ℕ) MapFault → Type 0 = λ r. (r >>= map_of) ≡ Err f in
-    let none : map_of text ≡ Err f = subst P held no_map in
-    let some = is.1 in
-    absurd (cc)
-
--- the faults of a graph have one status
-status_by_limit : (f : FileFault) → (f ≡ in_file.ReadFailed → ⊥) → graph_status_of f ≡ cond (is_limit f) status.Limit status.Refused
-status_by_limit in_file.Missing unless = refl
-status_by_limit in_file.ReadFailed unless = absurd (unless refl)
-status_by_limit in_file.FileTooLong unless = refl
-status_by_limit in_file.GraphTooLong unless = refl
-status_by_limit (in_file.NotUtf8 at) unless = refl
-status_by_limit (in_file.At place fault) unless = refl
-
-refusal_status : (told : Option (List ℕ → Option (List ℕ))) (hosts : List (List ℕ)) (entry : List ℕ) (r : Refusal) → Refuses told hosts entry r → status_of (InGraph r) ≡ cond (is_limit r.fault) status.Limit status.Refused
-refusal_status told hosts entry r refuses = status_by_limit r.fault (refuses_no_read told hosts entry r refuses)
-
-one_status : (hosts : List (List ℕ)) (file : List ℕ → Option (List ℕ)) (entry : List ℕ) (f g : Fault) → RefusesEntry hosts (Some file) entry f → RefusesEntry hosts (Some file) entry g → status_of f ≡ status_of g
-one_status hosts file entry _ _ (in_graph {refusal = r} x) (in_graph {refusal = q} y) =
-    refusal_status (Some file) hosts entry r x ∙ ap (λ b. cond b status.Limit status.Refused) (one_limit_refused file hosts entry r q x y) ∙ sym (refusal_status (Some file) hosts entry q y)
-
-one_map_status : (file : Option (List ℕ)) (f g : Fault) → HasNoMap file f → HasNoMap file g → status_of f ≡ status_of g
-one_map_status file f g no_script no_script = refl
-one_map_status file f g (script_too_long long) (script_too_long long2) = refl
-one_map_status file f g (script_too_long long) (bad_map short h) = absurd (omega arith)
-one_map_status file f g (bad_map short h) (script_too_long long) = absurd (omega arith)
-one_map_status file f g (bad_map short h) (bad_map short2 h2) = refl
-
-unbuilt_status : (f g : Fault) → f ≡ Unbuilt → g ≡ Unbuilt → status_of f ≡ status_of g
-unbuilt_status f g e k = ap status_of (e ∙ sym k)
-
-script_status : (file : List ℕ → Option (List ℕ)) (path : List ℕ) (f : ScriptFault) → of_script.HasFault (Some file) path f → script_status_of f ≡ cond (script_fault.is_limit f) status.Limit status.Refused
-script_status file path in_script.Missing h = refl
-script_status file path in_script.ReadFailed h = absurd h.2
-script_status file path in_script.FileTooLong h = refl
-script_status file path (in_script.NotUtf8 at) h = refl
-script_status file path (in_script.At place finding) h = refl
-
--- and so have those of a script
-one_script_status : (file : List ℕ → Option (List ℕ)) (path : List ℕ) (f g : Fault) → HasScriptFault (Some file) path f → HasScriptFault (Some file) path g → status_of f ≡ status_of g
-one_script_status file path (InScript f) (InScript g) a b =
-    script_status file path f a ∙ ap (λ b. cond b status.Limit status.Refused) (script_laws.one_status file path f g a b) ∙ sym (script_status file path g b)
-one_script_status file path (InScript f) Missing a b = absurd b
-one_script_status file path (InScript f) ReadFailed a b = absurd b
-one_script_status file path (InScript f) FileTooLong a b = absurd b
-one_script_status file path (InScript f) (InGraph g) a b = absurd b
-one_script_status file path (InScript f) (InEdits g) a b = absurd b
-one_script_status file path (InScript f) (BadMap g) a b = absurd b
-one_script_status file path (InScript f) Unbuilt a b = absurd b
-one_script_status file path Missing g a b = absurd a
-one_script_status file path ReadFailed g a b = absurd a
-one_script_status file path FileTooLong g a b = absurd a
-one_script_status file path (InGraph f) g a b = absurd a
-one_script_status file path (InEdits f) g a b = absurd a
-one_script_status file path (BadMap f) g a b = absurd a
-one_script_status file path Unbuilt g a b = absurd a
-
-edits_status : (file : List ℕ → Option (List ℕ)) (list : List ℕ) (f : EditsFault) → of_edits.HasFault (Some file) list f → edits_status_of f ≡ cond (edits_fault.is_limit f) status.Limit status.Refused
-edits_status file list in_edits.Missing h = refl
-edits_status file list in_edits.ReadFailed h = absurd h.2
-edits_status file list in_edits.FileTooLong h = refl
-edits_status file list (in_edits.NotUtf8 at) h = refl
-edits_status file list (in_edits.BadEdit line) h = refl
-edits_status file list (in_edits.MissingFile line from) h = refl
-edits_status file list (in_edits.UnreadFile path) h = absurd h.2
-
--- and those of a list of edits
-one_edits_status : (file : List ℕ → Option (List ℕ)) (list : List ℕ) (f g : Fault) → HasEditsFault (Some file) list f → HasEditsFault (Some file) list g → status_of f ≡ status_of g
-one_edits_status file list (InEdits f) (InEdits g) a b =
-    edits_status file list f a ∙ ap (λ b. cond b status.Limit status.Refused) (edits_laws.one_status file list f g a b) ∙ sym (edits_status file list g b)
-one_edits_status file list (InEdits f) Missing a b = absurd b
-one_edits_status file list (InEdits f) ReadFailed a b = absurd b
-one_edits_status file list (InEdits f) FileTooLong a b = absurd b
-one_edits_status file list (InEdits f) (InGraph g) a b = absurd b
-one_edits_status file list (InEdits f) (InScript g) a b = absurd b
-one_edits_status file list (InEdits f) (BadMap g) a b = absurd b
-one_edits_status file list (InEdits f) Unbuilt a b = absurd b
-one_edits_status file list Missing g a b = absurd a
-one_edits_status file list ReadFailed g a b = absurd a
-one_edits_status file list FileTooLong g a b = absurd a
-one_edits_status file list (InGraph f) g a b = absurd a
-one_edits_status file list (InScript f) g a b = absurd a
-one_edits_status file list (BadMap f) g a b = absurd a
-one_edits_status file list Unbuilt g a b = absurd a
-
--- edits that are read have none
-edits_alone : (file : List ℕ → Option (List ℕ)) (list : List ℕ) (steps : List Step) (f : Fault) → AreEdits (Some file) list steps → HasEditsFault (Some file) list f → ⊥
-edits_alone file list steps (InEdits f) a h = edits_laws.read_has_no_fault file list steps f a h
-edits_alone file list steps Missing a h = h
-edits_alone file list steps ReadFailed a h = h
-edits_alone file list steps FileTooLong a h = h
-edits_alone file list steps (InGraph f) a h = h
-edits_alone file list steps (InScript f) a h = h
-edits_alone file list steps (BadMap f) a h = h
-edits_alone file list steps Unbuilt a h = h
-
--- the file of a script that is run has none
-run_alone : (hosts : List (List ℕ)) (file : List ℕ → Option (List ℕ)) (path : List ℕ) (steps : ℕ) (old new : Around) (e : RunEnd) (f : Fault) → HasRun (Some file) path steps old new e → HasFault hosts (asked.run5 path steps) (Some file) f → ⊥
-run_alone hosts file path steps old new e (InScript f) r h = script_laws.run_has_no_fault file path steps old new e f r h
-run_alone hosts file path steps old new e Missing r h = h
-run_alone hosts file path steps old new e ReadFailed r h = h
-run_alone hosts file path steps old new e FileTooLong r h = h
-run_alone hosts file path steps old new e (InGraph f) r h = h
-run_alone hosts file path steps old new e (InEdits f) r h = h
-run_alone hosts file path steps old new e (BadMap f) r h = h
-run_alone hosts file path steps old new e Unbuilt r h = h
-
-same_fault : (hosts : List (List ℕ)) (a : Asked) (file : List ℕ → Option (List ℕ)) (f g : Fault) → HasFault hosts a (Some file) f → HasFault hosts a (Some file) g → status_of f ≡ status_of g
-same_fault hosts (asked.build entry) file f g = one_status hosts file entry f g
-same_fault hosts (asked.map_of path) file f g = one_map_status (file path) f g
-same_fault hosts (asked.split entry) file f g = one_status hosts file entry f g
-same_fault hosts (asked.rebuild entry list) file f g = one_edits_status file list f g
-same_fault hosts (asked.run entry steps) file f g = unbuilt_status f g
-same_fault hosts (asked.run5 path steps) file f g = one_script_status file path f g
-same_fault hosts (asked.sample n) file f g = unbuilt_status f g
-
-untaken_told : (told : Option (List ℕ → Option (List ℕ))) (list : List ℕ) (old new : ℕ) (f : EditsFault) → (CountRose old new → ⊥) → of_edits.Cause told list old new (unread_list.Refused f) → of_edits.HasFault told list f
-untaken_told told list old new in_edits.Missing calm h = h
-untaken_told told list old new in_edits.ReadFailed calm h = absurd (calm h)
-untaken_told told list old new in_edits.FileTooLong calm h = h
-untaken_told told list old new (in_edits.NotUtf8 at) calm h = h
-untaken_told told list old new (in_edits.BadEdit line) calm h = h
-untaken_told told list old new (in_edits.MissingFile line from) calm h = h
-untaken_told told list old new (in_edits.UnreadFile path) calm h = absurd (calm h.2.rose)
-
-edits_fault_told : (hosts : List (List ℕ)) (a : Asked) (told : Option (List ℕ → Option (List ℕ))) (old new : ℕ) (f : EditsFault) → (CountRose old new → ⊥) → EditsCause a told old new f → HasFault hosts a told (InEdits f)
-edits_fault_told hosts (asked.build entry) told old new f calm h = absurd h
-edits_fault_told hosts (asked.map_of path) told old new f calm h = absurd h
-edits_fault_told hosts (asked.split entry) told old new f calm h = absurd h
-edits_fault_told hosts (asked.rebuild entry list) told old new f calm (untaken h) = untaken_told told list old new f calm h
-edits_fault_told hosts (asked.rebuild entry list) told old new _ calm (unbuilt steps edits reads rose) = absurd (calm rose)
-edits_fault_told hosts (asked.run entry steps) told old new f calm h = absurd h
-edits_fault_told hosts (asked.run5 path steps) told old new f calm h = absurd h
-edits_fault_told hosts (asked.sample n) told old new f calm h = absurd h
-
-script_fault_told : (hosts : List (List ℕ)) (a : Asked) (told : Option (List ℕ → Option (List ℕ))) (old new : ℕ) (f : ScriptFault) → (CountRose old new → ⊥) → ScriptCause a told old new f → HasFault hosts a told (InScript f)
-script_fault_told hosts (asked.build entry) told old new f calm h = absurd h
-script_fault_told hosts (asked.map_of path) told old new f calm h = absurd h
-script_fault_told hosts (asked.split entry) told old new f calm h = absurd h
-script_fault_told hosts (asked.rebuild entry list) told old new f calm h = absurd h
-script_fault_told hosts (asked.run entry steps) told old new f calm h = absurd h
-script_fault_told hosts (asked.run5 path steps) told old new in_script.Missing calm h = h
-script_fault_told hosts (asked.run5 path steps) told old new in_script.ReadFailed calm h = absurd (calm h)
-script_fault_told hosts (asked.run5 path steps) told old new in_script.FileTooLong calm h = h
-script_fault_told hosts (asked.run5 path steps) told old new (in_script.NotUtf8 at) calm h = h
-script_fault_told hosts (asked.run5 path steps) told old new (in_script.At place finding) calm h = h
-script_fault_told hosts (asked.sample n) told old new f calm h = absurd h
-
--- a cause is a fault of what the files tell, if no read failed
-entry_fault_told : (hosts : List (List ℕ)) (told : Option (List ℕ → Option (List ℕ))) (entry : List ℕ) (old new : ℕ) (r : Refusal) → (CountRose old new → ⊥) → IsRefusedFor told hosts entry old new r → RefusesEntry hosts told entry (InGraph r)
-entry_fault_told hosts told entry old new _ calm (by_files x) = in_graph x
-entry_fault_told hosts told entry old new _ calm (by_reading rose next) = absurd (calm rose)
-
-graph_fault_told : (hosts : List (List ℕ)) (a : Asked) (told : Option (List ℕ → Option (List ℕ))) (old new : ℕ) (r : Refusal) → (CountRose old new → ⊥) → GraphCause hosts a told old new r → HasFault hosts a told (InGraph r)
-graph_fault_told hosts (asked.build entry) told old new r calm h = entry_fault_told hosts told entry old new r calm h
-graph_fault_told hosts (asked.map_of path) told old new r calm h = absurd h
-graph_fault_told hosts (asked.split entry) told old new r calm h = entry_fault_told hosts told entry old new r calm h
-graph_fault_told hosts (asked.rebuild entry list) told old new r calm h = absurd h
-graph_fault_told hosts (asked.run entry steps) told old new r calm h = absurd h
-graph_fault_told hosts (asked.run5 path steps) told old new r calm h = absurd h
-graph_fault_told hosts (asked.sample n) told old new r calm h = absurd h
-
-to_come : (hosts : List (List ℕ)) (a : Asked) (told : Option (List ℕ → Option (List ℕ))) → IsToCome a → HasFault hosts a told Unbuilt
-to_come hosts (asked.build entry) told h = absurd h
-to_come hosts (asked.map_of path) told h = absurd h
-to_come hosts (asked.split entry) told h = absurd h
-to_come hosts (asked.rebuild entry list) told h = absurd h
-to_come hosts (asked.run entry steps) told h = refl
-to_come hosts (asked.run5 path steps) told h = absurd h
-to_come hosts (asked.sample n) told h = refl
-
-fault_told : (hosts : List (List ℕ)) (a : Asked) (told : Option (List ℕ → Option (List ℕ))) (old new : ℕ) (fault : Fault) → (CountRose old new → ⊥) → Cause hosts a told old new fault → HasFault hosts a told fault
-fault_told hosts a told old new Missing calm h = h
-fault_told hosts a told old new ReadFailed calm h = absurd (calm h)
-fault_told hosts a told old new FileTooLong calm h = h
-fault_told hosts a told old new (InGraph r) calm h = graph_fault_told hosts a told old new r calm h
-fault_told hosts a told old new (InScript f) calm h = script_fault_told hosts a told old new f calm h
-fault_told hosts a told old new (InEdits f) calm h = edits_fault_told hosts a told old new f calm h
-fault_told hosts a told old new (BadMap fault) calm h = h
-fault_told hosts a told old new Unbuilt calm h = to_come hosts a told h
-
--- The status is the one that is due, by what the call leaves.
-module _ (c : Call) (file : List ℕ → Option (List ℕ)) (told : c.files ≡ Some file) where
-  at_file : (P : Option (List ℕ → Option (List ℕ)) → Type 0) → P c.files → P (Some file)
-  at_file P h = subst P told h
-
-  -- the fault of the one command that is asked for
-  fault_here : (a b : Asked) (fault : Fault) → command_of c.words ≡ Some a → command_of c.words ≡ Some b → HasFault c.hosts b (Some file) fault → HasFault c.hosts a (Some file) fault
-  fault_here a b fault e f h = subst (λ (z : Asked). HasFault c.hosts z (Some file) fault) (same_some (sym f ∙ e)) h
-
-  built_is_due : (entry : List ℕ) → command_of c.words ≡ Some (asked.build entry) → Passes (Some file) c.hosts entry → IsDue c file status.Done
-  built_is_due entry command here = record {
-    no_command = λ none. absurd (cc);
-    accepted = λ entry2 command2 p. refl;
-    split = λ entry2 command2 p. refl;
-    rebuilt = λ entry2 list steps command2 edits. refl;
-    mapped = λ path text command2 h is. refl;
-    refused = λ a fault command2 r. absurd (one_finding c.hosts file entry fault here (fault_here (asked.build entry) a fault command command2 r));
-  }
-
-  split_is_due : (entry : List ℕ) → command_of c.words ≡ Some (asked.split entry) → Passes (Some file) c.hosts entry → IsDue c file status.Done
-  split_is_due entry command here = record {
-    no_command = λ none. absurd (cc);
-    accepted = λ entry2 command2 p. refl;
-    split = λ entry2 command2 p. refl;
-    rebuilt = λ entry2 list steps command2 edits. refl;
-    mapped = λ path text command2 h is. refl;
-    refused = λ a fault command2 r. absurd (one_finding c.hosts file entry fault here (fault_here (asked.split entry) a fault command command2 r));
-  }
-
-  rebuilt_is_due : (entry list : List ℕ) (steps : List Step) → command_of c.words ≡ Some (asked.rebuild entry list) → AreEdits (Some file) list steps → IsDue c file status.Done
-  rebuilt_is_due entry list steps command edits = record {
-    no_command = λ none. absurd (cc);
-    accepted = λ entry2 command2 p. refl;
-    split = λ entry2 command2 p. refl;
-    rebuilt = λ entry2 list2 steps2 command2 edits2. refl;
-    mapped = λ path text command2 h is. refl;
-    refused = λ a fault command2 r. absurd (edits_alone file list steps fault edits (fault_here (asked.rebuild entry list) a fault command command2 r));
-  }
-
-  made_is_due : (bytes : List ℕ) → Makes c bytes → IsDue c file status.Done
-  made_is_due bytes (script entry m command accepted same) =
-      built_is_due entry command (at_file (λ t. Passes t c.hosts entry) accepted.passes)
-  made_is_due bytes (whole entry command g) =
-      built_is_due entry command (at_file (λ t. Passes t c.hosts entry) (passes_built g.built))
-  made_is_due bytes (scripts entry command g) =
-      split_is_due entry command (at_file (λ t. Passes t c.hosts entry) (passes_split g))
-  made_is_due bytes (rebuilt entry list command r) =
-      rebuilt_is_due entry list r.steps command (at_file (λ t. AreEdits t list r.steps) r.edits)
-  made_is_due bytes (map text path command has is) =
-      let here = at_file (λ t. OnFile t path (λ f. HasMap f text)) has in
-      record {
-        no_command = λ none. absurd (cc);
-        accepted = λ entry command2 p. refl;
-        split = λ entry command2 p. refl;
-        rebuilt = λ entry list steps command2 edits. refl;
-        mapped = λ path2 text2 command2 h is2. refl;
-        refused = λ a fault command2 r. absurd (one_map (file path) text fault here is (fault_here (asked.map_of path) a fault command command2 r));
-      }
-
-  refusal_is_due : (fault : Fault) (a : Asked) → command_of c.words ≡ Some a → HasFault c.hosts a (Some file) fault → IsDue c file (status_of fault)
-  refusal_is_due fault a command r = record {
-    no_command = λ none. absurd (cc);
-    accepted = λ entry command2 p. absurd (one_finding c.hosts file entry fault p (fault_here (asked.build entry) a fault command2 command r));
-    split = λ entry command2 p. absurd (one_finding c.hosts file entry fault p (fault_here (asked.split entry) a fault command2 command r));
-    rebuilt = λ entry list steps command2 edits. absurd (edits_alone file list steps fault edits (fault_here (asked.rebuild entry list) a fault command2 command r));
-    mapped = λ path text command2 h is. absurd (one_map (file path) text fault h is (fault_here (asked.map_of path) a fault command2 command r));
-    refused = λ b fault2 command2 r2. same_fault c.hosts a file fault fault2 r (fault_here a b fault2 command command2 r2);
-  }
-
-  line_is_due : IsCalm c → (s : Status) (bytes : List ℕ) → IsLine c s bytes → IsDue c file s
-  line_is_due calm s bytes (usage none) = record {
-    no_command = λ n. refl;
-    accepted = λ entry command p. absurd (cc);
-    split = λ entry command p. absurd (cc);
-    rebuilt = λ entry list steps command edits. absurd (cc);
-    mapped = λ path text command h is. absurd (cc);
-    refused = λ a fault command r. absurd (cc);
-  }
-  line_is_due calm s bytes (refusal {fault = fault} r) =
-      refusal_is_due fault r.asked r.command (at_file (λ t. HasFault c.hosts r.asked t fault) (fault_told c.hosts r.asked c.files c.faults_old c.faults_new fault calm.files r.cause))
-
-  answer_is_due : (s : Status) → IsCalm c → (s ≡ status.OutOfMemory → ⊥) → IsAnswered c s → IsDue c file s
-  answer_is_due status.Done calm memory o = made_is_due o.0 o.1
-  answer_is_due status.Refused calm memory o = line_is_due calm status.Refused o.line o.is_line
-  answer_is_due status.Usage calm memory o = line_is_due calm status.Usage o.line o.is_line
-  answer_is_due status.ReadFault calm memory o = line_is_due calm status.ReadFault o.line o.is_line
-  answer_is_due status.Limit calm memory o = line_is_due calm status.Limit o.line o.is_line
-  answer_is_due status.WriteFault calm memory (cut_output bytes b h e) = absurd (calm.out h.1)
-  answer_is_due status.WriteFault calm memory (cut_line s bytes l h o) = absurd (calm.err h.1)
-  answer_is_due status.OutOfMemory calm memory o = absurd (memory refl)
-  answer_is_due status.Threw calm memory o = absurd o
-  answer_is_due status.Left calm memory o = absurd o
-  answer_is_due status.StepsSpent calm memory o = absurd o
-  answer_is_due status.HostFault calm memory o = absurd o
-
-  talk_is_due : (s : Status) → HasTalked c s → IsDue c file s
-  talk_is_due s t =
-      let mine = t.command in
-      let here = at_file (λ x. HasRun x t.path t.steps (before c.hosts_old c.out) (after c.hosts_new c.out) t.end) t.run in
-      record {
-        no_command = λ none. absurd (cc);
-        accepted = λ entry command p. absurd (cc);
-        split = λ entry command p. absurd (cc);
-        rebuilt = λ entry list steps command edits. absurd (cc);
-        mapped = λ path text command h is. absurd (cc);
-        refused = λ a fault command r. absurd (run_alone c.hosts file t.path t.steps (before c.hosts_old c.out) (after c.hosts_new c.out) t.end fault here (fault_here (asked.run5 t.path t.steps) a fault mine command r));
-      }
-
-  outcome_is_due : (s : Status) → IsCalm c → (s ≡ status.OutOfMemory → ⊥) → IsOutcome c s → IsDue c file s
-  outcome_is_due s calm memory (inl o) = answer_is_due s calm memory o.0
-  outcome_is_due s calm memory (inr t) = talk_is_due s t
-
-pub comes_when_due : (c : Call) (s : Status) → IsOutcome c s → ComesWhenDue c s
-comes_when_due c s o calm memory = by_files c.files refl
-  where
-    by_files : (files : Option (List ℕ → Option (List ℕ))) → c.files ≡ files → IfSome files (λ file. IsDue c file s)
-    by_files None e = tt
-    by_files (Some file) e = outcome_is_due c file e s calm memory o
 
 -- what the edits of a list aren't read for
 pub edits_fit : (hosts : List (List ℕ)) (told : Option (List ℕ → Option (List ℕ))) (entry list : List ℕ) (old new : ℕ) (fault : UnreadList) → of_edits.Cause told list old new fault → Fits hosts (asked.rebuild entry list) told old new (edits_fault_of fault)

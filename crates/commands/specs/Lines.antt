@@ -4,7 +4,7 @@ use Rattle.std.specs.Fmt.{decimal}
 use Rattle.commands.specs.declared.status.Status.{Status}
 use Rattle.commands.specs.declared.status.Status.TheVariants as status
 use Rattle.commands.specs.declared.fault.Fault.{Fault}
-use Rattle.commands.specs.declared.fault.Fault.TheVariants.{Missing, ReadFailed, FileTooLong, InGraph, InScript, InEdits, BadMap, Unbuilt}
+use Rattle.commands.specs.declared.fault.Fault.TheVariants.{Missing, ReadFailed, FileTooLong, InGraph, InScript, InEdits, BadMap, Unlike}
 use Rattle.edit_reading.specs.Lines as edits
 use Rattle.edit_reading.specs.Lines.{is_read_fault}
 use Rattle.edit_reading.specs.declared.fault.EditsFault.{EditsFault}
@@ -52,7 +52,7 @@ line_of path (InGraph refusal) = graph.line_of refusal
 line_of path (InScript fault) = script_line path fault
 line_of path (InEdits fault) = edits.line_of path fault
 line_of path (BadMap fault) = map_fault_line path fault
-line_of path Unbuilt = path ++ (codes ": not built" ++ 10 ∷ [])
+line_of path Unlike = path ++ (codes ": events differ" ++ 10 ∷ [])
 
 abbrev pub usage_line : List ℕ
 usage_line =
@@ -79,4 +79,4 @@ status_of (InGraph refusal) = graph_status_of refusal.fault
 status_of (InScript fault) = script_status_of fault
 status_of (InEdits fault) = edits_status_of fault
 status_of (BadMap fault) = status.Refused
-status_of Unbuilt = status.Refused
+status_of Unlike = status.Refused

@@ -1,5 +1,6 @@
 -- What the parts of a command leave, from which its outcome comes.
-use Rattle.std.specs.Prelude.{◌≡◌, ℕ, ◌<◌, ◌≤◌, ◌⊎◌, List, [], Some, Result, Ok, Err, length}
+use Rattle.std.specs.Prelude.{◌≡◌, ℕ, ◌<◌, ◌≤◌, ◌⊎◌, List, [], Some, Result, Ok, Err, codes, length}
+use Rattle.es6_ast.specs.declared.graph.Graph.{Graph}
 use Rattle.first_trees.specs.declared.Module.{Module}
 use Rattle.first_forms.specs.Lexing.{tokens_of}
 use Rattle.first_forms.specs.Modules.{Spells}
@@ -17,12 +18,19 @@ use Rattle.edit_reading.specs.declared.fault.Unread.TheVariants as unread_list
 use Rattle.listed_builds.specs.declared.fault.BuildFault.{BuildFault}
 use Rattle.listed_builds.specs.declared.fault.BuildFault.TheVariants as build_fault
 use Rattle.module_loading.specs.Files.{Told}
+use Rattle.module_linker.specs.graph_checks.Checks.{Refuses}
+use Rattle.module_linker.specs.graph_checks.Runs.{HasRunGraph}
+use Rattle.pipeline.specs.Compiled.{IsCompiled}
 use Rattle.graph_refusals.specs.declared.fault.GraphFault.{GraphFault}
 use Rattle.graph_refusals.specs.declared.fault.GraphFault.TheVariants as graph_fault
 use Rattle.graph_refusals.specs.declared.fault.FileFault.{FileFault}
 use Rattle.graph_refusals.specs.declared.fault.FileFault.TheVariants as in_file
 use Rattle.program_runs.specs.Around.{Hosted}
 use Rattle.program_runs.specs.declared.end.RunEnd.{RunEnd}
+use Rattle.sample_runs.specs.Comparing.{IsCompared}
+use Rattle.sample_runs.specs.Telling.{sample_line}
+use Rattle.sample_runs.specs.declared.comparison.Comparison.{Comparison}
+use Rattle.sample_runs.specs.declared.comparison.Comparison.TheVariants.{Left, Same, Spent, Threw, Unlike, Unread as NoScript}
 use Rattle.script_runs.specs.Runs.{HasRun}
 use Rattle.script_runs.specs.declared.unread.Unread.{Unread}
 use Rattle.script_runs.specs.declared.unread.Unread.TheVariants as unread
@@ -30,10 +38,12 @@ use Rattle.commands.specs.declared.status.Status.{Status}
 use Rattle.commands.specs.declared.status.Status.TheVariants as status
 use Rattle.commands.specs.declared.fault.Fault.{Fault}
 use Rattle.commands.specs.declared.fault.Fault.TheVariants.{InGraph, InScript, InEdits, BadMap}
+use Rattle.commands.specs.declared.fault.Fault.TheVariants as fault
 use Rattle.commands.specs.declared.fault.CommandFault.{CommandFault}
 use Rattle.commands.specs.declared.fault.CommandFault.TheVariants.{Refused, OutOfMemory}
+use Rattle.commands.specs.declared.sample.Sampled.{Sampled}
 use Rattle.commands.specs.Lines.{line_of, status_of, usage_line}
-use Rattle.commands.specs.Outcome.{max_module_bytes, max_script_bytes, IsAccepted, IsGraphScript, IsRebuilt, IsSplitGraph, IsNoForm, HasMap, HasNoMap, IsMapText, map_line, OnFile, Cause, subject, Written, HasAdded, HasFailed, IsEnded, IsSaid, after, before}
+use Rattle.commands.specs.Outcome.{max_module_bytes, max_script_bytes, IsAccepted, IsGraphScript, IsRebuilt, IsSampled, IsSplitGraph, IsNoForm, HasMap, HasNoMap, IsMapText, map_line, OnFile, Cause, subject, Written, HasAdded, IsEnded, IsSaid, after, before, print_alone, sample_entry, sample_told}
 
 abbrev pub map_fault_of : MapFault → CommandFault
 map_fault_of map_fault.OutOfMemory = OutOfMemory
@@ -135,17 +145,73 @@ IsToldOf path hosts err (Ok e) s = IsEnded hosts err e s
 IsToldOf path hosts err (Err (unread.Refused fault)) s = IsSaid err (line_of path (InScript fault)) (status_of (InScript fault)) s
 IsToldOf path hosts err (Err unread.OutOfMemory) s = (s ≡ status.OutOfMemory) × HasAdded err []
 
--- what is left of a script that was run
-pub record IsTalk (hosts : List (List ℕ)) (told : Told) (path : List ℕ) (steps : ℕ) (hosts_old hosts_new : Hosted) (out err : Written) (s : Status) : Type 0 where
+-- what is told of a graph: how its run ended, or in a line why it wasn't run
+abbrev pub IsToldOfGraph : List ℕ → List (List ℕ) → Written → Result RunEnd GraphFault → Status → Type 0
+IsToldOfGraph path hosts err (Ok e) s = IsEnded hosts err e s
+IsToldOfGraph path hosts err (Err (graph_fault.Refused refusal)) s = IsSaid err (line_of path (InGraph refusal)) (status_of (InGraph refusal)) s
+IsToldOfGraph path hosts err (Err graph_fault.OutOfMemory) s = (s ≡ status.OutOfMemory) × HasAdded err []
+
+-- what is left of a program that was run so
+pub record IsTalk (hosts : List (List ℕ)) (ran : RunEnd → Type 0) (err : Written) (s : Status) : Type 0 where
   pub end : RunEnd
-  pub run : HasRun told path steps (before hosts_old out) (after hosts_new out) end
+  pub run : ran end
   pub ended : IsEnded hosts err end s
 
 abbrev pub TalksBy : List (List ℕ) → Asked → Told → Hosted → Hosted → Written → Written → Status → Type 0
-TalksBy hosts (asked.run5 path steps) told hosts_old hosts_new out err s = IsTalk hosts told path steps hosts_old hosts_new out err s
+TalksBy hosts (asked.run entry steps) told hosts_old hosts_new out err s = IsTalk hosts (HasRunGraph hosts told entry steps (before hosts_old out) (after hosts_new out)) err s
+TalksBy hosts (asked.run5 path steps) told hosts_old hosts_new out err s = IsTalk hosts (HasRun told path steps (before hosts_old out) (after hosts_new out)) err s
 TalksBy hosts _ told hosts_old hosts_new out err s = ⊥
+
+-- what comes of a linked graph and the script that it is compiled to
+pub record IsComparedGraph (linked : Graph) (hosts : List (List ℕ)) (comparison : Comparison) : Type 0 where
+  pub script : List ℕ
+  pub compiled : IsCompiled linked hosts script
+  pub compared : IsCompared linked hosts script comparison
+
+-- what comes of the sample graph, with its line
+pub record IsSampledWith (count : ℕ) (sampled : Sampled) : Type 0 where
+  pub is_sampled : IsSampled count sampled.comparison
+  pub line_is : sampled.line.items ≡ sample_line count sampled.comparison
+
+-- or what it is refused for
+abbrev pub FitsSample : ℕ → CommandFault → Type 0
+FitsSample count (Refused (InGraph refusal)) = Refuses (sample_told count) print_alone sample_entry refusal
+FitsSample count (Refused _) = ⊥
+FitsSample count OutOfMemory = Unit {0}
+
+abbrev pub sample_word : List ℕ
+sample_word = codes "sample"
+
+-- a line was written to the output
+abbrev pub IsPut : Written → Written → List ℕ → Status → Status → Type 0
+IsPut out err line wanted s = IsSaid out line wanted s × HasAdded err []
+
+-- a fault was written to the error stream
+abbrev pub IsBlamed : Written → Written → Fault → Status → Type 0
+IsBlamed out err fault s = IsSaid err (line_of sample_word fault) (status_of fault) s × HasAdded out []
+
+-- what is told of both runs
+abbrev pub IsToldOfBoth : Comparison → List ℕ → Written → Written → Status → Type 0
+IsToldOfBoth (Same events) line out err s = IsPut out err line status.Done s
+IsToldOfBoth (Threw seen) line out err s = IsPut out err line status.Threw s
+IsToldOfBoth (Left exit path place) line out err s = IsPut out err line status.Left s
+IsToldOfBoth Spent line out err s = IsPut out err line status.StepsSpent s
+IsToldOfBoth Unlike line out err s = IsBlamed out err fault.Unlike s
+IsToldOfBoth (NoScript f) line out err s = IsBlamed out err (InScript f) s
+
+abbrev pub IsSampleTold : Sampled → Written → Written → Status → Type 0
+IsSampleTold sampled out err s = IsToldOfBoth sampled.comparison sampled.line.items out err s
+
+-- What the sample with so many modules beside its entry leaves: what is told of both runs, or why there are none.
+pub data IsSampleOutcome (count : ℕ) (out err : Written) : Status → Type 0 where
+  both_ran : {s : Status} (sampled : Sampled) → IsSampledWith count sampled → IsSampleTold sampled out err s → IsSampleOutcome count out err s
+  none_ran : {s : Status} (fault : CommandFault) → FitsSample count fault → IsFailOutcome sample_word fault err s → HasAdded out [] → IsSampleOutcome count out err s
+
+abbrev pub SamplesBy : Asked → Written → Written → Status → Type 0
+SamplesBy (asked.sample count) out err s = IsSampleOutcome count out err s
+SamplesBy _ out err s = ⊥
 
 -- What a command leaves: it asked no host, or it ran a program.
 abbrev pub IsCommandOutcome : List (List ℕ) → Asked → Told → ℕ → ℕ → Hosted → Hosted → Written → Written → Status → Type 0
 IsCommandOutcome hosts a told old new hosts_old hosts_new out err s =
-    (IsAnswer hosts a told old new out err s × (hosts_new ≡ hosts_old)) ⊎ TalksBy hosts a told hosts_old hosts_new out err s
+    ((IsAnswer hosts a told old new out err s ⊎ SamplesBy a out err s) × (hosts_new ≡ hosts_old)) ⊎ TalksBy hosts a told hosts_old hosts_new out err s

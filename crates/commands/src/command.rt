@@ -4,7 +4,7 @@ ghost use Rattle.std.specs.Prelude.{◌≡◌, ◌≤◌, MatchResult};
 ghost use Rattle.es_outside.specs.HostList.{entries, names};
 ghost use Rattle.program_runs.specs.Around.{hosted};
 ghost use Rattle.command_words.specs.Words.{asked_of};
-ghost use Rattle.commands.specs.Outcome.{IsSaid, RunsNone, written_of, subject};
+ghost use Rattle.commands.specs.Outcome.{IsSaid, IsWithin, MakesText, RunsNone, written_of, subject};
 ghost use Rattle.commands.specs.Parts.{IsAnswer, IsCommandOutcome, IsMisuseOutcome, IsFailOutcome, MadeBy, Fits};
 ghost use Rattle.commands.specs.Lines.{line_of, status_of};
 
@@ -12,7 +12,9 @@ use crate::build::build;
 use crate::fault::{CommandFault, Fault};
 use crate::map::map_of;
 use crate::rebuilding::rebuild;
+use crate::run::run;
 use crate::run5::run5;
+use crate::sample::sample;
 use crate::split::split;
 use crate::status::Status;
 use command_words::{Command, WordsFault};
@@ -43,6 +45,7 @@ pub fn do_command<F: Files, S: Sink, E: Sink>(
     out: &mut S,
     err: &mut E,
 ) -> (Status, Hosts)
+    requires within { IsWithin (asked_of command.now) }
     ensures outcome { let o = written_of S.bytes S.faults out.old out.new in
         let e = written_of E.bytes E.faults err.old err.new in
         IsCommandOutcome (names hosts) (asked_of command.now) (F.files files.old) (F.faults files.old) (F.faults files.new)
@@ -54,9 +57,13 @@ pub fn do_command<F: Files, S: Sink, E: Sink>(
     ensures unasked { RunsNone (asked_of command.now) → entries result.1 ≡ entries hosts }
 {
     match command {
+        Command::Run { entry, steps } => {
+            run(alloc, entry.as_str(), *steps, files, hosts, out, err)
+        }
         Command::Run5 { script, steps } => {
             run5(alloc, script.as_str(), *steps, files, hosts, out, err)
         }
+        Command::Sample { n } => (sample(alloc, *n, out, err), hosts),
         _ => {
             let status = answer(alloc, command, files, &hosts, out, err);
             (status, hosts)
@@ -64,7 +71,7 @@ pub fn do_command<F: Files, S: Sink, E: Sink>(
     }
 }
 
-/// Does a command that runs no program: writes what it makes, or the line of its fault.
+/// Does a command that makes a text of files: writes it, or the line of its fault.
 fn answer<F: Files, S: Sink, E: Sink>(
     alloc: Global,
     command: &Command,
@@ -73,7 +80,7 @@ fn answer<F: Files, S: Sink, E: Sink>(
     out: &mut S,
     err: &mut E,
 ) -> Status
-    requires { RunsNone (asked_of command.now) }
+    requires { MakesText (asked_of command.now) }
     ensures outcome { let o = written_of S.bytes S.faults out.old out.new in
         let e = written_of E.bytes E.faults err.old err.new in
         IsAnswer (names hosts.now) (asked_of command.now) (F.files files.old) (F.faults files.old) (F.faults files.new) o e result }
@@ -94,7 +101,7 @@ fn made<F: Files>(
     files: &mut F,
     hosts: &Hosts,
 ) -> Result<Vec<u8>, CommandFault>
-    requires { RunsNone (asked_of command.now) }
+    requires { MakesText (asked_of command.now) }
     ensures made { let asked = asked_of command.now in
         MatchResult result (λ text. MadeBy (names hosts.now) asked (F.files files.old) text.items)
         (Fits (names hosts.now) asked (F.files files.old) (F.faults files.old) (F.faults files.new)) }
@@ -108,11 +115,11 @@ fn made<F: Files>(
             rebuild(alloc, entry.as_str(), list.as_str(), files, hosts)
         }
         Command::Map { script } => map_of(alloc, script.as_str(), files),
-        _ => Err(CommandFault::Refused(Fault::Unbuilt)),
+        Command::Run { .. } | Command::Run5 { .. } | Command::Sample { .. } => unreachable!(),
     }
 }
 
-/// What the lines of a command speak of: its file, or a command that isn't built yet.
+/// What the lines of a command speak of: its file, or the script of the sample.
 fn subject(command: &Command) -> &str
     ensures { result.now ≡ subject (asked_of command.now) }
 {
@@ -120,14 +127,19 @@ fn subject(command: &Command) -> &str
         Command::Build { entry } | Command::Split { entry } => entry.as_str(),
         Command::Map { script } => script.as_str(),
         Command::Rebuild { list, .. } => list.as_str(),
-        Command::Run { .. } => "run",
+        Command::Run { entry, .. } => entry.as_str(),
         Command::Run5 { script, .. } => script.as_str(),
         Command::Sample { .. } => "sample",
     }
 }
 
 /// Writes the line of a command's fault, if it has one.
-fn fail<E: Sink>(alloc: Global, subject: &str, fault: CommandFault, err: &mut E) -> Status
+pub(crate) fn fail<E: Sink>(
+    alloc: Global,
+    subject: &str,
+    fault: CommandFault,
+    err: &mut E,
+) -> Status
     ensures outcome { IsFailOutcome subject.now fault (written_of E.bytes E.faults err.old err.new) result }
     ensures no_fall { E.faults err.old ≤ E.faults err.new }
 {

@@ -28,8 +28,8 @@ pub enum Fault {
     InEdits(EditsFault),
     /// The script holds no map.
     BadMap(MapFault),
-    /// The command isn't built yet.
-    Unbuilt,
+    /// A graph and its script had other events.
+    Unlike,
 }
 
 /// Why a command makes no text.
@@ -93,7 +93,7 @@ impl Fault {
         ensures { result ≡ status_of self.now }
     {
         match self {
-            Fault::Missing | Fault::BadMap(_) | Fault::Unbuilt => Status::Refused,
+            Fault::Missing | Fault::BadMap(_) | Fault::Unlike => Status::Refused,
             Fault::ReadFailed => Status::ReadFault,
             Fault::FileTooLong => Status::Limit,
             Fault::InGraph(refusal) => graph_status(&refusal.fault),
@@ -114,7 +114,7 @@ impl Fault {
             Fault::InScript(fault) => script_line(alloc, path, fault),
             Fault::InEdits(fault) => edits_line(alloc, path, fault),
             Fault::BadMap(fault) => line_about_map(alloc, path, fault),
-            Fault::Unbuilt => line_about_file(alloc, path, ": not built\n"),
+            Fault::Unlike => line_about_file(alloc, path, ": events differ\n"),
         }
     }
 }

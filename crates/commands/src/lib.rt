@@ -3,10 +3,13 @@
 
 mod build;
 mod command;
+mod ending;
 mod fault;
 mod map;
 mod rebuilding;
+mod run;
 mod run5;
+mod sample;
 mod split;
 mod status;
 mod top;

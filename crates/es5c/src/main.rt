@@ -1,5 +1,6 @@
 //! The program `es5c`: `es5c build ENTRY` writes the ES5 script of a graph of modules to the standard output, `es5c split ENTRY` a script for
-//! each module of that graph, and `es5c map SCRIPT` the text of the map that a script holds; `es5c run5 SCRIPT` runs a script.
+//! each module of that graph, `es5c rebuild ENTRY LIST` what the builds among edits write, and `es5c map SCRIPT` the text of the map that a
+//! script holds. `es5c run ENTRY` runs the graph, `es5c run5 SCRIPT` a script, and `es5c sample N` the sample graph beside its script.
 #![tactic(auto)]
 
 use commands::{Status, es5c};

@@ -1,4 +1,4 @@
-use Rattle.std.proofs.Common.{◌≡◌, Err, List, MatchResult, Result, Vec, ℕ, refl, sym, ap, ◌∙◌, subst, map}
+use Rattle.std.proofs.Common.{Err, List, MatchResult, Result, Vec, ℕ, refl, sym, ap, ◌∙◌, subst, map}
 use Rattle.std.specs.Global.{Global}
 use Rattle.std.proofs.lemmas.Result.{err_from_is_err_and}
 use Rattle.es_outside.specs.HostList.{names}
@@ -8,7 +8,7 @@ use Rattle.listed_builds.specs.declared.taken.Taken.{Taken}
 use Rattle.listed_builds.specs.Doing.{step_of}
 use Rattle.commands.specs.declared.fault.CommandFault.{CommandFault}
 use Rattle.commands.specs.Outcome.{IsRebuilt}
-use Rattle.commands.specs.Parts.{Fits, edits_fault_of}
+use Rattle.commands.specs.Parts.{Fits}
 use Rattle.commands.proofs.Outcomes.{builds_fit, edits_fit}
 use Rattle.commands.proofs.rebuilding.rebuild.Goals as goal
 

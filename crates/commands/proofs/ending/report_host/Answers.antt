@@ -1,8 +1,8 @@
-use Rattle.std.proofs.Common.{◌≡◌, ◌∙◌, subst}
+use Rattle.std.proofs.Common.{◌∙◌, subst}
 use Rattle.commands.specs.Outcome.{IsSaid, unsaid, written_of}
 use Rattle.commands.specs.declared.status.Status.TheVariants.{HostFault}
 use Rattle.commands.proofs.Outcomes.{adds_nothing}
-use Rattle.commands.proofs.run5.report_host.Goals as goal
+use Rattle.commands.proofs.ending.report_host.Goals as goal
 
 pub returns-in-Ok-clause-said : goal.returns-in-Ok-clause-said
 returns-in-Ok-clause-said g c =
