@@ -50,7 +50,7 @@ const [split, ...names] = begun('$ ./es5c split').split('\n');
 hold('the scripts of `split`', names.join('\n'), run(split.slice(2)));
 
 // each command line and what stands below it
-for (const block of blocks.filter((text) => text.startsWith('$ printf'))) {
+for (const block of blocks.filter((text) => /^\$ (printf|\.\/es5c sample) /.test(text))) {
   for (const [, line, expected] of block.matchAll(/^\$ (.*)\n((?:(?!\$ ).*\n)*)/gm)) hold(line, expected, run(line));
 }
 console.log(`readme: ${played} answers of the page's examples, ${failed} differ`);

@@ -157,9 +157,8 @@ for (const wrong of [[], ['build'], ['build', ''], ['build', '/'], ['build', 'a/
   compare('words: ' + JSON.stringify(wrong), { 'main.js': '' }, wrong, 2, usage);
 }
 for (const words of [['build', './a/..//main.js'], ['build', '--', 'main.js']]) compare(`words: ${words.join(' ')}`, { 'main.js': '' }, words, 0, '', '"use strict";\n');
-for (const words of [['run', 'main.js', '--steps', '7'], ['sample', '1000']]) {
-  compare(`words: ${words.join(' ')}`, { 'main.js': '' }, words, 1, `${words[0]}: not built`);
-}
+compare('words: run', { 'main.js': '' }, ['run', 'main.js', '--steps', '7'], 0, '', 'ended\n');
+compare('words: sample', {}, ['sample', '0001'], 0, '', 'sample 1: modules 2, events 2, same\n');
 compare('words: rebuild', { 'main.js': '' }, ['rebuild', 'main.js', 'a/../list.txt'], 1, 'list.txt: missing');
 
 // 7. What is written: scripts of the first forms, worked by hand from their rules, and the text of a map.

@@ -1,6 +1,6 @@
 // Programs and what comes of them, written by hand from the rules of docs/PROFILE.md and docs/BUILTINS.md. Each row has a name, the files (a text alone is
 // main.js, behind a first line that imports print), the words (`build main.js` otherwise), and either
-// - `lines`: what the script's run shows, each event and the ending; `leaves`: these are only the first ones, since the run leaves the profile then; or
+// - `lines`: what the script's run shows, each event and the ending; `leaves`: these are only the first ones, since the run leaves the profile then, and this is the last line of the modules' run; or
 // - `refused`: the line on the error stream, with `status`, 1 otherwise; or
 // - `out`: what is written.
 // `answers` are the hosts'; `map` the sources of the script's map; `at` the module in which all events' calls stand; `most` the most bytes of the script;
@@ -14,7 +14,7 @@ const spaces = (count) => ' '.repeat(count);
 const programs = [
   { name: 'no byte', files: { 'main.js': '' }, lines: ['ended'], map: ['main.js'], unmapped: first },
   { name: 'a sum', text: 'print(1+2);', lines: ['print(3)', 'ended'], unmapped: first },
-  { name: 'the greatest number', text: 'print(9007199254740990+1);\nprint(9007199254740991+1);', lines: ['print(9007199254740991)'], leaves: true, unmapped: first },
+  { name: 'the greatest number', text: 'print(9007199254740990+1);\nprint(9007199254740991+1);', lines: ['print(9007199254740991)'], leaves: 'left X1 at main.js:3:7', unmapped: first },
   { name: 'a closure of each turn', text: 'let fs = []; for (let i = 0; i < 3; i++) fs.push(() => i); fs.forEach(f => print(f()));', lines: ['print(0)', 'print(1)', 'print(2)', 'ended'] },
   { name: 'a closure of the first copy', text: 'for (let i = 0, g = () => i; i < 2; i++) print(g());', lines: ['print(0)', 'print(0)', 'ended'] },
   {
@@ -123,7 +123,7 @@ const programs = [
   { name: 'a head that reads its own name', text: 'for (const x of [x]) ;', lines: ['threw ReferenceError'] },
   { name: 'a hundred arrows', text: `let f = ${'() => '.repeat(100)}1;\nfor (let i = 0; i < 100; i++) f = f(); print(f);`, lines: ['print(1)', 'ended'], without: { mujs: 'reads no functions that are so deep in one another' } },
   { name: 'powers', text: 'print(2 ** 3 ** 2, (-2) ** 3, 1 ** -4, 3 ** 33);', lines: ['print(512, -8, 1, 5559060566555523)', 'ended'] },
-  { name: 'a power that is too great', text: 'print(2 ** 53);', lines: [], leaves: true },
+  { name: 'a power that is too great', text: 'print(2 ** 53);', lines: [], leaves: 'left X1 at main.js:2:7' },
   { name: 'includes', text: 'print([1, 2].includes(2), [1, 2].includes(1, -1), [undefined].includes());', lines: ['print(true, false, true)', 'ended'] },
   { name: 'a static member is inherited and covered', text: 'class A { static m() { return 1; } } class B extends A {} print(B.m()); B.m = 2; print(B.m, A.m());', lines: ['print(1)', 'print(2, 1)', 'ended'] },
   { name: 'a static accessor with its receiver', text: 'class A { static get k() { return this.n; } } class B extends A {} class C extends B {} C.n = 3; print(C.k);', lines: ['print(3)', 'ended'] },
